@@ -5,8 +5,8 @@ use Rattle.lrp_model.specs.Formulas.{Form, Forms, form_of, forms_of, negation, n
 use Rattle.lrp_model.specs.Core.{positive, negative, positives, conjuncts, disjuncts, and_list}
 use Rattle.lrp_model.specs.declared.formulas.Formula.{Formula, And as all_formulas, Or as some_formula}
 use Rattle.lrp_model.proofs.Views.{forms_of-append, and_form, or_form}
-use Rattle.lrp_core.specs.Junctions.{elements, all_elements, joined_by}
-use Rattle.lrp_core.specs.Polarities.{signed, formed, all_formed, choice}
+use Rattle.lrp_core.specs.Junctions.{elements, all_elements, joined_elements}
+use Rattle.lrp_core.specs.Polarities.{with_polarity, formed, all_formed, choice}
 use Rattle.lrp_core.specs.declared.junctions.Junction.{Junction}
 use Rattle.lrp_core.specs.declared.junctions.Junction.TheVariants.{And, Or}
 use Rattle.lrp_core.specs.declared.polarities.Polarity.{Polarity}
@@ -14,12 +14,12 @@ use Rattle.lrp_core.specs.declared.polarities.Polarity.TheVariants.{Positive, Ne
 use Rattle.lrp_core.proofs.CoreViews.{joined_none}
 
 -- of an `and`
-pub formed-And : (p : Polarity) (f : Formula) (v : Vec Formula Global) (named : Bool) (all : Form) → f ≡ all_formulas v → all ≡ and_list (positives (forms_of v.items) named) → signed p all ≡ formed p (form_of f) named
+pub formed-And : (p : Polarity) (f : Formula) (v : Vec Formula Global) (named : Bool) (all : Form) → f ≡ all_formulas v → all ≡ and_list (positives (forms_of v.items) named) → with_polarity p all ≡ formed p (form_of f) named
 formed-And Positive f v named all is whole = whole ∙ ap (λ g. positive g named) (and_form f v v.items is refl)
 formed-And Negative f v named all is whole = ap negation whole ∙ ap (λ g. negative g named) (and_form f v v.items is refl)
 
 -- of an `or`
-pub formed-Or : (p : Polarity) (f : Formula) (v : Vec Formula Global) (named : Bool) → f ≡ some_formula v → joined_by (choice p) (all_formed p (forms_of v.items) named) ≡ formed p (form_of f) named
+pub formed-Or : (p : Polarity) (f : Formula) (v : Vec Formula Global) (named : Bool) → f ≡ some_formula v → joined_elements (choice p) (all_formed p (forms_of v.items) named) ≡ formed p (form_of f) named
 formed-Or Positive f v named is = ap (λ g. positive g named) (or_form f v v.items is refl)
 formed-Or Negative f v named is = ap (λ g. negative g named) (or_form f v v.items is refl)
 

@@ -20,9 +20,9 @@ all_elements And fs = all_conjuncts fs
 all_elements Or fs = all_disjuncts fs
 
 -- the forms, joined by their elements
-abbrev pub joined_by : Junction → Forms → Form
-joined_by junction fs = junction_of junction (all_elements junction fs)
+abbrev pub joined_elements : Junction → Forms → Form
+joined_elements junction fs = junction_of junction (all_elements junction fs)
 
 -- two of them
 abbrev pub two_of : Junction → Form → Form → Form
-two_of junction f g = joined_by junction (form f (form g no_forms))
+two_of junction f g = joined_elements junction (form f (form g no_forms))

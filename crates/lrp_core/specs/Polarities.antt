@@ -14,9 +14,9 @@ opposite Positive = Negative
 opposite Negative = Positive
 
 -- a form as it stands, or its negation
-abbrev pub signed : Polarity → Form → Form
-signed Positive f = f
-signed Negative f = negation f
+abbrev pub with_polarity : Polarity → Form → Form
+with_polarity Positive f = f
+with_polarity Negative f = negation f
 
 -- the core form of a formula, or of its negation
 abbrev pub formed : Polarity → Form → Bool → Form

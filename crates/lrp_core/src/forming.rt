@@ -3,7 +3,7 @@ ghost use Rattle.std.specs.Prelude.{◌≡◌, IfOk, OnOk};
 ghost use Rattle.lrp_model.specs.Formulas.{form_of, forms_of, question_of, atom, exists, sorted as sorted_form, joined, form, no_forms};
 ghost use Rattle.lrp_model.specs.Core.{core_form as core_form_of, with_sort, column_elements, head_elements as elements_of, and_list};
 ghost use Rattle.lrp_core.specs.Cores.{core_of, cores_of};
-ghost use Rattle.lrp_core.specs.Junctions.{all_elements, elements, joined_by};
+ghost use Rattle.lrp_core.specs.Junctions.{all_elements, elements, joined_elements};
 ghost use Rattle.lrp_core.specs.Polarities.{all_formed as all_formed_of, formed as formed_of, opposite};
 
 use crate::Core;
@@ -169,7 +169,7 @@ fn all_formed<'a>(
     junction: Junction,
     fs: &'a [Formula],
 ) -> Result<Core<'a>, Memory>
-    ensures { IfOk result (λ core. core_of core ≡ joined_by junction
+    ensures { IfOk result (λ core. core_of core ≡ joined_elements junction
         (all_formed_of forming.polarity (forms_of fs.now) forming.named)) }
 {
     let mut of = Vec::with_capacity(alloc, fs.len())?;

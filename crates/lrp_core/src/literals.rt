@@ -13,6 +13,13 @@ use lrp_model::{
 };
 use std::alloc::Global;
 
+// Where memory comes from, and the database in which the columns of relations are looked up.
+#[derive(Clone, Copy)]
+struct Lookup<'a> {
+    alloc: Global,
+    database: &'a Database,
+}
+
 /// The data texts of a query's body in order, each with its sort: that of its column, or of the variable that it is equal to.
 pub fn query_texts(
     alloc: Global,
@@ -24,60 +31,55 @@ pub fn query_texts(
 {
     let mut binders = query.head.columns.copy(alloc)?.into_vec();
     let mut all = Vec::new(alloc);
-    add_formula(alloc, database, &query.body, &mut binders, &mut all)?;
+    let lookup = Lookup { alloc, database };
+    add_formula(lookup, &query.body, &mut binders, &mut all)?;
     Ok(all)
 }
 
 // Those of a formula; the innermost binder is the first.
 #[cycle(literals)]
 fn add_formula(
-    alloc: Global,
-    database: &Database,
+    lookup: Lookup<'_>,
     f: &Formula,
     binders: &mut Vec<Column>,
     all: &mut Vec<(Sort, DataText)>,
 ) -> Result<(), Memory>
-    ensures { OnOk result (AddsTexts (form_texts (form_of f.now) database.now binders.old.items)
-        binders.old.items binders.new.items all.old.items all.new.items) }
+    ensures { OnOk result (AddsTexts (form_texts (form_of f.now) lookup.entry.database.now
+        binders.old.items) binders.old.items binders.new.items all.old.items all.new.items) }
 {
     match f {
-        Formula::Atom { relation, terms } => add_atom(
-            alloc,
-            database,
-            relation,
-            terms.as_slice(),
-            all,
-        ),
-        Formula::Check { test } => add_test(alloc, test, binders.as_slice(), all),
-        Formula::Not { of } => add_formula(alloc, database, of, binders, all),
-        Formula::And { of } => add_formulas(alloc, database, of, binders, all),
-        Formula::Or { of } => add_formulas(alloc, database, of, binders, all),
+        Formula::Atom { relation, terms } => add_atom(lookup, relation, terms.as_slice(), all),
+        Formula::Check { test } => add_test(lookup.alloc, test, binders.as_slice(), all),
+        Formula::Not { of } => add_formula(lookup, of, binders, all),
+        Formula::And { of } => add_formulas(lookup, of, binders, all),
+        Formula::Or { of } => add_formulas(lookup, of, binders, all),
         Formula::Implies { left, right } => {
-            add_formula(alloc, database, left, binders, all)?;
-            add_formula(alloc, database, right, binders, all)
+            add_formula(lookup, left, binders, all)?;
+            add_formula(lookup, right, binders, all)
         }
-        Formula::Exists { name, sort, of } => add_bound(
-            alloc, database, name, sort, of, binders, all,
-        ),
-        Formula::Forall { name, sort, of } => add_bound(
-            alloc, database, name, sort, of, binders, all,
-        ),
+        Formula::Exists { name, sort, of } => {
+            let binder = binder_of(lookup.alloc, name, sort)?;
+            add_bound(lookup, binder, of, binders, all)
+        }
+        Formula::Forall { name, sort, of } => {
+            let binder = binder_of(lookup.alloc, name, sort)?;
+            add_bound(lookup, binder, of, binders, all)
+        }
     }
 }
 
 #[cycle(literals)]
 fn add_formulas(
-    alloc: Global,
-    database: &Database,
+    lookup: Lookup<'_>,
     fs: &[Formula],
     binders: &mut Vec<Column>,
     all: &mut Vec<(Sort, DataText)>,
 ) -> Result<(), Memory>
-    ensures { OnOk result (AddsTexts (forms_texts (forms_of fs.now) database.now binders.old.items)
-        binders.old.items binders.new.items all.old.items all.new.items) }
+    ensures { OnOk result (AddsTexts (forms_texts (forms_of fs.now) lookup.entry.database.now
+        binders.old.items) binders.old.items binders.new.items all.old.items all.new.items) }
 {
     for f in fs {
-        add_formula(alloc, database, f, binders, all)?;
+        add_formula(lookup, f, binders, all)?;
     }
     Ok(())
 }
@@ -85,41 +87,46 @@ fn add_formulas(
 // Those of a quantifier's formula.
 #[cycle(literals)]
 fn add_bound(
-    alloc: Global,
-    database: &Database,
-    name: &Name,
-    sort: &Sort,
+    lookup: Lookup<'_>,
+    binder: Column,
     of: &Formula,
     binders: &mut Vec<Column>,
     all: &mut Vec<(Sort, DataText)>,
 ) -> Result<(), Memory>
-    ensures { OnOk result (AddsTexts (form_texts (form_of of.now) database.now
-        (record { name = name.now; sort = sort.now } ∷ binders.old.items)) binders.old.items
+    ensures { OnOk result (AddsTexts (form_texts (form_of of.now) lookup.entry.database.now
+        (binder ∷ binders.old.items)) binders.old.items
         binders.new.items all.old.items all.new.items) }
 {
-    let name = name.copy(alloc)?;
-    let sort = sort.copy(alloc)?;
-    binders.insert(0, Column { name, sort })?;
-    add_formula(alloc, database, of, binders, all)?;
+    binders.insert(0, binder)?;
+    add_formula(lookup, of, binders, all)?;
     remove_first(binders);
     Ok(())
 }
 
+// A variable with its sort, as a quantifier binds it.
+fn binder_of(alloc: Global, name: &Name, sort: &Sort) -> Result<Column, Memory>
+    ensures { IfOk result (λ binder. binder ≡ record { name = name.now; sort = sort.now }) }
+{
+    let name = name.copy(alloc)?;
+    let sort = sort.copy(alloc)?;
+    Ok(Column { name, sort })
+}
+
 fn add_atom(
-    alloc: Global,
-    database: &Database,
+    lookup: Lookup<'_>,
     relation: &Name,
     terms: &[Term],
     all: &mut Vec<(Sort, DataText)>,
 ) -> Result<(), Memory>
     ensures { OnOk result (all.new.items ≡ all.old.items
-        ++ term_texts (columns_in (relation_named database.now relation.now)) terms.now) }
+        ++ term_texts (columns_in (relation_named lookup.entry.database.now relation.now))
+        terms.now) }
 {
     if !has_text(terms) {
         return Ok(());
     }
-    match database.relation(relation) {
-        Some(found) => add_terms(alloc, found.columns.as_slice(), terms, all),
+    match lookup.database.relation(relation) {
+        Some(found) => add_terms(lookup.alloc, found.columns.as_slice(), terms, all),
         None => Ok(()),
     }
 }

@@ -1,7 +1,7 @@
 // Whether a formula is formed, or its negation.
 ghost use Rattle.std.specs.Prelude.{◌≡◌, IfOk};
 ghost use Rattle.lrp_core.specs.Cores.{core_of};
-ghost use Rattle.lrp_core.specs.Polarities.{choice as choice_of, formed_test, opposite as opposite_of, signed as signed_of};
+ghost use Rattle.lrp_core.specs.Polarities.{choice as choice_of, formed_test, opposite as opposite_of, with_polarity as signed_of};
 
 use crate::Core;
 use crate::comparisons::{negated, negative_test, positive_test};

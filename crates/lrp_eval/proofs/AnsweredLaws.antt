@@ -31,9 +31,9 @@ use Rattle.lrp_store.specs.Tables.{AreNumbered, InAnswer}
 use Rattle.lrp_tables.specs.declared.table.Table.{Table}
 use Rattle.lrp_answers.specs.declared.answer.Answer.{Answer}
 use Rattle.lrp_tables.specs.Columns.{with_time_name, text_name, head_times, head_texts}
-use Rattle.lrp_minus.specs.Settling.{IsSettlement, IsSmallZone}
-use Rattle.lrp_minus.specs.Differences.{greatest_reach}
-use Rattle.lrp_minus.proofs.Lists.{greatest_below}
+use Rattle.lrp_cutting.specs.Settling.{IsSettlement, IsSmallZone}
+use Rattle.lrp_cutting.specs.Differences.{greatest_reach}
+use Rattle.lrp_cutting.proofs.Lists.{greatest_below}
 use Rattle.lrp_plan_laws.specs.Rising.{period_at}
 use Rattle.lrp_plan_laws.proofs.Elements.{step_made}
 use Rattle.lrp_plan_laws.proofs.SettledLaws.{sound}

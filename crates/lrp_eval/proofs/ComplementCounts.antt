@@ -25,7 +25,7 @@ use Rattle.lrp_tables.specs.Tables.{Has, HasTexts, IsMinus, IsComplement, IsTabl
 use Rattle.lrp_tables.proofs.CellsNamed.{mapped_at}
 use Rattle.lrp_tables.proofs.Joining.{found_in, name_in, not_found_in}
 use Rattle.lrp_tables.proofs.Numbers.{all_variables, number_of, number_is, number_low}
-use Rattle.lrp_minus.proofs.Lists.{got_in}
+use Rattle.lrp_cutting.proofs.Lists.{got_in}
 use Rattle.lrp_tables.proofs.Mapped.{Known, many_known, many_map}
 use Rattle.lrp_eval.specs.Together.{HasComplement, IsSmallComplement, ways_at, ways_for}
 use Rattle.lrp_eval.specs.declared.together.Sides.{Sides}

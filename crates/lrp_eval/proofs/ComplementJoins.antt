@@ -21,7 +21,7 @@ use Rattle.lrp_tables.specs.Tables.{IsJoined, IsMinus, IsTableOf}
 use Rattle.lrp_tables.proofs.DropCounts.{of_others}
 use Rattle.lrp_tables.proofs.Joining.{name_in}
 use Rattle.lrp_algebra.specs.Tables.{IsTimeDropped}
-use Rattle.lrp_eval.specs.Together.{CanNarrow, IsSmallComplement, IsNarrow, IsNarrowed}
+use Rattle.lrp_eval.specs.Together.{CanNarrow, IsSmallComplement, IsUnbroken, IsUnbrokenTable}
 use Rattle.lrp_eval.specs.declared.together.Sides.{Sides}
 use Rattle.lrp_eval.proofs.ComplementCounts.{no_names, no_texts}
 use Rattle.lrp_eval.proofs.Named.{in_joint}
@@ -179,7 +179,7 @@ module _ {domain : List Text} {of : Sides} {name : Identifier} {period : ℤ} (c
           right_none : of.right.now.vars.texts ≡ []
           right_none = no_names of.right.now.vars.texts (λ v c. contains_none v (subst (λ vs. Contains vs v) l.plain (can.columns.texts v c)))
 
-          to : (env : Assignment) → IsMinus domain from_table taken env → IsNarrow domain of name env
+          to : (env : Assignment) → IsMinus domain from_table taken env → IsUnbroken domain of name env
           to env h = record {
             has = h.has;
             none = λ c. h.none (t.from domain env c.0 (r.whole (with_value name (time c.0) env) (record {
@@ -193,7 +193,7 @@ module _ {domain : List Text} {of : Sides} {name : Identifier} {period : ℤ} (c
             })));
           }
 
-          from : (env : Assignment) → IsNarrow domain of name env → IsMinus domain from_table taken env
+          from : (env : Assignment) → IsUnbroken domain of name env → IsMinus domain from_table taken env
           from env h = record {
             has = h.has;
             none = λ c.
@@ -206,12 +206,12 @@ module _ {domain : List Text} {of : Sides} {name : Identifier} {period : ℤ} (c
           pub taken_minus : CanMinus period from_table taken
           taken_minus = record { low = can.low; high = twice can; left_period = can.from_period; right_period = taken_period; left_reach = from_reach; right_reach = taken_reach; columns = taken_columns }
 
-          pub narrowed_complement : (result : Result Table StepFault) → IsMinusResult cap period from_table taken result → IfOk result (IsNarrowed domain of name period cap)
+          pub narrowed_complement : (result : Result Table StepFault) → IsMinusResult cap period from_table taken result → IfOk result (IsUnbrokenTable domain of name period cap)
           narrowed_complement (Ok made) is =
               let step = is.step domain can.ascends can.from_numbered in
               let m = step.table in
               record {
                 is = record { times_are = m.times_are; texts_are = m.texts_are; period_is = m.period_is; sound = λ env h. to env (m.sound env h); whole = λ env h. m.whole env (from env h); numbered = m.numbered };
-                few = λ many. step.few (more_of cap domain (nat_abs period) from_table.vars.times from_table.vars.texts (IsNarrow domain of name) (IsMinus domain from_table taken) from many);
+                few = λ many. step.few (more_of cap domain (nat_abs period) from_table.vars.times from_table.vars.texts (IsUnbroken domain of name) (IsMinus domain from_table taken) from many);
               }
           narrowed_complement (Err fault) is = tt

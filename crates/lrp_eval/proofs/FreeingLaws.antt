@@ -4,8 +4,8 @@ use Rattle.std.specs.Prelude.{Contains}
 use Rattle.lrp_model.specs.declared.plans.Step.{Step}
 use Rattle.lrp_plan_laws.specs.Made.{operands}
 use Rattle.lrp_tables.specs.declared.table.Table.{Table}
-use Rattle.lrp_minus.proofs.Lists.{below_or}
-use Rattle.lrp_eval.specs.Freeing.{AreLeft, AreNoted, IsDone, IsNoted}
+use Rattle.lrp_cutting.proofs.Lists.{below_or}
+use Rattle.lrp_eval.specs.Freeing.{AreLeftOrFreed, AreNoted, IsDone, IsNoted}
 
 pub none_noted : (steps : List Step) (readers : List ℕ) → AreNoted steps 0 readers
 none_noted steps readers j s r step lt at reads noted = absurd (omega arith)
@@ -48,10 +48,10 @@ pub more_noted : (steps : List Step) (i first second : ℕ) (step : Step) (old m
 more_noted steps i first second step old mid new inside at operands_in before one two =
     noted_more steps i first second step old mid new (got_at steps i step inside at) (subst (λ (k : Step). (l : ℕ) → Contains (operands k.kind) l → Contains (first ∷ second ∷ []) l) (sym at) operands_in) before one two
 
-pub left_same : (readers : List ℕ) (tables : List Table) → AreLeft readers tables tables
+pub left_same : (readers : List ℕ) (tables : List Table) → AreLeftOrFreed readers tables tables
 left_same readers tables = record { count = refl; each = λ i. inl refl }
 
-pub left_twice : (readers : List ℕ) (old mid new : List Table) → AreLeft readers old mid → AreLeft readers mid new → AreLeft readers old new
+pub left_twice : (readers : List ℕ) (old mid new : List Table) → AreLeftOrFreed readers old mid → AreLeftOrFreed readers mid new → AreLeftOrFreed readers old new
 left_twice readers old mid new a b = record {
   count = b.count ∙ a.count;
   each = λ i. ⊎_elim (λ e. ⊎_elim (λ f. inl (e ∙ f)) (λ d. inr d) (a.each i)) (λ d. inr (subst (λ n. IsDone readers n i) a.count d)) (b.each i);
@@ -75,7 +75,7 @@ noted_at [] i d lt = absurd (omega arith)
 noted_at (r ∷ readers) zero d lt = refl
 noted_at (r ∷ readers) (suc i) d lt = noted_at readers i d (omega arith)
 
-pub left_done : (readers : List ℕ) (tables : List Table) (of d : ℕ) (t : Table) → 0 < of → of < length tables → of ≤ length readers → slice_index_or readers (of - 1) d ≤ length tables → AreLeft readers tables (slice_set tables (of - 1) t)
+pub left_done : (readers : List ℕ) (tables : List Table) (of d : ℕ) (t : Table) → 0 < of → of < length tables → of ≤ length readers → slice_index_or readers (of - 1) d ≤ length tables → AreLeftOrFreed readers tables (slice_set tables (of - 1) t)
 left_done readers tables of d t some low known run = record {
   count = set_count tables (of - 1) t;
   each = λ i. ⊎_elim (λ e. inl e)

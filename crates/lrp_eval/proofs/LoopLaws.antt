@@ -21,9 +21,9 @@ use Rattle.lrp_eval.specs.declared.evaluation.EvalFault.{EvalFault}
 use Rattle.lrp_eval.specs.declared.evaluation.EvalFault.TheVariants.{TooManyCells, Memory}
 use Rattle.lrp_eval.specs.Planned.{IsPlanOf, IsEvalCause}
 use Rattle.lrp_plan_laws.specs.Made.{operands}
-use Rattle.lrp_eval.specs.Freeing.{AreLastReaders, AreLeft, IsDone}
+use Rattle.lrp_eval.specs.Freeing.{AreLastReaders, AreLeftOrFreed, IsDone}
 use Rattle.lrp_eval.specs.Running.{IsStepTable, IsReadBehind, AreRun, IsNext, IsLastRun}
-use Rattle.lrp_minus.proofs.Lists.{below_or}
+use Rattle.lrp_cutting.proofs.Lists.{below_or}
 use Rattle.lrp_eval.specs.Together.{AreRunTogether, IsNarrowing, IsNarrowingNext, IsNarrowingRun, IsProjection, IsProjectionNext, IsProjectionRun}
 use Rattle.lrp_eval.specs.declared.projecting.Projection.{Projection}
 use Rattle.lrp_eval.specs.declared.together.Narrowing.{Narrowing}
@@ -130,7 +130,7 @@ module _ (db : List Relation) (q : Question) (cap : ℕ) where
           omega arith
 
   -- tables that no later step reads are not looked at again
-  pub left_run : (p : Plan) (readers : List ℕ) (tables new : List Table) → IsPlanOf db q p → AreLastReaders p.steps readers → AreRun db q cap tables → AreLeft readers tables new → AreRun db q cap new
+  pub left_run : (p : Plan) (readers : List ℕ) (tables new : List Table) → IsPlanOf db q p → AreLastReaders p.steps readers → AreRun db q cap tables → AreLeftOrFreed readers tables new → AreRun db q cap new
   left_run p readers tables new h noted run left =
       let old : (i : ℕ) (table : Table) → slice_get new i ≡ Some table → (IsDone readers (length tables) i → ⊥) → slice_get tables i ≡ Some table = λ i table e keeps. ⊎_elim (λ same. sym same ∙ e) (λ d. absurd (keeps d)) (left.each i) in
       record {

@@ -21,7 +21,7 @@ use Rattle.lrp_tables.specs.Steps.{CanJoin, CanMinus, IsJoinResult, IsMinusResul
 use Rattle.lrp_tables.specs.Tables.{Has, IsJoined, IsMinus, IsTableOf}
 use Rattle.lrp_tables.proofs.DropCounts.{of_others}
 use Rattle.lrp_algebra.specs.Tables.{IsTimeDropped}
-use Rattle.lrp_eval.specs.Together.{CanNarrow, IsNarrow, IsNarrowed}
+use Rattle.lrp_eval.specs.Together.{CanNarrow, IsUnbroken, IsUnbrokenTable}
 use Rattle.lrp_eval.specs.declared.together.Sides.{Sides}
 use Rattle.lrp_eval.proofs.Named.{in_joint}
 use Rattle.lrp_eval.proofs.ShownLaws.{more_of}
@@ -35,8 +35,8 @@ word_is z low high = omega (arith, ints)
 pub worded : (domain : List Text) (of : Sides) (name : Identifier) (period : ℤ) → CanNarrow domain of name period → CanNarrow domain of name (to_z w64 (of_z w64 period))
 worded domain of name period can = subst (CanNarrow domain of name) (sym (word_is period can.low can.high)) can
 
-pub unworded : (domain : List Text) (of : Sides) (name : Identifier) (period : ℤ) (cap : ℕ) (made : Table) → CanNarrow domain of name period → IsNarrowed domain of name (to_z w64 (of_z w64 period)) cap made → IsNarrowed domain of name period cap made
-unworded domain of name period cap made can is = subst (λ p. IsNarrowed domain of name p cap made) (word_is period can.low can.high) is
+pub unworded : (domain : List Text) (of : Sides) (name : Identifier) (period : ℤ) (cap : ℕ) (made : Table) → CanNarrow domain of name period → IsUnbrokenTable domain of name (to_z w64 (of_z w64 period)) cap made → IsUnbrokenTable domain of name period cap made
+unworded domain of name period cap made can is = subst (λ p. IsUnbrokenTable domain of name p cap made) (word_is period can.low can.high) is
 
 -- ---- another value for a variable that is none of the names
 
@@ -147,7 +147,7 @@ module _ {domain : List Text} {of : Sides} {name : Identifier} {period : ℤ} (c
           texts = λ v c. ⊎_elim (λ a. a) (λ b. can.texts v b) ((in_joint from_table.vars.texts left_table.vars.texts v).0 (subst (λ vs. Contains vs v) (t.texts ∙ rest_is.texts_are ∙ p.texts_are) c));
         }
 
-        to : (env : Assignment) → IsMinus domain from_table taken env → IsNarrow domain of name env
+        to : (env : Assignment) → IsMinus domain from_table taken env → IsUnbroken domain of name env
         to env h = record {
           has = h.has;
           none = λ c. h.none (t.from domain env c.0 (rest_is.whole (with_value name (time c.0) env) (record {
@@ -156,7 +156,7 @@ module _ {domain : List Text} {of : Sides} {name : Identifier} {period : ℤ} (c
           })));
         }
 
-        from : (env : Assignment) → IsNarrow domain of name env → IsMinus domain from_table taken env
+        from : (env : Assignment) → IsUnbroken domain of name env → IsMinus domain from_table taken env
         from env h = record {
           has = h.has;
           none = λ c.
@@ -168,12 +168,12 @@ module _ {domain : List Text} {of : Sides} {name : Identifier} {period : ℤ} (c
         pub taken_minus : CanMinus period from_table taken
         taken_minus = record { low = can.low; high = twice; left_period = can.from_period; right_period = taken_period; left_reach = from_small; right_reach = taken_reach; columns = taken_columns }
 
-        pub narrowed : (result : Result Table StepFault) → IsMinusResult cap period from_table taken result → IfOk result (IsNarrowed domain of name period cap)
+        pub narrowed : (result : Result Table StepFault) → IsMinusResult cap period from_table taken result → IfOk result (IsUnbrokenTable domain of name period cap)
         narrowed (Ok made) is =
             let step = is.step domain can.ascends can.from_numbered in
             let m = step.table in
             record {
               is = record { times_are = m.times_are; texts_are = m.texts_are; period_is = m.period_is; sound = λ env h. to env (m.sound env h); whole = λ env h. m.whole env (from env h); numbered = m.numbered };
-              few = λ many. step.few (more_of cap domain (nat_abs period) from_table.vars.times from_table.vars.texts (IsNarrow domain of name) (IsMinus domain from_table taken) from many);
+              few = λ many. step.few (more_of cap domain (nat_abs period) from_table.vars.times from_table.vars.texts (IsUnbroken domain of name) (IsMinus domain from_table taken) from many);
             }
         narrowed (Err fault) is = tt

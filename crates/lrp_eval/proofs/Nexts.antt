@@ -11,7 +11,7 @@ use Rattle.lrp_model.specs.Satisfaction.{Assignment, Satisfies, structure}
 use Rattle.lrp_model.specs.Domains.{constants, all_texts}
 use Rattle.lrp_model.specs.Cells.{Differ, Many}
 use Rattle.lrp_model.specs.Caps.{ManyAt, step_variables, variables_with}
-use Rattle.lrp_model.specs.Reach.{reach_of}
+use Rattle.lrp_model.specs.Reach.{step_reach}
 use Rattle.lrp_model.specs.Steps.{PlanStep, step_at, formula_at, reach_at}
 use Rattle.lrp_model.specs.Plans.{plan, core_steps, query_reach}
 use Rattle.lrp_model.specs.Sorts.{time_count}
@@ -33,7 +33,7 @@ use Rattle.lrp_plan_laws.specs.Settled.{IsSoundPlan, IsSoundStep}
 use Rattle.lrp_plan_laws.proofs.SettledLaws.{sound}
 use Rattle.lrp_plan_laws.proofs.Elements.{found, length_made, within as inside}
 use Rattle.lrp_plan_laws.proofs.NarrowLaws.{no_other_head}
-use Rattle.lrp_eval.specs.Running.{HasConstants, SameVariables, variables_of, variables_at, IsStepTable, IsOperand, IsNext, IsNumbered, IsRunResult}
+use Rattle.lrp_eval.specs.Running.{HasConstants, SameVariables, variables_of, variables_at, IsStepTable, IsOperand, IsNext, HasHeadColumns, IsRunResult}
 use Rattle.lrp_eval.proofs.Denotes.{Set, Denotes}
 use Rattle.lrp_eval.proofs.Counted.{many_at}
 
@@ -96,8 +96,8 @@ module _ {db : List Relation} {q : Question} {cap : ℕ} {domain : List Text} {t
   pub variables_kind : HasVariables (formula_at (plan db q)) kind
   variables_kind = of_kind (λ k. HasVariables (formula_at (plan db q)) k) made.variables
 
-  pub reach_kind : n.step.reach ≡ reach_of db (reach_at (plan db q)) n.step.period kind
-  reach_kind = of_kind (λ k. n.step.reach ≡ reach_of db (reach_at (plan db q)) n.step.period k) made.reach
+  pub reach_kind : n.step.reach ≡ step_reach db (reach_at (plan db q)) n.step.period kind
+  reach_kind = of_kind (λ k. n.step.reach ≡ step_reach db (reach_at (plan db q)) n.step.period k) made.reach
 
   pub keeps_kind : KeepsPeriod (period_at (plan db q)) n.step.period kind
   keeps_kind = of_kind (λ k. KeepsPeriod (period_at (plan db q)) n.step.period k) rises.keeps
@@ -200,7 +200,7 @@ module _ {db : List Relation} {q : Question} {cap : ℕ} {domain : List Text} {t
     too_many h = cap_of.0 h
 
     -- a table of the set is the step's table
-    pub run : (t : Table) → IsTableOf domain times texts K set t → HasReach t.store n.step.reach → (InhabitsMoreThan cap domain K times texts set → ⊥) → IsNumbered db q (suc (length tables)) t → IsStepTable db q cap (suc (length tables)) t
+    pub run : (t : Table) → IsTableOf domain times texts K set t → HasReach t.store n.step.reach → (InhabitsMoreThan cap domain K times texts set → ⊥) → HasHeadColumns db q (suc (length tables)) t → IsStepTable db q cap (suc (length tables)) t
     run t is reach few order =
         let d : IsTableOf (constants db q) times texts K set t = subst (λ c. IsTableOf c times texts K set t) n.domain_is is in
         let vs : variables_of t ≡ named_variables times texts = ap₂ named_variables d.times_are d.texts_are in
@@ -217,13 +217,13 @@ module _ {db : List Relation} {q : Question} {cap : ℕ} {domain : List Text} {t
         }
 
     -- what a step makes of the set is what running it makes
-    pub ran : (has : ℕ → Type 0) (most : ℕ → ℕ) (high : ℕ) → has high → most high ≡ n.step.reach → ((t : Table) → IsTableOf domain times texts K set t → IsNumbered db q (suc (length tables)) t)
+    pub ran : (has : ℕ → Type 0) (most : ℕ → ℕ) (high : ℕ) → has high → most high ≡ n.step.reach → ((t : Table) → IsTableOf domain times texts K set t → HasHeadColumns db q (suc (length tables)) t)
         → (result : Result Table StepFault) → IsStepResult cap domain times texts K set has most result → IsRunResult db q cap (suc (length tables)) result
     ran has most high h e order (Ok t) is = record { table = run t is.table (subst (λ r. HasReach t.store r) e (is.reach high h)) is.few (order t is.table); many = λ x. too_many (is.many x) }
     ran has most high h e order (Err fault) is = record { table = tt; many = λ x. too_many (is.many x) }
 
   -- no order is asked of a step other than `head`
-  pub no_order : ((of : ℕ) → kind ≡ Extend of → ⊥) → (t : Table) → IsNumbered db q (suc (length tables)) t
+  pub no_order : ((of : ℕ) → kind ≡ Extend of → ⊥) → (t : Table) → HasHeadColumns db q (suc (length tables)) t
   no_order other t step of at e =
       let same : n.step ≡ step = cc (n.at, at) in
       absurd (other of (n.kind_is ∙ ap (λ s. s.kind) same ∙ e))

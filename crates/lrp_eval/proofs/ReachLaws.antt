@@ -9,7 +9,7 @@ use Rattle.lrp_model.specs.declared.tuples.Cell.{Cell}
 use Rattle.lrp_model.proofs.Decided.{cons_cases, contains_none}
 use Rattle.lrp_zone.specs.Zones.{ZoneView, magnitude_of, greatest_of, reach_of}
 use Rattle.lrp_store.specs.Stores.{StoreView, HasReach, tables_at, zone_of, zones_at}
-use Rattle.lrp_minus.proofs.Lists.{below_or}
+use Rattle.lrp_cutting.proofs.Lists.{below_or}
 use Rattle.lrp_eval.specs.Together.{HasReachIn}
 use Rattle.lrp_store.proofs.ZoneCounts.{key_is}
 use Rattle.lrp_eval.proofs.SettleLaws.{zone_in}

@@ -33,7 +33,7 @@ use Rattle.lrp_tables.specs.Columns.{scan_times, scan_texts}
 use Rattle.lrp_tables.specs.Steps.{CanScan, IsScanResult}
 use Rattle.lrp_tables.specs.Tables.{IsScanned, named_variables}
 use Rattle.lrp_model.specs.Kept.{IsKept, IsRowOf, IsBoundOf, AreValuesOf}
-use Rattle.lrp_plan_laws.specs.Atoms.{IsKnownScan, texts_among}
+use Rattle.lrp_plan_laws.specs.Atoms.{IsKnownScan, texts_of_terms}
 use Rattle.lrp_plan_laws.specs.Scopes.{IsNarrow}
 use Rattle.lrp_eval.specs.Running.{IsNext, IsRunResult, text_row, text_column}
 use Rattle.lrp_eval.proofs.Denotes.{Denotes, scan_keeps, sort_keeps}
@@ -77,7 +77,7 @@ suits (c ∷ cs) [] h = absurd h
 suits (c ∷ cs) (time_term t ∷ ts) h = (h.0, suits cs ts h.1)
 suits (c ∷ cs) (data_term t ∷ ts) h = (h.0, suits cs ts h.1)
 
-has_texts : (domain : List Text) (ts : List Term) → AllByRecursion (Contains domain) (texts_among ts) → AllByRecursion (HasText domain) ts
+has_texts : (domain : List Text) (ts : List Term) → AllByRecursion (Contains domain) (texts_of_terms ts) → AllByRecursion (HasText domain) ts
 has_texts domain [] h = tt
 has_texts domain (time_term t ∷ ts) h = (tt, has_texts domain ts h)
 has_texts domain (data_term (data_var v) ∷ ts) h = (tt, has_texts domain ts h)

@@ -10,11 +10,10 @@ use Rattle.lrp_zone.specs.Pairs.{IsOfCell}
 use Rattle.lrp_slots.specs.Lists.{cell_cmp, list_at}
 use Rattle.lrp_store.specs.Stores.{StoreView, IsStore, IsCellOf, zone_of, tables_at, zones_at}
 use Rattle.lrp_store.proofs.Held.{cell_or, cell_held}
-use Rattle.lrp_minus.specs.Differences.{AreOfCell}
-use Rattle.lrp_minus.specs.Settling.{IsSettlement}
-use Rattle.lrp_minus.specs.Absences.{IsLike}
-use Rattle.lrp_minus.specs.Settling.{AddsZones, SettlesCell}
-use Rattle.lrp_minus.proofs.Lists.{some_in}
+use Rattle.lrp_cutting.specs.Differences.{AreOfCell}
+use Rattle.lrp_cutting.specs.Settling.{IsLike, IsSettlement}
+use Rattle.lrp_cutting.specs.Settling.{AddsZones, SettlesCell}
+use Rattle.lrp_cutting.proofs.Lists.{some_in}
 use Rattle.lrp_store.proofs.ZoneCounts.{first_differs, key_is, key_zone, keys_differ, rest_differ}
 use Rattle.lrp_eval.specs.Settling.{IsSettledStore}
 

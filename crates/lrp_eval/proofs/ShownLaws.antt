@@ -27,7 +27,7 @@ use Rattle.lrp_plan_laws.specs.Made.{AreAmong, IsFormula, HasVariables, head_ste
 use Rattle.lrp_plan_laws.specs.Rising.{KeepsPeriod, period_at}
 use Rattle.lrp_plan_laws.specs.Settled.{IsSoundPlan, IsSoundStep}
 use Rattle.lrp_eval.specs.Running.{HasConstants, SameVariables, variables_of, variables_at, IsStepTable}
-use Rattle.lrp_dropping.specs.Without.{IsCompleted}
+use Rattle.lrp_dropping.specs.Without.{IsTimeCompleted}
 use Rattle.lrp_eval.proofs.Counted.{constants_of, many_at}
 use Rattle.lrp_tables.proofs.Mapped.{many_map}
 use Rattle.lrp_eval.proofs.Denotes.{Denotes, Set, constants_time, same_others, same_more}
@@ -111,14 +111,14 @@ module _ (db : List Relation) (q : Question) (cap : ℕ) where
   module _ (sound_plan : IsSoundPlan db q) where
     -- a time variable is dropped
     pub drop_shown : (s : ℕ) (step : PlanStep) (name : Identifier) → step_at (plan db q) (suc s) ≡ Some step → step.kind ≡ DropTime s name → (times texts : List Identifier) (set : Set) → IsShown db q cap s times texts set
-        → IsShown db q cap (suc s) (other_names name times) texts (IsCompleted name set)
+        → IsShown db q cap (suc s) (other_names name times) texts (IsTimeCompleted name set)
     drop_shown s step name at kind times texts set h = record {
       variables = subst (λ f. SameVariables (named_variables (other_names name times) texts) (free f)) (sym formula)
           (same_others (time_variable name) (named_variables times texts) (free (formula_at (plan db q) s)) (named_variables (other_names name times) texts) h.variables (time_dropped name times texts));
       to = λ env k x. subst (λ f. Satisfies f (structure db q) env) (sym formula) (λ none. none (time x.0) (tt, h.to (with_value name (time x.0) env) (known env k x.0) x.1));
       from = λ env k x n. (subst (λ f. Satisfies f (structure db q) env) formula x) (each env k n);
       few = λ m. h.few (subst (λ p. InhabitsMoreThan cap (constants db q) p times texts set) period
-          (drop_time_counts (constants db q) (period_at (plan db q) (suc s)) low times texts name (IsCompleted name set) set (λ env x. x) cap m));
+          (drop_time_counts (constants db q) (period_at (plan db q) (suc s)) low times texts name (IsTimeCompleted name set) set (λ env x. x) cap m));
     }
       where
         is : IsSoundStep db q (suc s) step
@@ -136,7 +136,7 @@ module _ (db : List Relation) (q : Question) (cap : ℕ) where
         known : (env : Assignment) → HasConstants (constants db q) (named_variables (other_names name times) texts) env → (x : ℤ) → HasConstants (constants db q) (named_variables times texts) (with_value name (time x) env)
         known env k x = constants_time (constants db q) (named_variables times texts) env name x (λ w c. k w ((time_dropped name times texts (data_variable w)).1 c))
 
-        each : (env : Assignment) → HasConstants (constants db q) (named_variables (other_names name times) texts) env → (IsCompleted name set env → ⊥) → (d : Datum)
+        each : (env : Assignment) → HasConstants (constants db q) (named_variables (other_names name times) texts) env → (IsTimeCompleted name set env → ⊥) → (d : Datum)
             → IsOfSort (structure db q) Time d × Satisfies (formula_at (plan db q) s) (structure db q) (with_value name d env) → ⊥
         each env k n (time x) y = h.from (with_value name (time x) env) (known env k x) y.1 (λ z. n (x, z))
         each env k n (text t) y = absurd y.0

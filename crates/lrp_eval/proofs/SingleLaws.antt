@@ -8,11 +8,11 @@ use Rattle.lrp_zone.specs.Pairs.{IsOfCell}
 use Rattle.lrp_store.specs.Settled.{AreSettled}
 use Rattle.lrp_store.specs.Stores.{StoreView, IsStore, zone_of, tables_at, zones_at}
 use Rattle.lrp_store.proofs.Held.{zone_held}
-use Rattle.lrp_minus.specs.Intervals.{IsFarBelow}
-use Rattle.lrp_minus.specs.Settling.{IsSettlement}
-use Rattle.lrp_minus.proofs.IntervalLaws.{intervals}
-use Rattle.lrp_minus.proofs.Lists.{in_one, one_in, pairs_one}
-use Rattle.lrp_minus.proofs.SettlingLaws.{one_settled, settled_alone, settled_none}
+use Rattle.lrp_cutting.specs.Intervals.{IsFarBelow}
+use Rattle.lrp_cutting.specs.Settling.{IsSettlement}
+use Rattle.lrp_cutting.proofs.IntervalLaws.{intervals}
+use Rattle.lrp_cutting.proofs.Lists.{in_one, one_in, pairs_one}
+use Rattle.lrp_cutting.proofs.SettlingLaws.{one_settled, settled_alone, settled_none}
 use Rattle.lrp_eval.specs.Settling.{HasSingleZones, IsSettledStore}
 use Rattle.lrp_eval.proofs.SettleLaws.{table_of}
 

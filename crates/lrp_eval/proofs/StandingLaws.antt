@@ -5,8 +5,8 @@ use Rattle.lrp_model.specs.declared.tuples.Cell.{Cell}
 use Rattle.lrp_model.proofs.Decided.{cons_cases, contains_none}
 use Rattle.lrp_zone.specs.Zones.{ZoneView, columns_of, reach_of}
 use Rattle.lrp_store.specs.Stores.{StoreView, IsStore, tables_at, zones_at}
-use Rattle.lrp_minus.specs.Settling.{IsSettlement}
-use Rattle.lrp_minus.proofs.SettledLaws.{zone_on_line}
+use Rattle.lrp_cutting.specs.Settling.{IsSettlement}
+use Rattle.lrp_cutting.proofs.SettledLaws.{zone_on_line}
 use Rattle.lrp_eval.specs.Settling.{CanSettle, IsSettledStore}
 use Rattle.lrp_store.proofs.ZoneCounts.{key_is}
 use Rattle.lrp_eval.proofs.SettleLaws.{table_of}

@@ -15,7 +15,7 @@ use Rattle.lrp_store.specs.Stores.{zones_at}
 use Rattle.lrp_store.specs.Settled.{AreSettled}
 use Rattle.lrp_store.specs.Tables.{InAnswer}
 use Rattle.lrp_answers.specs.declared.answer.Answer.{Answer}
-use Rattle.lrp_minus.specs.Settling.{IsSmallZone}
+use Rattle.lrp_cutting.specs.Settling.{IsSmallZone}
 use Rattle.lrp_plan_laws.specs.Rising.{period_at}
 use Rattle.lrp_eval.specs.Counts.{HasCells}
 

@@ -24,6 +24,6 @@ pub record IsDone (readers : List ℕ) (count i : ℕ) : Type 0 where
   pub run : reader ≤ count
 
 -- as many tables, each as it was, or done
-pub record AreLeft (readers : List ℕ) (old new : List Table) : Type 0 where
+pub record AreLeftOrFreed (readers : List ℕ) (old new : List Table) : Type 0 where
   pub count : length new ≡ length old
   pub each : (i : ℕ) → (slice_get new i ≡ slice_get old i) ⊎ IsDone readers (length old) i

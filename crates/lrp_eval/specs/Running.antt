@@ -47,8 +47,8 @@ abbrev pub variables_at : List Relation → Question → ℕ → List Variable
 variables_at db q s = unwrap_or (option_map (step_variables q.head) (step_at (plan db q) s)) []
 
 -- at the step `head` the columns are the head's, in its order
-abbrev pub IsNumbered : List Relation → Question → ℕ → Table → Type 0
-IsNumbered db q s table =
+abbrev pub HasHeadColumns : List Relation → Question → ℕ → Table → Type 0
+HasHeadColumns db q s table =
     (step : PlanStep) (of : ℕ) → step_at (plan db q) s ≡ Some step → step.kind ≡ Extend of → (table.vars.times ≡ head_times q.head) × (table.vars.texts ≡ head_texts q.head)
 
 -- the table has just the assignments that satisfy the formula of step s, over its variables; it has the step's period, and no more than its reach and cap cells
@@ -59,7 +59,7 @@ pub record IsStepTable (db : List Relation) (q : Question) (cap s : ℕ) (table 
   pub period : table.store.period ≡ period_at (plan db q) s
   pub reach : HasReach table.store (reach_at (plan db q) s)
   pub few : ManyAt db q cap s → ⊥
-  pub order : IsNumbered db q s table
+  pub order : HasHeadColumns db q s table
 
 -- the table of a step by its number, from 1
 pub record IsOperand (tables : List Table) (number : ℕ) (table : Table) : Type 0 where

@@ -3,7 +3,7 @@ use Rattle.std.specs.Prelude.{◌≡◌, ◌+◌, ◌*◌, ◌≤◌, ◌^◌, [
 use Rattle.lrp_model.specs.declared.tuples.Cell.{Cell}
 use Rattle.lrp_zone.specs.Zones.{ZoneView, columns_of, reach_of}
 use Rattle.lrp_store.specs.Stores.{StoreView, IsStore, tables_at, zones_at}
-use Rattle.lrp_minus.specs.Settling.{IsSettlement}
+use Rattle.lrp_cutting.specs.Settling.{IsSettlement}
 
 -- each zone has room for the bounds of a settlement
 abbrev pub CanSettle : StoreView → Type 0

@@ -26,7 +26,6 @@ pub fn answer(
     ensures fault { IfErr result (λ fault. IsEvalCause database.now plan.now cap fault) }
 {
     let table = run_steps(alloc, plan, database, cap)?;
-    table.store.shape();
     let store = settled(alloc, table.store)?;
     let head = plan.head.copy(alloc)?;
     let domain = plan.domain.copy(alloc)?;

@@ -3,8 +3,8 @@ ghost use Rattle.std.specs.Prelude.{◌≡◌, ◌*◌, ◌≤◌, ◌<◌, IfSo
 ghost use Rattle.lrp_theory.specs.Divides.{Divides};
 ghost use Rattle.lrp_theory.specs.Entries.{AtMost};
 ghost use Rattle.lrp_zone.specs.Zones.{reach_of};
-ghost use Rattle.lrp_store.specs.Stores.{HasReach};
-ghost use Rattle.lrp_eval.specs.Together.{HasFewCells, HasReachIn};
+ghost use Rattle.lrp_store.specs.Stores.{HasReach, IsStore};
+ghost use Rattle.lrp_eval.specs.Together.{TableHasFewCells, HasReachIn};
 
 use lrp_model::Cell;
 use lrp_store::Store;
@@ -17,7 +17,7 @@ use lrp_zone::Zone;
 pub(crate) fn cells_at_most(table: &Table, period: u64, cap: u32) -> Option<u32>
     requires low { 0 < period }
     requires multiple { Divides (pos table.now.store.period) (pos period) }
-    ensures { IfSome result (λ _. HasFewCells cap period table.now) }
+    ensures { IfSome result (λ _. TableHasFewCells cap period table.now) }
 {
     let shape = table.store.shape();
     let ways = ways_of(&table.store, period);
@@ -33,12 +33,12 @@ pub(crate) fn cells_at_most(table: &Table, period: u64, cap: u32) -> Option<u32>
 
 // How many residues modulo the period agree with one of the store.
 fn ways_of(store: &Store, period: u64) -> u64
+    requires valid { IsStore store.now }
     requires low { 0 < period }
     requires multiple { Divides (pos store.now.period) (pos period) }
     ensures value { result * store.now.period ≡ period }
     ensures some { 0 < result }
 {
-    store.shape();
     period / store.period() as u64
 }
 

@@ -1,6 +1,6 @@
 // Differences by what the right table lacks, where that is little.
 ghost use Rattle.std.specs.Prelude.{◌≡◌, IfOk, IfSome, IsTrue, [], nat_abs};
-ghost use Rattle.lrp_eval.specs.Together.{HasComplement, CanNarrow, IsSmallComplement, IsNarrowed, ways_for};
+ghost use Rattle.lrp_eval.specs.Together.{HasComplement, CanNarrow, IsSmallComplement, IsUnbrokenTable, ways_for};
 
 use crate::bounding::product_within;
 use crate::together::Sides;
@@ -120,7 +120,7 @@ pub(crate) fn narrow_by_complement(
     requires narrow { CanNarrow setting.now.domain.now sides.now name.now period }
     requires outside { IsSmallComplement setting.now.domain.now sides.now (nat_abs period)
         setting.now.cap outside.now }
-    ensures { IfOk result (λ made. IsNarrowed setting.now.domain.now sides.now name.now period
+    ensures { IfOk result (λ made. IsUnbrokenTable setting.now.domain.now sides.now name.now period
         setting.now.cap made) }
 {
     let tests = List::new(setting.alloc);

@@ -51,6 +51,7 @@ pub fn run_steps(
     requires plan { IsSomePlan database.now plan.now }
     ensures table { IfOk result (λ made. (q : Question) → IsPlanOf database.now q plan.now
         → HasAnswers database.now q cap made) }
+    ensures valid { IfOk result (λ made. IsStore made.store) }
     ensures fault { IfErr result (λ fault. IsEvalCause database.now plan.now cap fault) }
 {
     let setting = Setting {

@@ -1,7 +1,7 @@
 // Tables that no later step reads are given up.
 ghost use Rattle.std.specs.Prelude.{◌∷◌, [], ℕ, Contains, IfOk};
 ghost use Rattle.lrp_plan_laws.specs.Made.{operands};
-ghost use Rattle.lrp_eval.specs.Freeing.{AreLastReaders, AreLeft, IsNoted};
+ghost use Rattle.lrp_eval.specs.Freeing.{AreLastReaders, AreLeftOrFreed, IsNoted};
 
 use lrp_model::{List, Memory, Shape, Step, StepKind};
 use lrp_store::Store;
@@ -60,7 +60,7 @@ pub(crate) fn give_up(
     readers: &[usize],
     tables: List<Table>,
 ) -> List<Table>
-    ensures { AreLeft readers.now tables result }
+    ensures { AreLeftOrFreed readers.now tables result }
 {
     let mut left = tables.into_vec();
     let (first, second) = operands_of(kind);
@@ -71,7 +71,7 @@ pub(crate) fn give_up(
 
 // Gives up the table of a step, unless a later step reads it or it is the last one.
 fn give_up_one(alloc: Global, of: u32, readers: &[usize], tables: &mut Vec<Table>)
-    ensures { AreLeft readers.now tables.old.items tables.new.items }
+    ensures { AreLeftOrFreed readers.now tables.old.items tables.new.items }
 {
     let place = of as usize;
     if place == 0 || place >= tables.len() || place > readers.len() {

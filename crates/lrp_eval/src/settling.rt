@@ -2,11 +2,10 @@
 ghost use Rattle.std.specs.Prelude.{◌≡◌, ◌<◌, IfOk, OnOk, IsTrue, Contains, length, take, pos};
 ghost use Rattle.lrp_zone.specs.Zones.{ZoneView};
 ghost use Rattle.lrp_store.specs.Stores.{IsPadded, IsStore, zones_at};
-ghost use Rattle.lrp_minus.specs.Absences.{IsLike};
-ghost use Rattle.lrp_minus.specs.Settling.{AddsZones, SettlesCell};
+ghost use Rattle.lrp_cutting.specs.Settling.{AddsZones, IsLike, SettlesCell};
 ghost use Rattle.lrp_eval.specs.Settling.{CanSettle, HasSingleZones, IsSettledStore};
 
-use lrp_minus::{is_settled, settle, settle_line};
+use lrp_cutting::{is_settled, settle, settle_line};
 use lrp_model::{Cell, Memory};
 use lrp_store::Store;
 use lrp_zone::Zone;
@@ -14,6 +13,7 @@ use std::alloc::Global;
 
 /// The same tuples, in zones that are settled cell by cell. A store whose cells are settled is given back as it is.
 pub(crate) fn settled(alloc: Global, store: Store) -> Result<Store, Memory>
+    requires valid { IsStore store }
     requires room { CanSettle store }
     ensures { IfOk result (λ made. IsSettledStore store made) }
 {
@@ -28,10 +28,9 @@ pub(crate) fn settled(alloc: Global, store: Store) -> Result<Store, Memory>
 
 // Whether each cell has one zone.
 fn has_single_zones(store: &Store) -> bool
-    ensures single { IsTrue result → HasSingleZones store.now }
-    ensures valid { IsStore store.now }
+    requires { IsStore store.now }
+    ensures { IsTrue result → HasSingleZones store.now }
 {
-    store.shape();
     store.zones() == store.len() as usize
 }
 
@@ -57,7 +56,6 @@ fn settled_cells(alloc: Global, store: &Store) -> Result<Store, Memory>
     ensures { IfOk result (λ made. IsSettledStore store.now made) }
 {
     let mut made = Store::new(alloc, store.shape(), store.period());
-    made.shape();
     for cell in store.cells() {
         settle_cell(alloc, store, &cell, &mut made)?;
         made.shape();

@@ -15,12 +15,12 @@ use Rattle.lrp_model.specs.declared.formulas.Term.{Term}
 use Rattle.lrp_model.specs.declared.formulas.Test.{Test}
 use Rattle.lrp_model.specs.declared.plans.StepKind.TheVariants.{Scan, Leaf, Sort as SortStep, Join, Select, Union, Minus, Complement, DropTime, DropData, Extend}
 use Rattle.lrp_plan.specs.declared.drafts.Draft.{Draft}
-use Rattle.lrp_plan.specs.declared.drafts.Operand.{Operand}
+use Rattle.lrp_plan.specs.declared.drafts.PlannedOperand.{PlannedOperand}
 use Rattle.lrp_limits.specs.declared.facts.Facts.{Facts}
 use Rattle.lrp_limits.specs.Capped.{capped}
 use Rattle.lrp_limits.specs.Multiples.{IsPeriod, IsLeastWithinLimit, AlwaysJoins}
 use Rattle.lrp_limits.specs.Facts.{AreFacts}
-use Rattle.lrp_plan.specs.Drafts.{AddsStep, AreTests, Extends, ExtendsBoth, headed}
+use Rattle.lrp_plan.specs.Drafts.{AddsStep, AreTests, Extends, ExtendsBoth, with_head_step}
 use Rattle.lrp_plan.proofs.Made.{scan_follows, leaf_follows, sort_follows, join_follows, select_follows, union_follows, minus_follows, complement_follows, drop_time_follows, drop_data_follows, head_follows}
 
 pub scans : {T E : Type 0} (r : Result T E) (facts : Facts) (name : Identifier) (terms : List Term) (k d offset reach : ℕ) (old new : Draft) → k ≡ unwrap_or (option_map (λ p. p.number) facts.period) d → offset ≡ greatest (flat_map term_magnitudes terms) → reach ≡ facts.bound + 2 * offset + k
@@ -38,7 +38,7 @@ pub sorts : {T E : Type 0} (r : Result T E) (v : Identifier) (s : Sort) (texts :
 sorts (Ok x) v s texts k old new e a = λ M K t. record { follows = λ planned d. sort_follows M K v s texts k old new planned d a e t }
 sorts (Err x) v s texts k old new e a = tt
 
-pub joins : {T E : Type 0} (r : Result T E) (left : Operand) (tests : List Test) (k t reach : ℕ) (old new : Draft) → AlwaysJoins left.period.number old.last.period.number k → t ≡ capped (greatest (map test_reach tests)) → reach ≡ max (max left.reach old.last.reach) t + k
+pub joins : {T E : Type 0} (r : Result T E) (left : PlannedOperand) (tests : List Test) (k t reach : ℕ) (old new : Draft) → AlwaysJoins left.period.number old.last.period.number k → t ≡ capped (greatest (map test_reach tests)) → reach ≡ max (max left.reach old.last.reach) t + k
     → OnOk r (AddsStep (Join left.number old.last.number tests) k (capped reach) old new) → OnOk r ((M : Structure) (K : ℕ) → AreTests tests → ExtendsBoth M K left (λ number. join number tests) old new)
 joins (Ok x) left tests k t reach old new j e f a = λ M K h. record { follows = λ planned i d o. join_follows M K left tests k t reach old new planned i d o a h j e f }
 joins (Err x) left tests k t reach old new j e f a = tt
@@ -48,12 +48,12 @@ pub selects : {T E : Type 0} (r : Result T E) (t : Test) (x reach : ℕ) (old ne
 selects (Ok y) t x reach old new e f a = λ M K h. record { follows = λ planned d. select_follows M K t x reach old new planned d a h.0 e f }
 selects (Err y) t x reach old new e f a = tt
 
-pub unions : {T E : Type 0} (r : Result T E) (left : Operand) (k reach : ℕ) (old new : Draft) → AlwaysJoins left.period.number old.last.period.number k → reach ≡ max left.reach old.last.reach + k
+pub unions : {T E : Type 0} (r : Result T E) (left : PlannedOperand) (k reach : ℕ) (old new : Draft) → AlwaysJoins left.period.number old.last.period.number k → reach ≡ max left.reach old.last.reach + k
     → OnOk r (AddsStep (Union left.number old.last.number) k (capped reach) old new) → OnOk r ((M : Structure) (K : ℕ) → ExtendsBoth M K left union old new)
 unions (Ok x) left k reach old new j e a = λ M K. record { follows = λ planned i d o. union_follows M K left k reach old new planned i d o a j e }
 unions (Err x) left k reach old new j e a = tt
 
-pub takes_off : {T E : Type 0} (r : Result T E) (left : Operand) (k reach : ℕ) (old new : Draft) → AlwaysJoins left.period.number old.last.period.number k → reach ≡ max left.reach old.last.reach + 2 * k
+pub takes_off : {T E : Type 0} (r : Result T E) (left : PlannedOperand) (k reach : ℕ) (old new : Draft) → AlwaysJoins left.period.number old.last.period.number k → reach ≡ max left.reach old.last.reach + 2 * k
     → OnOk r (AddsStep (Minus left.number old.last.number) k (capped reach) old new) → OnOk r ((M : Structure) (K : ℕ) → ExtendsBoth M K left minus old new)
 takes_off (Ok x) left k reach old new j e a = λ M K. record { follows = λ planned i d o. minus_follows M K left k reach old new planned i d o a j e }
 takes_off (Err x) left k reach old new j e a = tt
@@ -74,6 +74,6 @@ drops_data (Ok x) v s reach old new e f a = λ M K. record { follows = λ planne
 drops_data (Err x) v s reach old new e f a = tt
 
 pub heads : {T E : Type 0} (r : Result T E) (k reach : ℕ) (old new : Draft) → reach ≡ old.last.reach
-    → OnOk r (AddsStep (Extend old.last.number) k (capped reach) old new) → OnOk r ((M : Structure) (K : ℕ) (f : Form) → IsLeastWithinLimit (periods f M.relations) k → IsCommon (periods f M.relations) K → Extends M K (headed f) old new)
+    → OnOk r (AddsStep (Extend old.last.number) k (capped reach) old new) → OnOk r ((M : Structure) (K : ℕ) (f : Form) → IsLeastWithinLimit (periods f M.relations) k → IsCommon (periods f M.relations) K → Extends M K (with_head_step f) old new)
 heads (Ok x) k reach old new e a = λ M K f least c. record { follows = λ planned d. head_follows M K f k reach old new planned d a least c e }
 heads (Err x) k reach old new e a = tt

@@ -20,7 +20,7 @@ use Rattle.lrp_model.proofs.Decided.{cons_cases, contains_first, contains_later,
 use Rattle.lrp_model.proofs.Ascending.{same_ascending}
 use Rattle.lrp_model.proofs.DomainLaws.{contains_in_order, in_order_ascends}
 use Rattle.lrp_database.specs.Once.{put_once, once, texts_among, texts_with}
-use Rattle.lrp_plan.specs.Domains.{IsTextSet, AreDomains, Gathers, TakesIn, gathered}
+use Rattle.lrp_plan.specs.Domains.{IsTextSet, AreDomains, Gathers, TakesText, gathered}
 use Rattle.lrp_model.specs.Satisfaction.{Structure}
 use Rattle.lrp_model.specs.Domains.{database_texts}
 use Rattle.lrp_plan.specs.Sources.{AreSources}
@@ -53,10 +53,10 @@ insert_put : (us : List Text) (t : Text) → insert_key text_cmp us t ≡ put_te
 insert_put [] t = refl
 insert_put (u ∷ us) t = ap (λ r. match_ordering (text_cmp t u) (t ∷ u ∷ us) (u ∷ us) (u ∷ r)) (insert_put us t)
 
-pub takes_new : (t k : Text) (old new : List Text) → k ≡ t → new ≡ insert_key text_cmp old k → TakesIn t old new
+pub takes_new : (t k : Text) (old new : List Text) → k ≡ t → new ≡ insert_key text_cmp old k → TakesText t old new
 takes_new t k old new e n = λ before h. n ∙ insert_put old k ∙ ap (put_text k) h ∙ ap (λ x. put_text x (in_order before)) e ∙ put_last t before
 
-pub takes_there : (t : Text) (set : BTreeSet Text) → contains text_cmp set t ≡ true → TakesIn t (keys set) (keys set)
+pub takes_there : (t : Text) (set : BTreeSet Text) → contains text_cmp set t ≡ true → TakesText t (keys set) (keys set)
 takes_there t set there = λ before h. h ∙ put_there t before (subst (λ us. Contains us t) h ((btree_set_contains_iff nat_list_cmp_total exact_bytes set t).0 there))
 
 -- ---- how many
@@ -125,11 +125,11 @@ other_sort db before k s t (Some set) e h = h ∙ ap in_order (sym (with_three s
 other_sort db before k s t None e h = with_both s before ((k, t) ∷ []) ∙ ap (λ ys. texts_with s before ++ ys) (with_one s k t false e) ∙ end_none (texts_with s before) ∙ h
 
 -- a text of the sort
-same_sorted : (db before : List (Sort × Text)) (k s : Sort) (t : Text) (old new : BTreeSet Text) → same_sort k s ≡ true → IsTextSet db before s (Some old) → TakesIn t (keys old) (keys new) → IsTextSet db (before ++ (k, t) ∷ []) s (Some new)
+same_sorted : (db before : List (Sort × Text)) (k s : Sort) (t : Text) (old new : BTreeSet Text) → same_sort k s ≡ true → IsTextSet db before s (Some old) → TakesText t (keys old) (keys new) → IsTextSet db (before ++ (k, t) ∷ []) s (Some new)
 same_sorted db before k s t old new e h see = see (texts_with s (db ++ before)) h ∙ ap in_order (sym (with_three s db before ((k, t) ∷ []) ∙ ap (λ ys. texts_with s (db ++ before) ++ ys) (with_one s k t true e)))
 
 -- the first text of the sort
-first_sorted : (db before : List (Sort × Text)) (k s : Sort) (t : Text) (old new : BTreeSet Text) → same_sort k s ≡ true → IsTextSet db before s None → keys old ≡ in_order (once (texts_with s db)) → TakesIn t (keys old) (keys new) → IsTextSet db (before ++ (k, t) ∷ []) s (Some new)
+first_sorted : (db before : List (Sort × Text)) (k s : Sort) (t : Text) (old new : BTreeSet Text) → same_sort k s ≡ true → IsTextSet db before s None → keys old ≡ in_order (once (texts_with s db)) → TakesText t (keys old) (keys new) → IsTextSet db (before ++ (k, t) ∷ []) s (Some new)
 first_sorted db before k s t old new e h o see =
     let one : texts_with s (before ++ (k, t) ∷ []) ≡ t ∷ [] = with_both s before ((k, t) ∷ []) ∙ ap (λ ys. ys ++ texts_with s ((k, t) ∷ [])) h ∙ with_one s k t true e in
     see (once (texts_with s db)) o ∙ ap (λ ys. in_order (once (texts_with s db) ++ ys)) (sym one) ∙ same_texts s db (before ++ (k, t) ∷ [])
@@ -160,7 +160,7 @@ gathers db s t old new own others = λ before are k. at before are k (same_sort 
     at before are k false e = subst (IsTextSet db (before ++ (s, t) ∷ []) k) (sym (others k e)) (other_sort db before s k t (gathered old k) e (are k))
 
 pub timed_gathers : {T E : Type 0} (r : Result T E) (db : List (Sort × Text)) (s : Sort) (t : Text) (old new : Domains) → s ≡ Time → new.unnamed ≡ old.unnamed → new.named ≡ old.named
-    → OnOk r (TakesIn t (keys old.timed) (keys new.timed)) → OnOk r (Gathers db s t old new)
+    → OnOk r (TakesText t (keys old.timed) (keys new.timed)) → OnOk r (Gathers db s t old new)
 timed_gathers (Err x) db s t old new e u n h = tt
 timed_gathers (Ok x) db s t old new e u n h = subst (λ z. Gathers db z t old new) (sym e) (gathers db Time t old new (λ before are. same_sorted db before Time Time t old.timed new.timed refl are h) others)
   where
@@ -180,12 +180,12 @@ unnamed_by db t old new set u n e own = gathers db Data t old new (λ before are
     others (Named m) f = ap (λ named. get bytes_eq named m) n
 
 pub unnamed_gathers : {T E : Type 0} (r : Result T E) (db : List (Sort × Text)) (t : Text) (old new : Domains) (had set : BTreeSet Text) → new.timed ≡ old.timed → new.named ≡ old.named → old.unnamed ≡ Some had → new.unnamed ≡ Some set
-    → OnOk r (TakesIn t (keys had) (keys set)) → OnOk r (Gathers db Data t old new)
+    → OnOk r (TakesText t (keys had) (keys set)) → OnOk r (Gathers db Data t old new)
 unnamed_gathers (Err x) db t old new had set u n o e h = tt
 unnamed_gathers (Ok x) db t old new had set u n o e h = unnamed_by db t old new set u n e (λ before are. same_sorted db before Data Data t had set refl (subst (IsTextSet db before Data) o are) h)
 
 pub first_unnamed : (db : List (Sort × Text)) (t : Text) (old new : Domains) (had set : BTreeSet Text) → new.timed ≡ old.timed → new.named ≡ old.named → old.unnamed ≡ None → new.unnamed ≡ Some set
-    → keys had ≡ in_order (once (texts_with Data db)) → TakesIn t (keys had) (keys set) → Gathers db Data t old new
+    → keys had ≡ in_order (once (texts_with Data db)) → TakesText t (keys had) (keys set) → Gathers db Data t old new
 first_unnamed db t old new had set u n o e k h = unnamed_by db t old new set u n e (λ before are. first_sorted db before Data Data t had set refl (subst (IsTextSet db before Data) o are) k h)
 
 -- a result of the sort `data`, at a sort that is this one
@@ -205,13 +205,13 @@ named_by db name t old new set a u put own =
     others (Named m) f = put m ∙ ap (λ b. cond b (Some set) (get bytes_eq old.named m)) f
 
 pub named_gathers : {T E : Type 0} (r : Result T E) (db : List (Sort × Text)) (s : Sort) (name : Identifier) (t : Text) (old new : Domains) (had set : BTreeSet Text) → s ≡ Named name → get bytes_eq old.named name ≡ Some had → new.timed ≡ old.timed → new.unnamed ≡ old.unnamed
-    → ((m : Identifier) → get bytes_eq new.named m ≡ cond (bytes_eq name m) (Some set) (get bytes_eq old.named m)) → OnOk r (TakesIn t (keys had) (keys set)) → OnOk r (Gathers db s t old new)
+    → ((m : Identifier) → get bytes_eq new.named m ≡ cond (bytes_eq name m) (Some set) (get bytes_eq old.named m)) → OnOk r (TakesText t (keys had) (keys set)) → OnOk r (Gathers db s t old new)
 named_gathers (Err x) db s name t old new had set e g a u put h = tt
 named_gathers (Ok x) db s name t old new had set e g a u put h =
     subst (λ z. Gathers db z t old new) (sym e) (named_by db name t old new set a u put (λ before are. same_sorted db before (Named name) (Named name) t had set (same_self (Named name)) (subst (IsTextSet db before (Named name)) g are) h))
 
 pub first_gathers : (db : List (Sort × Text)) (s : Sort) (name : Identifier) (t : Text) (old new : Domains) (had set : BTreeSet Text) → s ≡ Named name → get bytes_eq old.named name ≡ None → new.timed ≡ old.timed → new.unnamed ≡ old.unnamed
-    → ((m : Identifier) → get bytes_eq new.named m ≡ cond (bytes_eq name m) (Some set) (get bytes_eq old.named m)) → keys had ≡ in_order (once (texts_with s db)) → TakesIn t (keys had) (keys set) → Gathers db s t old new
+    → ((m : Identifier) → get bytes_eq new.named m ≡ cond (bytes_eq name m) (Some set) (get bytes_eq old.named m)) → keys had ≡ in_order (once (texts_with s db)) → TakesText t (keys had) (keys set) → Gathers db s t old new
 first_gathers db s name t old new had set e g a u put o h =
     subst (λ z. Gathers db z t old new) (sym e) (named_by db name t old new set a u put (λ before are. first_sorted db before (Named name) (Named name) t had set (same_self (Named name)) (subst (IsTextSet db before (Named name)) g are) (subst (λ z. keys had ≡ in_order (once (texts_with z db))) e o) h))
 

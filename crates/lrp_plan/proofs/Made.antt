@@ -7,7 +7,7 @@ use Rattle.lrp_model.specs.Rows.{rows_of}
 use Rattle.lrp_model.specs.Satisfaction.{Structure}
 use Rattle.lrp_theory.specs.Divides.{IsCommon}
 use Rattle.lrp_model.specs.Periods.{period, periods, periods_each, test_periods}
-use Rattle.lrp_model.specs.Reach.{greatest, reach_of, test_reach, term_magnitudes}
+use Rattle.lrp_model.specs.Reach.{greatest, step_reach, test_reach, term_magnitudes}
 use Rattle.lrp_model.specs.Steps.{Steps, formula_at, reach_at, made, step_behind, tests_as_forms, scan_of, leaf, sort_texts, join, select, union, minus, complement, drop_of}
 use Rattle.lrp_model.specs.Conjunctions.{is_test}
 use Rattle.lrp_model.specs.declared.relations.Relation.{Relation}
@@ -21,12 +21,12 @@ use Rattle.lrp_model.specs.declared.plans.StepKind.{StepKind}
 use Rattle.lrp_model.specs.declared.plans.StepKind.TheVariants.{Scan, Leaf, Sort as SortStep, Join, Select, Union, Minus, Complement, DropTime, DropData, Extend}
 use Rattle.lrp_plan_laws.proofs.Elements.{length_made, formula_made}
 use Rattle.lrp_plan.specs.declared.drafts.Draft.{Draft}
-use Rattle.lrp_plan.specs.declared.drafts.Operand.{Operand}
+use Rattle.lrp_plan.specs.declared.drafts.PlannedOperand.{PlannedOperand}
 use Rattle.lrp_limits.specs.declared.facts.Facts.{Facts}
 use Rattle.lrp_limits.specs.Capped.{capped}
 use Rattle.lrp_limits.specs.Multiples.{IsPeriod, IsLeastWithinLimit, IsPeriodOf, AlwaysJoins}
 use Rattle.lrp_limits.specs.Facts.{AreFacts, most_of_row}
-use Rattle.lrp_plan.specs.Drafts.{AddsStep, IsOperand, IsDraftOf, IsDraft, AreTests, headed}
+use Rattle.lrp_plan.specs.Drafts.{AddsStep, IsPlannedOperand, IsDraftOf, IsDraft, AreTests, with_head_step}
 use Rattle.lrp_limits.proofs.Keeping.{common_both, least_is, least_of_none}
 
 -- ---- the last step
@@ -35,7 +35,7 @@ get_last : {X : Type 0} (xs : List X) (x : X) → slice_get (xs ++ x ∷ []) (le
 get_last [] x = refl
 get_last (y ∷ ys) x = get_last ys x
 
-reach_made : (M : Structure) (kind : StepKind) (f : Form) (steps : Steps) → reach_at (made M kind f steps) (length (made M kind f steps)) ≡ reach_of M.relations (reach_at steps) (period M.relations f) kind
+reach_made : (M : Structure) (kind : StepKind) (f : Form) (steps : Steps) → reach_at (made M kind f steps) (length (made M kind f steps)) ≡ step_reach M.relations (reach_at steps) (period M.relations f) kind
 reach_made M kind f steps = ap (reach_at (made M kind f steps)) (length_made M kind f steps) ∙ ap (λ o. unwrap_or (option_map (λ step. step.reach) o) 0) (get_last steps (step_behind M kind f steps))
 
 zip_push : {A B : Type 0} (R : A → B → Type 0) (xs : List A) (ys : List B) (x : A) (y : B) → AllZip R xs ys → R x y → AllZip R (xs ++ x ∷ []) (ys ++ y ∷ [])
@@ -46,11 +46,11 @@ zip_push R (a ∷ xs) (b ∷ ys) x y h r = (h.0, zip_push R xs ys x y h.1 r)
 
 -- a step of this kind and formula, whose period and reach are these
 pub made_follows : (M : Structure) (K : ℕ) (kind code : StepKind) (f : Form) (k reach : ℕ) (old new : Draft) (planned : Steps) → IsDraft M.relations K old planned → AddsStep code k reach old new → code ≡ kind
-    → IsLeastWithinLimit (periods f M.relations) k → IsCommon (periods f M.relations) K → reach ≡ capped (reach_of M.relations (reach_at planned) k kind) → IsDraft M.relations K new (made M kind f planned)
+    → IsLeastWithinLimit (periods f M.relations) k → IsCommon (periods f M.relations) K → reach ≡ capped (step_reach M.relations (reach_at planned) k kind) → IsDraft M.relations K new (made M kind f planned)
 made_follows M K kind code f k reach old new planned d a same least divides far =
     let n : Steps = made M kind f planned in
     let e : k ≡ period M.relations f = least_is (periods f M.relations) k least in
-    let r : reach ≡ capped (reach_of M.relations (reach_at planned) (period M.relations f) kind) = subst (λ x. reach ≡ capped (reach_of M.relations (reach_at planned) x kind)) e far in
+    let r : reach ≡ capped (step_reach M.relations (reach_at planned) (period M.relations f) kind) = subst (λ x. reach ≡ capped (step_reach M.relations (reach_at planned) x kind)) e far in
     let g : formula_at n (length n) ≡ f = formula_made M kind f planned in
     record {
       whole = d.whole;
@@ -67,13 +67,13 @@ made_follows M K kind code f k reach old new planned d a same least divides far 
 
 -- over the last step alone, with its periods
 pub one_follows : (M : Structure) (K : ℕ) (kind code : StepKind) (f : Form) (reach : ℕ) (old new : Draft) (planned : Steps) → IsDraft M.relations K old planned → AddsStep code old.last.period.number reach old new → code ≡ kind
-    → periods f M.relations ≡ periods (formula_at planned (length planned)) M.relations → reach ≡ capped (reach_of M.relations (reach_at planned) old.last.period.number kind) → IsDraft M.relations K new (made M kind f planned)
+    → periods f M.relations ≡ periods (formula_at planned (length planned)) M.relations → reach ≡ capped (step_reach M.relations (reach_at planned) old.last.period.number kind) → IsDraft M.relations K new (made M kind f planned)
 one_follows M K kind code f reach old new planned d a same e far =
     made_follows M K kind code f old.last.period.number reach old new planned d a same (subst (λ ks. IsLeastWithinLimit ks old.last.period.number) (sym e) d.last.period) (subst (λ ks. IsCommon ks K) (sym e) d.last.divides) far
 
 -- over an earlier step and the last one, with the periods of both
-pub both_follow : (M : Structure) (K : ℕ) (kind code : StepKind) (f : Form) (i k reach : ℕ) (left : Operand) (old new : Draft) (planned : Steps) → IsDraft M.relations K old planned → IsOperand M.relations K planned i left → AddsStep code k reach old new → code ≡ kind
-    → periods f M.relations ≡ periods (formula_at planned i) M.relations ++ periods (formula_at planned (length planned)) M.relations → AlwaysJoins left.period.number old.last.period.number k → reach ≡ capped (reach_of M.relations (reach_at planned) k kind)
+pub both_follow : (M : Structure) (K : ℕ) (kind code : StepKind) (f : Form) (i k reach : ℕ) (left : PlannedOperand) (old new : Draft) (planned : Steps) → IsDraft M.relations K old planned → IsPlannedOperand M.relations K planned i left → AddsStep code k reach old new → code ≡ kind
+    → periods f M.relations ≡ periods (formula_at planned i) M.relations ++ periods (formula_at planned (length planned)) M.relations → AlwaysJoins left.period.number old.last.period.number k → reach ≡ capped (step_reach M.relations (reach_at planned) k kind)
     → IsDraft M.relations K new (made M kind f planned)
 both_follow M K kind code f i k reach left old new planned d o a same e joins far =
     let ls : List ℕ = periods (formula_at planned i) M.relations in
@@ -138,7 +138,7 @@ pub leaf_follows : (M : Structure) (K : ℕ) (t : Test) (k reach : ℕ) (old new
     → IsLeastWithinLimit (test_periods t) k → IsCommon (test_periods t) K → reach ≡ capped (test_reach t) → IsDraft M.relations K new (leaf t M planned)
 leaf_follows M K t k reach old new planned d a least c r = made_follows M K (Leaf t) (Leaf t) (test t) k (capped reach) old new planned d a refl least c (cap_same _ (test_reach t) reach r)
 
-pub join_follows : (M : Structure) (K : ℕ) (left : Operand) (tests : List Test) (k t reach : ℕ) (old new : Draft) (planned : Steps) (i : ℕ) → IsDraft M.relations K old planned → IsOperand M.relations K planned i left
+pub join_follows : (M : Structure) (K : ℕ) (left : PlannedOperand) (tests : List Test) (k t reach : ℕ) (old new : Draft) (planned : Steps) (i : ℕ) → IsDraft M.relations K old planned → IsPlannedOperand M.relations K planned i left
     → AddsStep (Join left.number old.last.number tests) k (capped reach) old new → AreTests tests → AlwaysJoins left.period.number old.last.period.number k → t ≡ capped (greatest (map test_reach tests)) → reach ≡ max (max left.reach old.last.reach) t + k
     → IsDraft M.relations K new (join i tests M planned)
 join_follows M K left tests k t reach old new planned i d o a h joins e r =
@@ -153,14 +153,14 @@ select_follows M K t x reach old new planned d a h e r =
     (ap (λ ks. periods (formula_at planned (length planned)) M.relations ++ (ks ++ [])) (no_period t h) ∙ append-nil _)
     (ap capped r ∙ cap_two _ _ _ _ _ old.last.period.number d.last.reach e)
 
-pub union_follows : (M : Structure) (K : ℕ) (left : Operand) (k reach : ℕ) (old new : Draft) (planned : Steps) (i : ℕ) → IsDraft M.relations K old planned → IsOperand M.relations K planned i left
+pub union_follows : (M : Structure) (K : ℕ) (left : PlannedOperand) (k reach : ℕ) (old new : Draft) (planned : Steps) (i : ℕ) → IsDraft M.relations K old planned → IsPlannedOperand M.relations K planned i left
     → AddsStep (Union left.number old.last.number) k (capped reach) old new → AlwaysJoins left.period.number old.last.period.number k → reach ≡ max left.reach old.last.reach + k → IsDraft M.relations K new (union i M planned)
 union_follows M K left k reach old new planned i d o a joins r =
     both_follow M K _ _ _ i k (capped reach) left old new planned d o a (of_two Union _ _ _ _ o.number d.last.number)
     (ap (λ ks. periods (formula_at planned i) M.relations ++ ks) (append-nil _)) joins
     (ap capped r ∙ cap_two _ _ _ _ _ k o.reach d.last.reach)
 
-pub minus_follows : (M : Structure) (K : ℕ) (left : Operand) (k reach : ℕ) (old new : Draft) (planned : Steps) (i : ℕ) → IsDraft M.relations K old planned → IsOperand M.relations K planned i left
+pub minus_follows : (M : Structure) (K : ℕ) (left : PlannedOperand) (k reach : ℕ) (old new : Draft) (planned : Steps) (i : ℕ) → IsDraft M.relations K old planned → IsPlannedOperand M.relations K planned i left
     → AddsStep (Minus left.number old.last.number) k (capped reach) old new → AlwaysJoins left.period.number old.last.period.number k → reach ≡ max left.reach old.last.reach + 2 * k → IsDraft M.relations K new (minus i M planned)
 minus_follows M K left k reach old new planned i d o a joins r =
     both_follow M K _ _ _ i k (capped reach) left old new planned d o a (of_two Minus _ _ _ _ o.number d.last.number)
@@ -189,7 +189,7 @@ pub sort_follows : (M : Structure) (K : ℕ) (v : Identifier) (s : Sort) (texts 
 sort_follows M K v s texts k old new planned d a e t = made_follows M K _ _ (sorted s v) k (capped 1) old new planned d a (ap (SortStep v s) t) (subst (IsLeastWithinLimit []) (sym e) least_of_none) tt refl
 
 pub head_follows : (M : Structure) (K : ℕ) (f : Form) (k reach : ℕ) (old new : Draft) (planned : Steps) → IsDraft M.relations K old planned → AddsStep (Extend old.last.number) k (capped reach) old new
-    → IsLeastWithinLimit (periods f M.relations) k → IsCommon (periods f M.relations) K → reach ≡ old.last.reach → IsDraft M.relations K new (headed f M planned)
+    → IsLeastWithinLimit (periods f M.relations) k → IsCommon (periods f M.relations) K → reach ≡ old.last.reach → IsDraft M.relations K new (with_head_step f M planned)
 head_follows M K f k reach old new planned d a least c r = made_follows M K _ _ f k (capped reach) old new planned d a (of_one Extend _ _ d.last.number) least c (cap_same _ _ reach (r ∙ d.last.reach))
 
 -- ---- the period of a test

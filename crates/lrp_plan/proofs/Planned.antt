@@ -20,7 +20,7 @@ use Rattle.lrp_model.specs.declared.relations.Sort.{Sort}
 use Rattle.lrp_model.specs.declared.formulas.Term.{Term}
 use Rattle.lrp_model.specs.declared.formulas.Test.{Test}
 use Rattle.lrp_plan.specs.declared.drafts.Draft.{Draft}
-use Rattle.lrp_plan.specs.declared.drafts.Operand.{Operand}
+use Rattle.lrp_plan.specs.declared.drafts.PlannedOperand.{PlannedOperand}
 use Rattle.lrp_plan.specs.declared.elements.Split.{Split}
 use Rattle.lrp_limits.specs.declared.facts.Facts.{Facts}
 use Rattle.lrp_plan.specs.declared.sources.Sources.{Sources}
@@ -29,7 +29,7 @@ use Rattle.lrp_limits.specs.Facts.{AreFacts}
 use Rattle.lrp_plan.specs.Drafts.{Extends, AreTests}
 use Rattle.lrp_plan.specs.Taking.{IsSoFar}
 use Rattle.lrp_core.specs.declared.variable_trees.VariableTree.{VariableTree}
-use Rattle.lrp_plan.specs.Elements.{AreInner, CanPlan, MakesSteps, EachCanPlan, IsElement, IsDenied, IsAt, IsSplitOf, TakesTests, TakesEach}
+use Rattle.lrp_plan.specs.Elements.{AreInner, CanPlan, MakesSteps, EachCanPlan, IsElement, IsDenied, IsMakingAt, IsSplitOf, TakesTests, TakesEach}
 use Rattle.lrp_plan.specs.declared.elements.Kind.TheVariants.{Positive, Negation}
 use Rattle.lrp_plan.specs.Sources.{AreSources}
 use Rattle.lrp_limits.proofs.Keeping.{common_both}
@@ -100,7 +100,7 @@ take_all_of [] (suc i) h = refl
 take_all_of (x ∷ xs) zero h = absurd (omega arith)
 take_all_of (x ∷ xs) (suc i) h = ap (λ ys. x ∷ ys) (take_all_of xs i (omega arith))
 
-pub some_planned : (sources : Sources) (trees : List VariableTree) (fs : List Core) (i : ℕ) (left : Option Operand) (old now : Draft) → length fs ≤ i → (AreInner trees (disjunction (cores_of fs)) → (M : Structure) → AreSources M sources → SomeSoFar M (cores_of (take i fs)) old now left)
+pub some_planned : (sources : Sources) (trees : List VariableTree) (fs : List Core) (i : ℕ) (left : Option PlannedOperand) (old now : Draft) → length fs ≤ i → (AreInner trees (disjunction (cores_of fs)) → (M : Structure) → AreSources M sources → SomeSoFar M (cores_of (take i fs)) old now left)
     → (M : Structure) (K : ℕ) → AreSources M sources → AreInner trees (disjunction (cores_of fs)) → CanPlan M K (disjunction (cores_of fs)) → Extends M K (plan_of (disjunction (cores_of fs))) old now
 some_planned sources trees fs i left old now le h M K s known c = record {
   follows = λ planned d.
@@ -143,7 +143,7 @@ all_planned (Ok x) sources trees fs split first second third fourth old a b new 
       let can : EachCanPlan M K fs = each_can M K fs c.core.1 c.divides in
       let split_is : IsSplitOf M fs split = is M src known in
       let s0 : State = record { steps = planned; taken = nothing_taken; positives = ranked M (positives_in (cores_of fs)); tests = tests_in (cores_of fs); negations = negations_in (cores_of fs) } in
-      let at : IsAt M K fs old split.positives.items split.negations.items first s0 = record {
+      let at : IsMakingAt M K fs old split.positives.items split.negations.items first s0 = record {
         made = d;
         took = record { result = subst (λ o. IsSoFar M.relations K planned o nothing_taken) (sym e) refl; variables = record { each = λ w. ap (λ vs. is_among vs w) v }; remain = t ∙ split_is.checks; tests = subst AreTests (sym (t ∙ split_is.checks)) (tests_are_tests (cores_of fs)); settled = λ y. absurd (false≢true (sym u ∙ y)) };
         positives = split_is.ranks;
@@ -151,10 +151,10 @@ all_planned (Ok x) sources trees fs split first second third fourth old a b new 
       } in
       let p = ps M src in
       let s1 : State = take_positives (length s0.positives) M s0 in
-      let at1 : IsAt M K fs a p.left split.negations.items second s1 = subst (λ n. IsAt M K fs a p.left split.negations.items second (take_positives n M s0)) (zip_length (IsElement fs) split.positives.items s0.positives split_is.ranks) (p.takes.follows K split.negations.items s0 can at) in
+      let at1 : IsMakingAt M K fs a p.left split.negations.items second s1 = subst (λ n. IsMakingAt M K fs a p.left split.negations.items second (take_positives n M s0)) (zip_length (IsElement fs) split.positives.items s0.positives split_is.ranks) (p.takes.follows K split.negations.items s0 can at) in
       let s2 : State = take_tests (length s1.tests) M s1 in
-      let at2 : IsAt M K fs b p.left split.negations.items third s2 = subst (λ n. IsAt M K fs b p.left split.negations.items third (take_tests n M s1)) (ap length at1.took.remain) (ts.follows M K fs p.left split.negations.items s1 at1) in
+      let at2 : IsMakingAt M K fs b p.left split.negations.items third s2 = subst (λ n. IsMakingAt M K fs b p.left split.negations.items third (take_tests n M s1)) (ap length at1.took.remain) (ts.follows M K fs p.left split.negations.items s1 at1) in
       let n = ns M src in
-      let at3 : IsAt M K fs new p.left n.left fourth (take_negations (length s2.negations) M s2) = subst (λ k. IsAt M K fs new p.left n.left fourth (take_negations k M s2)) (zip_length (IsDenied fs) split.negations.items s2.negations at2.negations) (n.takes.follows K p.left s2 can at2) in
+      let at3 : IsMakingAt M K fs new p.left n.left fourth (take_negations (length s2.negations) M s2) = subst (λ k. IsMakingAt M K fs new p.left n.left fourth (take_negations k M s2)) (zip_length (IsDenied fs) split.negations.items s2.negations at2.negations) (n.takes.follows K p.left s2 can at2) in
       at3.made;
 }

@@ -29,7 +29,7 @@ use Rattle.lrp_plan.specs.declared.planning.PlanFault.{PlanFault}
 use Rattle.lrp_plan.specs.declared.sources.Sources.{Sources}
 use Rattle.lrp_plan.specs.Planning.{IsPastLimits, AreGathered, IsOutcome}
 use Rattle.lrp_plan.specs.Sources.{AreSources}
-use Rattle.lrp_plan_text.specs.Writable.{TestHasPeriod, KindHasPeriods, StepHasPeriods as IsWritable}
+use Rattle.lrp_print.specs.Writable.{TestHasPeriod, KindHasPeriods, StepHasPeriods as IsWritable}
 use Rattle.lrp_plan.proofs.KeptPeriods.{low}
 
 -- the period of a point is at least 1

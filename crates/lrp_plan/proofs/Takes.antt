@@ -15,12 +15,12 @@ use Rattle.lrp_model.specs.declared.formulas.Test.{Test}
 use Rattle.lrp_model.specs.declared.formulas.Test.TheVariants.{Compare, Member, Equal}
 use Rattle.lrp_plan_laws.proofs.Elements.{formula_front, split_all}
 use Rattle.lrp_core.specs.FreeVariables.{variable_of, with_variables}
-use Rattle.lrp_plan.specs.declared.drafts.Operand.{Operand}
+use Rattle.lrp_plan.specs.declared.drafts.PlannedOperand.{PlannedOperand}
 use Rattle.lrp_plan.specs.declared.drafts.Draft.{Draft}
 use Rattle.lrp_plan.specs.declared.taking.Taking.{Taking}
 use Rattle.lrp_limits.specs.Capped.{capped}
 use Rattle.lrp_limits.specs.Multiples.{IsLeastWithinLimit}
-use Rattle.lrp_plan.specs.Drafts.{IsOperand, IsDraft, AreTests, Extends, ExtendsBoth}
+use Rattle.lrp_plan.specs.Drafts.{IsPlannedOperand, IsDraft, AreTests, Extends, ExtendsBoth}
 use Rattle.lrp_plan.specs.Taking.{covers, AreUncovered, HaveSame, IsSoFar, IsTaking, carrying, Carries, Splits, TakesIn, TakesTest, taking_off, Subtracts, after_negation, taken_with, TakesOff}
 use Rattle.lrp_plan.proofs.Members.{are_among_same, more_same}
 use Rattle.lrp_plan.proofs.Settled.{left_fail, still_uncovered}
@@ -36,7 +36,7 @@ reach_front : (steps more : Steps) (i : ℕ) → i ≤ length steps → reach_at
 reach_front steps more zero le = refl
 reach_front steps more (suc i) le = ap (λ o. unwrap_or (option_map (λ step. step.reach) o) 0) (get_front steps more i le)
 
-pub operand_grows : (db : List Relation) (K : ℕ) (steps more : Steps) (i : ℕ) (o : Operand) → IsOperand db K steps i o → IsOperand db K (steps ++ more) i o
+pub operand_grows : (db : List Relation) (K : ℕ) (steps more : Steps) (i : ℕ) (o : PlannedOperand) → IsPlannedOperand db K steps i o → IsPlannedOperand db K (steps ++ more) i o
 operand_grows db K steps more i o h =
     let f : formula_at (steps ++ more) i ≡ formula_at steps i = formula_front steps more i h.within in
     record {
@@ -47,7 +47,7 @@ operand_grows db K steps more i o h =
       divides = subst (λ g. IsCommon (periods g db) K) (sym f) h.divides;
     }
 
-result_grows : (db : List Relation) (K : ℕ) (steps more : Steps) (o : Option Operand) (taken : Taken) → IsSoFar db K steps o taken → IsSoFar db K (steps ++ more) o taken
+result_grows : (db : List Relation) (K : ℕ) (steps more : Steps) (o : Option PlannedOperand) (taken : Taken) → IsSoFar db K steps o taken → IsSoFar db K (steps ++ more) o taken
 result_grows db K steps more None taken h = h
 result_grows db K steps more (Some o) taken h = (h.0, operand_grows db K steps more taken.result o h.1)
 
@@ -74,7 +74,7 @@ select_more ts t old mid new h k M K a = record {
 
 -- ---- what is taken in
 
-pub carry_some : {T E : Type 0} (r : Result T E) (result : Option Operand) (o : Operand) (tests : List Test) (old new : Draft) → result ≡ Some o → OnOk r ((M : Structure) (K : ℕ) → AreTests tests → ExtendsBoth M K o (λ n. join n tests) old new) → OnOk r (Carries result tests old new)
+pub carry_some : {T E : Type 0} (r : Result T E) (result : Option PlannedOperand) (o : PlannedOperand) (tests : List Test) (old new : Draft) → result ≡ Some o → OnOk r ((M : Structure) (K : ℕ) → AreTests tests → ExtendsBoth M K o (λ n. join n tests) old new) → OnOk r (Carries result tests old new)
 carry_some (Ok x) result o tests old new e h = record {
   follows = λ M K steps taken a d w.
       let v : IsSoFar M.relations K steps (Some o) taken = subst (λ z. IsSoFar M.relations K steps z taken) e w in
@@ -82,7 +82,7 @@ carry_some (Ok x) result o tests old new e h = record {
 }
 carry_some (Err x) result o tests old new e h = tt
 
-pub carry_none : {T E : Type 0} (r : Result T E) (result : Option Operand) (tests : List Test) (old new : Draft) → result ≡ None → OnOk r ((M : Structure) (K : ℕ) → AreTests tests → Extends M K (select_each tests) old new) → OnOk r (Carries result tests old new)
+pub carry_none : {T E : Type 0} (r : Result T E) (result : Option PlannedOperand) (tests : List Test) (old new : Draft) → result ≡ None → OnOk r ((M : Structure) (K : ℕ) → AreTests tests → Extends M K (select_each tests) old new) → OnOk r (Carries result tests old new)
 carry_none (Ok x) result tests old new e h = record {
   follows = λ M K steps taken a d w.
       let v : taken.some ≡ false = subst (λ z. IsSoFar M.relations K steps z taken) e w in
@@ -132,7 +132,7 @@ takes_test t vs old new before mid after same h k = record {
 
 -- ---- what is taken off
 
-pub subtract_covered : {T E : Type 0} (r : Result T E) (result : Option Operand) (o : Operand) (covered : Bool) (old new : Draft) → result ≡ Some o → covered ≡ true → OnOk r ((M : Structure) (K : ℕ) → ExtendsBoth M K o minus old new) → OnOk r (Subtracts result covered old new)
+pub subtract_covered : {T E : Type 0} (r : Result T E) (result : Option PlannedOperand) (o : PlannedOperand) (covered : Bool) (old new : Draft) → result ≡ Some o → covered ≡ true → OnOk r ((M : Structure) (K : ℕ) → ExtendsBoth M K o minus old new) → OnOk r (Subtracts result covered old new)
 subtract_covered (Ok x) result o covered old new e c h = record {
   follows = λ M K steps taken d w.
       let v : IsSoFar M.relations K steps (Some o) taken = subst (λ z. IsSoFar M.relations K steps z taken) e w in
@@ -141,7 +141,7 @@ subtract_covered (Ok x) result o covered old new e c h = record {
 }
 subtract_covered (Err x) result o covered old new e c h = tt
 
-pub subtract_joined : {T E : Type 0} (r : Result T E) (result : Option Operand) (o : Operand) (covered : Bool) (none : List Test) (old mid new : Draft) → result ≡ Some o → covered ≡ false → none ≡ [] → ((M : Structure) (K : ℕ) → Extends M K complement old mid)
+pub subtract_joined : {T E : Type 0} (r : Result T E) (result : Option PlannedOperand) (o : PlannedOperand) (covered : Bool) (none : List Test) (old mid new : Draft) → result ≡ Some o → covered ≡ false → none ≡ [] → ((M : Structure) (K : ℕ) → Extends M K complement old mid)
     → OnOk r ((M : Structure) (K : ℕ) → AreTests none → ExtendsBoth M K o (λ n. join n none) mid new) → OnOk r (Subtracts result covered old new)
 subtract_joined (Ok x) result o covered none old mid new e c n g h = record {
   follows = λ M K steps taken d w.
@@ -152,7 +152,7 @@ subtract_joined (Ok x) result o covered none old mid new e c n g h = record {
 }
 subtract_joined (Err x) result o covered none old mid new e c n g h = tt
 
-pub subtract_first : {T E : Type 0} (r : Result T E) (result : Option Operand) (covered : Bool) (old new : Draft) → result ≡ None → OnOk r ((M : Structure) (K : ℕ) → Extends M K complement old new) → OnOk r (Subtracts result covered old new)
+pub subtract_first : {T E : Type 0} (r : Result T E) (result : Option PlannedOperand) (covered : Bool) (old new : Draft) → result ≡ None → OnOk r ((M : Structure) (K : ℕ) → Extends M K complement old new) → OnOk r (Subtracts result covered old new)
 subtract_first (Ok x) result covered old new e h = record {
   follows = λ M K steps taken d w.
       let v : taken.some ≡ false = subst (λ z. IsSoFar M.relations K steps z taken) e w in

@@ -13,9 +13,9 @@ use Rattle.lrp_model.specs.Steps.{Steps, union}
 use Rattle.lrp_model.specs.Plans.{plan_of, plan_of_some, plan_of_others}
 use Rattle.lrp_plan_laws.proofs.PlanLaws.{Makes}
 use Rattle.lrp_plan_laws.proofs.PlanSound.{makes}
-use Rattle.lrp_plan.specs.declared.drafts.Operand.{Operand}
+use Rattle.lrp_plan.specs.declared.drafts.PlannedOperand.{PlannedOperand}
 use Rattle.lrp_plan.specs.declared.drafts.Draft.{Draft}
-use Rattle.lrp_plan.specs.Drafts.{IsDraft, IsOperand, Extends, ExtendsBoth, Unites}
+use Rattle.lrp_plan.specs.Drafts.{IsDraft, IsPlannedOperand, Extends, ExtendsBoth, Unites}
 use Rattle.lrp_plan.specs.Elements.{CanPlan}
 use Rattle.lrp_limits.proofs.Keeping.{common_both}
 use Rattle.lrp_plan.proofs.Takes.{operand_grows}
@@ -26,10 +26,10 @@ pub record AllCan (M : Structure) (K : ℕ) (fs : Forms) : Type 0 where
   pub divide : IsCommon (periods_each fs M.relations) K
 
 -- the elements so far, and the operand that the next one is united with
-pub record SomeSoFar (M : Structure) (fs : Forms) (old now : Draft) (left : Option Operand) : Type 0 where
+pub record SomeSoFar (M : Structure) (fs : Forms) (old now : Draft) (left : Option PlannedOperand) : Type 0 where
   pub follows : (K : ℕ) (planned : Steps) → AllCan M K fs → IsDraft M.relations K old planned → IsDraft M.relations K now (plan_of_some fs M planned)
   pub first : left ≡ None → (fs ≡ no_forms) × (now ≡ old)
-  pub last : (o : Operand) → left ≡ Some o → (now.last ≡ o) × (fs ≡ no_forms → ⊥)
+  pub last : (o : PlannedOperand) → left ≡ Some o → (now.last ≡ o) × (fs ≡ no_forms → ⊥)
 
 pub none_so_far : (M : Structure) (old : Draft) → SomeSoFar M no_forms old old None
 none_so_far M old = record { follows = λ K planned c d. d; first = λ e. (refl, refl); last = λ o e. cc }
@@ -69,7 +69,7 @@ first_one M fs f old now mid new h plans same =
     })
 
 -- a further one
-next_one : (M : Structure) (fs : Forms) (f : Form) (old now mid new : Draft) (o : Operand) → SomeSoFar M fs old now (Some o) → ((K : ℕ) → CanPlan M K f → Extends M K (plan_of f) now mid) → ((K : ℕ) → ExtendsBoth M K o union mid new) → SomeSoFar M (joined fs (form f no_forms)) old new (Some new.last)
+next_one : (M : Structure) (fs : Forms) (f : Form) (old now mid new : Draft) (o : PlannedOperand) → SomeSoFar M fs old now (Some o) → ((K : ℕ) → CanPlan M K f → Extends M K (plan_of f) now mid) → ((K : ℕ) → ExtendsBoth M K o union mid new) → SomeSoFar M (joined fs (form f no_forms)) old new (Some new.last)
 next_one M fs f old now mid new o h plans unites =
     let l = h.last o refl in record {
       follows = λ K planned c d.
@@ -78,8 +78,8 @@ next_one M fs f old now mid new o h plans unites =
           let d1 : IsDraft M.relations K now before = h.follows K planned a.0 d in
           let d2 : IsDraft M.relations K mid (plan_of f M before) = (plans K a.1).follows before d1 in
           let m : Makes M before (plan_of f M before) (Satisfies f M) = makes f a.1.core M before in
-          let p : IsOperand M.relations K before (length before) o = subst (IsOperand M.relations K before (length before)) l.0 d1.last in
-          let q : IsOperand M.relations K (plan_of f M before) (length before) o = subst (λ st. IsOperand M.relations K st (length before) o) (sym m.is) (operand_grows M.relations K before m.more (length before) o p) in
+          let p : IsPlannedOperand M.relations K before (length before) o = subst (IsPlannedOperand M.relations K before (length before)) l.0 d1.last in
+          let q : IsPlannedOperand M.relations K (plan_of f M before) (length before) o = subst (λ st. IsPlannedOperand M.relations K st (length before) o) (sym m.is) (operand_grows M.relations K before m.more (length before) o p) in
           subst (IsDraft M.relations K new) (sym (some_push fs f M planned l.1)) ((unites K).follows (plan_of f M before) (length before) d2 q);
       first = λ x. cc;
       last = λ p x. (let y : new.last ≡ p = cc in y, joined_some fs f);
@@ -89,11 +89,11 @@ next_one M fs f old now mid new o h plans unites =
     joined_some no_forms f e = cc
     joined_some (form g gs) f e = cc
 
-pub one_more : (M : Structure) (fs : List Core) (i : ℕ) (core : Core) (old now mid new : Draft) (left : Option Operand) → suc i ≤ length fs → core ≡ get_or fs i core → SomeSoFar M (cores_of (take i fs)) old now left
+pub one_more : (M : Structure) (fs : List Core) (i : ℕ) (core : Core) (old now mid new : Draft) (left : Option PlannedOperand) → suc i ≤ length fs → core ≡ get_or fs i core → SomeSoFar M (cores_of (take i fs)) old now left
     → ((K : ℕ) → CanPlan M K (core_of core) → Extends M K (plan_of (core_of core)) now mid) → Unites left mid new → SomeSoFar M (cores_of (take (i + 1) fs)) old new (Some new.last)
 one_more M fs i core old now mid new left lt is h plans u =
     subst (λ gs. SomeSoFar M gs old new (Some new.last)) (sym (ap cores_of (take_more fs i core lt ∙ ap (λ x. take i fs ++ x ∷ []) (sym is)) ∙ cores_of-append (take i fs) (core ∷ []))) (by_left left h u)
   where
-    by_left : (left : Option Operand) → SomeSoFar M (cores_of (take i fs)) old now left → Unites left mid new → SomeSoFar M (joined (cores_of (take i fs)) (form (core_of core) no_forms)) old new (Some new.last)
+    by_left : (left : Option PlannedOperand) → SomeSoFar M (cores_of (take i fs)) old now left → Unites left mid new → SomeSoFar M (joined (cores_of (take i fs)) (form (core_of core) no_forms)) old new (Some new.last)
     by_left None h u = first_one M (cores_of (take i fs)) (core_of core) old now mid new h plans (u.none refl)
     by_left (Some o) h u = next_one M (cores_of (take i fs)) (core_of core) old now mid new o h plans (λ K. u.some o refl M K)

@@ -34,9 +34,9 @@ use Rattle.lrp_database.proofs.OnceLaws.{once_in_order}
 use Rattle.lrp_plan.specs.declared.drafts.Draft.{Draft}
 use Rattle.lrp_plan.specs.declared.sources.Sources.{Sources}
 use Rattle.lrp_limits.specs.Capped.{capped}
-use Rattle.lrp_plan.specs.Drafts.{IsDraft, IsDraftOf, Extends, headed}
+use Rattle.lrp_plan.specs.Drafts.{IsDraft, IsDraftOf, Extends, with_head_step}
 use Rattle.lrp_plan.specs.Elements.{CanPlan}
-use Rattle.lrp_limits.specs.Facts.{KeepsPeriod}
+use Rattle.lrp_limits.specs.Facts.{KeepsMultiples}
 use Rattle.lrp_limits.specs.Multiples.{IsPeriod, IsLeastWithinLimit, IsPeriodOf}
 use Rattle.lrp_model.specs.declared.plans.Plan.{Plan}
 use Rattle.lrp_limits.specs.declared.periods.Period.{Period}
@@ -119,7 +119,7 @@ high_period db q h none =
 -- ---- the draft
 
 -- from the period 1 on, the period of a core form
-pub from_one : (ks : List ℕ) (old new : Option ℕ) → KeepsPeriod ks old new → old ≡ Some 1 → IsPeriodOf ks new
+pub from_one : (ks : List ℕ) (old new : Option ℕ) → KeepsMultiples ks old new → old ≡ Some 1 → IsPeriodOf ks new
 from_one ks old new h e = h.keeps [] (subst (IsPeriodOf []) (sym e) least_of_none)
 
 -- no steps are a draft of no plan
@@ -133,7 +133,7 @@ starts db K start s n p r whole = record {
 -- the steps of the core form, and then the last one
 pub whole_follows : (sources : Sources) (f : Form) (k : ℕ) (start mid new : Draft) → start.steps ≡ [] → start.last.number ≡ 0 → start.last.period.number ≡ 1 → start.last.reach ≡ 0
     → ((M : Structure) (K : ℕ) → AreSources M sources → CanPlan M K f → Extends M K (plan_of f) start mid)
-    → ((M : Structure) (K : ℕ) (g : Form) → IsLeastWithinLimit (periods g M.relations) k → IsCommon (periods g M.relations) K → Extends M K (headed g) mid new)
+    → ((M : Structure) (K : ℕ) (g : Form) → IsLeastWithinLimit (periods g M.relations) k → IsCommon (periods g M.relations) K → Extends M K (with_head_step g) mid new)
     → IsWholeDraft sources f k new
 whole_follows sources f k start mid new s n p r core head =
     record { follows = λ M K g a c whole least common. (head M K g least common).follows (plan_of f M []) ((core M K a c).follows [] (starts M.relations K start s n p r whole)) }

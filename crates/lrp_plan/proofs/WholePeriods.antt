@@ -14,7 +14,7 @@ use Rattle.lrp_limits.specs.declared.facts.Facts.{Facts}
 use Rattle.lrp_limits.specs.declared.periods.Period.{Period}
 use Rattle.lrp_plan.specs.declared.sources.Sources.{Sources}
 use Rattle.lrp_limits.specs.Multiples.{IsLeastWithinLimit, IsPeriodOf}
-use Rattle.lrp_limits.specs.Facts.{AreFacts, KeepsPeriod, KeepsRows, KeepsFacts}
+use Rattle.lrp_limits.specs.Facts.{AreFacts, KeepsMultiples, KeepsRows, KeepsFacts}
 use Rattle.lrp_plan.specs.Sources.{AreSources}
 use Rattle.lrp_plan.proofs.Planned.{take_all_of}
 use Rattle.lrp_limits.proofs.Keeping.{common_both, keeps_more, keeps_as, none_stays, stands_for}
@@ -39,20 +39,20 @@ facts_none facts period e = record { keeps = λ all a. record { keeps = λ ks b.
 -- ---- core forms
 
 pub atom_whole : (sources : Sources) (f : Form) (name : Identifier) (terms : _) (facts : Facts) (old new : Option ℕ) → f ≡ atom name terms → ((M : Structure) → AreSources M sources → AreFacts (rows_of M.relations name) facts) → KeepsFacts facts old new
-    → (M : Structure) → AreSources M sources → KeepsPeriod (periods f M.relations) old new
-atom_whole sources f name terms facts old new e h k M s = subst (λ g. KeepsPeriod (periods g M.relations) old new) (sym e) (k.keeps (rows_of M.relations name) (h M s))
+    → (M : Structure) → AreSources M sources → KeepsMultiples (periods f M.relations) old new
+atom_whole sources f name terms facts old new e h k M s = subst (λ g. KeepsMultiples (periods g M.relations) old new) (sym e) (k.keeps (rows_of M.relations name) (h M s))
 
-pub same_whole : (sources : Sources) (f g : Form) (old new : Option ℕ) → ((M : Structure) → periods f M.relations ≡ periods g M.relations) → ((M : Structure) → AreSources M sources → KeepsPeriod (periods g M.relations) old new) → (M : Structure) → AreSources M sources → KeepsPeriod (periods f M.relations) old new
+pub same_whole : (sources : Sources) (f g : Form) (old new : Option ℕ) → ((M : Structure) → periods f M.relations ≡ periods g M.relations) → ((M : Structure) → AreSources M sources → KeepsMultiples (periods g M.relations) old new) → (M : Structure) → AreSources M sources → KeepsMultiples (periods f M.relations) old new
 same_whole sources f g old new e h M s = keeps_as (periods g M.relations) (periods f M.relations) old new (sym (e M)) (h M s)
 
 each_push : (fs : Forms) (f : Form) (db : List Relation) → periods_each (joined fs (form f no_forms)) db ≡ periods_each fs db ++ periods f db
 each_push no_forms f db = append-nil (periods f db)
 each_push (form g fs) f db = ap (λ ks. periods g db ++ ks) (each_push fs f db) ∙ sym (append_assoc (periods g db) (periods_each fs db) (periods f db))
 
-pub each_more : (M : Structure) (fs : List Core) (i : ℕ) (core : Core) (old mid new : Option ℕ) → i < length fs → core ≡ get_or fs i core → KeepsPeriod (periods_each (cores_of (take i fs)) M.relations) old mid → KeepsPeriod (periods (core_of core) M.relations) mid new → KeepsPeriod (periods_each (cores_of (take (i + 1) fs)) M.relations) old new
+pub each_more : (M : Structure) (fs : List Core) (i : ℕ) (core : Core) (old mid new : Option ℕ) → i < length fs → core ≡ get_or fs i core → KeepsMultiples (periods_each (cores_of (take i fs)) M.relations) old mid → KeepsMultiples (periods (core_of core) M.relations) mid new → KeepsMultiples (periods_each (cores_of (take (i + 1) fs)) M.relations) old new
 each_more M fs i core old mid new lt is h k =
     keeps_as _ _ old new (sym (ap (λ gs. periods_each gs M.relations) (ap cores_of (take_more fs i core lt ∙ ap (λ x. take i fs ++ x ∷ []) (sym is)) ∙ cores_of-append (take i fs) (core ∷ [])) ∙ each_push (cores_of (take i fs)) (core_of core) M.relations))
     (keeps_more (periods_each (cores_of (take i fs)) M.relations) (periods (core_of core) M.relations) old mid new h k)
 
-pub each_all : (M : Structure) (fs : List Core) (i : ℕ) (old new : Option ℕ) → length fs ≤ i → KeepsPeriod (periods_each (cores_of (take i fs)) M.relations) old new → KeepsPeriod (periods_each (cores_of fs) M.relations) old new
-each_all M fs i old new le h = subst (λ xs. KeepsPeriod (periods_each (cores_of xs) M.relations) old new) (take_all_of fs i le) h
+pub each_all : (M : Structure) (fs : List Core) (i : ℕ) (old new : Option ℕ) → length fs ≤ i → KeepsMultiples (periods_each (cores_of (take i fs)) M.relations) old new → KeepsMultiples (periods_each (cores_of fs) M.relations) old new
+each_all M fs i old new le h = subst (λ xs. KeepsMultiples (periods_each (cores_of xs) M.relations) old new) (take_all_of fs i le) h

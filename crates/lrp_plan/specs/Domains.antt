@@ -29,5 +29,5 @@ abbrev pub Gathers : List (Sort × Text) → Sort → Text → Domains → Domai
 Gathers db s t old new = (before : List (Sort × Text)) → AreDomains db before old → AreDomains db (before ++ (s, t) ∷ []) new
 
 -- texts in order with one text more
-abbrev pub TakesIn : Text → List Text → List Text → Type 0
-TakesIn t old new = (before : List Text) → old ≡ in_order before → new ≡ in_order (before ++ t ∷ [])
+abbrev pub TakesText : Text → List Text → List Text → Type 0
+TakesText t old new = (before : List Text) → old ≡ in_order before → new ≡ in_order (before ++ t ∷ [])

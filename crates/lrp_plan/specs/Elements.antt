@@ -64,7 +64,7 @@ pub record IsDenied (fs : List Core) (e : Element) (p : PlanElement) : Type 0 wh
   pub inner : AreInner (element_inner e) p.formula
 
 -- where the making of an `and` stands
-pub record IsAt (M : Structure) (K : ℕ) (fs : List Core) (draft : Draft) (ps ns : List Element) (taking : Taking) (s : State) : Type 0 where
+pub record IsMakingAt (M : Structure) (K : ℕ) (fs : List Core) (draft : Draft) (ps ns : List Element) (taking : Taking) (s : State) : Type 0 where
   pub made : IsDraft M.relations K draft s.steps
   pub took : IsTaking M.relations K s.steps taking s.taken s.tests
   pub positives : AllZip (IsElement fs) ps s.positives
@@ -90,13 +90,13 @@ pub record IsSplitOf (M : Structure) (fs : List Core) (split : Split) : Type 0 w
 
 -- so many turns of positives, of tests and of negations
 pub record TakesPositives (M : Structure) (turns : ℕ) (fs : List Core) (ps qs : List Element) (before after : Draft) (old new : Taking) : Type 0 where
-  pub follows : (K : ℕ) (ns : List Element) (s : State) → EachCanPlan M K fs → IsAt M K fs before ps ns old s → IsAt M K fs after qs ns new (take_positives turns M s)
+  pub follows : (K : ℕ) (ns : List Element) (s : State) → EachCanPlan M K fs → IsMakingAt M K fs before ps ns old s → IsMakingAt M K fs after qs ns new (take_positives turns M s)
 
 pub record TakesTests (turns : ℕ) (before after : Draft) (old new : Taking) : Type 0 where
-  pub follows : (M : Structure) (K : ℕ) (fs : List Core) (ps ns : List Element) (s : State) → IsAt M K fs before ps ns old s → IsAt M K fs after ps ns new (take_tests turns M s)
+  pub follows : (M : Structure) (K : ℕ) (fs : List Core) (ps ns : List Element) (s : State) → IsMakingAt M K fs before ps ns old s → IsMakingAt M K fs after ps ns new (take_tests turns M s)
 
 pub record TakesNegations (M : Structure) (turns : ℕ) (fs : List Core) (ns qs : List Element) (before after : Draft) (old new : Taking) : Type 0 where
-  pub follows : (K : ℕ) (ps : List Element) (s : State) → EachCanPlan M K fs → IsAt M K fs before ps ns old s → IsAt M K fs after ps qs new (take_negations turns M s)
+  pub follows : (K : ℕ) (ps : List Element) (s : State) → EachCanPlan M K fs → IsMakingAt M K fs before ps ns old s → IsMakingAt M K fs after ps qs new (take_negations turns M s)
 
 -- so many turns of elements of a kind
 abbrev pub TakesTurns : Kind → Structure → ℕ → List Core → List Element → List Element → Draft → Draft → Taking → Taking → Type 0

@@ -14,7 +14,7 @@ use Rattle.lrp_plan.specs.declared.drafts.Draft.{Draft}
 use Rattle.lrp_plan.specs.declared.planning.PlanFault.{PlanFault}
 use Rattle.lrp_plan.specs.declared.planning.PlanFault.TheVariants.{PeriodLimit, BoundLimit, Memory}
 use Rattle.lrp_plan.specs.declared.sources.Sources.{Sources}
-use Rattle.lrp_plan.specs.Drafts.{IsDraft, headed}
+use Rattle.lrp_plan.specs.Drafts.{IsDraft, with_head_step}
 use Rattle.lrp_plan.specs.Elements.{CanPlan}
 use Rattle.lrp_limits.specs.Multiples.{IsPeriod, IsLeastWithinLimit}
 use Rattle.lrp_plan.specs.Sources.{AreSources}
@@ -27,7 +27,7 @@ IsPastLimits Memory db q = Unit {0}
 
 -- the steps of a core form, and then the last one, of a formula with this period
 pub record IsWholeDraft (sources : Sources) (f : Form) (k : ℕ) (draft : Draft) : Type 0 where
-  pub follows : (M : Structure) (K : ℕ) (g : Form) → AreSources M sources → CanPlan M K f → IsPeriod K → IsLeastWithinLimit (periods g M.relations) k → IsCommon (periods g M.relations) K → IsDraft M.relations K draft (headed g M (plan_of f M []))
+  pub follows : (M : Structure) (K : ℕ) (g : Form) → AreSources M sources → CanPlan M K f → IsPeriod K → IsLeastWithinLimit (periods g M.relations) k → IsCommon (periods g M.relations) K → IsDraft M.relations K draft (with_head_step g M (plan_of f M []))
 
 -- what is read is that of a database and a query, and the core form is the query's
 pub record AreGathered (db : List Relation) (q : Question) (sources : Sources) (f : Form) : Type 0 where

@@ -9,12 +9,12 @@ use Rattle.lrp_model.specs.Steps.{Steps, Rule, join, minus, complement}
 use Rattle.lrp_model.specs.Conjunctions.{Taken, State, select_each, take_in, take_test}
 use Rattle.lrp_model.specs.declared.formulas.Test.{Test}
 use Rattle.lrp_model.specs.declared.relations.Relation.{Relation}
-use Rattle.lrp_plan.specs.declared.drafts.Operand.{Operand}
+use Rattle.lrp_plan.specs.declared.drafts.PlannedOperand.{PlannedOperand}
 use Rattle.lrp_plan.specs.declared.drafts.Draft.{Draft}
 use Rattle.lrp_plan.specs.declared.elements.Kind.{Kind}
 use Rattle.lrp_plan.specs.declared.elements.Kind.TheVariants.{Positive, Negation}
 use Rattle.lrp_plan.specs.declared.taking.Taking.{Taking}
-use Rattle.lrp_plan.specs.Drafts.{IsOperand, IsDraft, AreTests}
+use Rattle.lrp_plan.specs.Drafts.{IsPlannedOperand, IsDraft, AreTests}
 
 -- whether all variables of the test are among these
 abbrev pub covers : List Variable → Test → Bool
@@ -29,9 +29,9 @@ pub record HaveSame (vs ws : List Variable) : Type 0 where
   pub each : (v : Variable) → is_among vs v ≡ is_among ws v
 
 -- the result so far, if there is one
-abbrev pub IsSoFar : List Relation → ℕ → Steps → Option Operand → Taken → Type 0
+abbrev pub IsSoFar : List Relation → ℕ → Steps → Option PlannedOperand → Taken → Type 0
 IsSoFar db K steps None taken = taken.some ≡ false
-IsSoFar db K steps (Some o) taken = (taken.some ≡ true) × IsOperand db K steps taken.result o
+IsSoFar db K steps (Some o) taken = (taken.some ≡ true) × IsPlannedOperand db K steps taken.result o
 
 -- what was taken in, and the tests that remain, none of which is covered where they are settled
 pub record IsTaking (db : List Relation) (K : ℕ) (steps : Steps) (taking : Taking) (taken : Taken) (remaining : List Test) : Type 0 where
@@ -51,7 +51,7 @@ abbrev pub carrying : Taken → List Test → Rule
 carrying taken tests M steps = cond taken.some (join taken.result tests M steps) (select_each tests M steps)
 
 -- these tests were carried
-pub record Carries (result : Option Operand) (tests : List Test) (before after : Draft) : Type 0 where
+pub record Carries (result : Option PlannedOperand) (tests : List Test) (before after : Draft) : Type 0 where
   pub follows : (M : Structure) (K : ℕ) (steps : Steps) (taken : Taken) → AreTests tests → IsDraft M.relations K before steps → IsSoFar M.relations K steps result taken → IsDraft M.relations K after (carrying taken tests M steps)
 
 -- the tests that these variables cover were split from the others, where it is true that settled ones are not covered
@@ -74,7 +74,7 @@ abbrev pub taking_off : Taken → Bool → Rule
 taking_off taken covered M steps = cond (taken.some && covered) (minus taken.result M steps) (cond taken.some (join taken.result [] M (complement M steps)) (complement M steps))
 
 -- the last step was taken off
-pub record Subtracts (result : Option Operand) (covered : Bool) (before after : Draft) : Type 0 where
+pub record Subtracts (result : Option PlannedOperand) (covered : Bool) (before after : Draft) : Type 0 where
   pub follows : (M : Structure) (K : ℕ) (steps : Steps) (taken : Taken) → IsDraft M.relations K before steps → IsSoFar M.relations K steps result taken → IsDraft M.relations K after (taking_off taken covered M steps)
 
 -- the steps after a negation, and what is then taken in
@@ -90,9 +90,9 @@ pub record TakesOff (vs : List Variable) (old new : Taking) (before after : Draf
       → IsDraft M.relations K after (after_negation taken f M steps) × IsTaking M.relations K (after_negation taken f M steps) new (taken_with taken f (after_negation taken f M steps)) tests
 
 -- an element of a kind was taken in or taken off
-abbrev pub Takes : Kind → List Variable → Taking → Taking → Draft → Draft → Type 0
-Takes Positive vs old new before after = TakesIn vs old new before after
-Takes Negation vs old new before after = TakesOff vs old new before after
+abbrev pub TakesElement : Kind → List Variable → Taking → Taking → Draft → Draft → Type 0
+TakesElement Positive vs old new before after = TakesIn vs old new before after
+TakesElement Negation vs old new before after = TakesOff vs old new before after
 
 -- the first of the tests that remain was taken out, if there is one
 abbrev pub NextTest : Taking → Taking → Option Test → Type 0

@@ -5,16 +5,19 @@ ghost use Rattle.std.specs.Option.{option_copied};
 ghost use Rattle.lrp_model.specs.Domains.{database_texts};
 ghost use Rattle.lrp_model.specs.Texts.{in_order};
 ghost use Rattle.lrp_model.specs.declared.relations.Sort.TheVariants.{Data, Named};
-ghost use Rattle.lrp_plan.specs.Domains.{AreDomains, Gathers, TakesIn, gathered};
+ghost use Rattle.lrp_plan.specs.Domains.{AreDomains, Gathers, TakesText, gathered};
 
 use lrp_database::Database;
 use lrp_model::{Copies, DataText, List, Memory, Name, Sort};
 use std::alloc::Global;
 use std::collections::{BTreeSet, HashMap};
 
-/// The texts of a database and a query by their sorts, each once. A data sort of which the query has no text is not among them:
-/// those of the database alone are put in order where they are asked for.
+/// The texts of a database and a query by their sorts, each once, and where memory comes from.
+///
+/// A data sort of which the query has no text is not among them: those of the database alone are put in order where they are
+/// asked for.
 pub(crate) struct Domains {
+    pub(crate) alloc: Global,
     pub(crate) timed: BTreeSet<DataText>,
     pub(crate) unnamed: Option<BTreeSet<DataText>>,
     pub(crate) named: HashMap<Name, BTreeSet<DataText>>,
@@ -24,6 +27,7 @@ pub(crate) struct Domains {
 impl Drop for Domains {
     fn drop(self) {
         let Domains {
+            alloc: _alloc,
             timed: _timed,
             unnamed: _unnamed,
             named: _named,
@@ -41,7 +45,7 @@ pub(crate) fn domains_of(
 {
     let mut domains = Domains::new(alloc, database)?;
     for entry in texts {
-        domains.add(alloc, database, &entry.0, &entry.1)?;
+        domains.add(database, &entry.0, &entry.1)?;
     }
     Ok(domains)
 }
@@ -53,6 +57,7 @@ impl Domains {
     {
         let timed = set_of(alloc, database.texts_of(&Sort::Time).as_slice())?;
         Ok(Domains {
+            alloc,
             timed,
             unnamed: None,
             named: HashMap::new(alloc),
@@ -60,33 +65,23 @@ impl Domains {
     }
 
     // A further text of the query.
-    fn add(
-        &mut self,
-        alloc: Global,
-        database: &Database,
-        sort: &Sort,
-        text: &DataText,
-    ) -> Result<(), Memory>
+    fn add(&mut self, database: &Database, sort: &Sort, text: &DataText) -> Result<(), Memory>
         ensures { OnOk result (Gathers (database_texts database.now) sort.now text.now self.old
             self.new) }
     {
         match sort {
-            Sort::Time => see(alloc, &mut self.timed, text),
-            Sort::Data => self.add_unnamed(alloc, database, text),
-            Sort::Named { name } => self.add_named(alloc, database, sort, name, text),
+            Sort::Time => see(self.alloc, &mut self.timed, text),
+            Sort::Data => self.add_unnamed(database, text),
+            Sort::Named { name } => self.add_named(database, sort, name, text),
         }
     }
 
     // A further text of the sort `data`.
-    fn add_unnamed(
-        &mut self,
-        alloc: Global,
-        database: &Database,
-        text: &DataText,
-    ) -> Result<(), Memory>
+    fn add_unnamed(&mut self, database: &Database, text: &DataText) -> Result<(), Memory>
         ensures { OnOk result (Gathers (database_texts database.now) Data text.now self.old
             self.new) }
     {
+        let alloc = self.alloc;
         match &mut self.unnamed {
             Some(texts) => see(alloc, texts, text),
             None => {
@@ -101,7 +96,6 @@ impl Domains {
     // A further text of the sort of this name.
     fn add_named(
         &mut self,
-        alloc: Global,
         database: &Database,
         sort: &Sort,
         name: &Name,
@@ -111,6 +105,7 @@ impl Domains {
         ensures { OnOk result (Gathers (database_texts database.now) sort.now text.now self.old
             self.new) }
     {
+        let alloc = self.alloc;
         match self.named.get_mut(name) {
             Some(texts) => see(alloc, texts, text),
             None => {
@@ -136,7 +131,7 @@ impl Domains {
 
 // One text more, unless it is there.
 fn see(alloc: Global, texts: &mut BTreeSet<DataText>, text: &DataText) -> Result<(), Memory>
-    ensures { OnOk result (TakesIn text.now (keys texts.old) (keys texts.new)) }
+    ensures { OnOk result (TakesText text.now (keys texts.old) (keys texts.new)) }
 {
     if !texts.contains(text) {
         texts.insert(text.copy(alloc)?)?;

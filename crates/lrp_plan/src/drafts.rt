@@ -7,7 +7,7 @@ ghost use Rattle.lrp_model.specs.Periods.{periods, test_periods};
 ghost use Rattle.lrp_model.specs.Satisfaction.{Structure};
 ghost use Rattle.lrp_model.specs.Steps.{scan_of as scanned, leaf as tested, sort_texts, join as joined, select as selected, union as united, minus as taken_off, complement as complemented, drop_of};
 ghost use Rattle.lrp_limits.specs.Capped.{capped as capped_at};
-ghost use Rattle.lrp_plan.specs.Drafts.{AddsStep, Extends, ExtendsBoth, AreTests, headed};
+ghost use Rattle.lrp_plan.specs.Drafts.{AddsStep, Extends, ExtendsBoth, AreTests, with_head_step};
 ghost use Rattle.lrp_limits.specs.Facts.{AreFacts};
 ghost use Rattle.lrp_limits.specs.Multiples.{IsPeriod, IsLeastWithinLimit};
 
@@ -22,7 +22,7 @@ use std::alloc::Global;
 
 /// What later steps read of a step: its number, its period, and its reach up to 2^62 + 1.
 #[derive(Clone, Copy)]
-pub(crate) struct Operand {
+pub(crate) struct PlannedOperand {
     pub(crate) number: u32,
     pub(crate) period: Period,
     pub(crate) reach: u64,
@@ -31,7 +31,7 @@ pub(crate) struct Operand {
 /// The steps made so far, with reaches up to 2^62 + 1, and what is read of the last of them.
 pub(crate) struct Draft {
     pub(crate) steps: List<Step>,
-    pub(crate) last: Operand,
+    pub(crate) last: PlannedOperand,
 }
 
 // It is let go by one call, which is proved once.
@@ -62,7 +62,7 @@ impl Draft {
     {
         Draft {
             steps: List::new(alloc),
-            last: Operand {
+            last: PlannedOperand {
                 number: 0,
                 period: one(),
                 reach: 0,
@@ -81,7 +81,7 @@ impl Draft {
             period: period.number as i64,
             reach: reach as i64,
         })?;
-        self.last = Operand {
+        self.last = PlannedOperand {
             number,
             period,
             reach,
@@ -131,7 +131,7 @@ impl Draft {
     }
 
     /// An earlier step joined with the last one; the tests name no period.
-    pub(crate) fn join(&mut self, left: Operand, tests: List<Test>) -> Result<(), Memory>
+    pub(crate) fn join(&mut self, left: PlannedOperand, tests: List<Test>) -> Result<(), Memory>
         ensures { OnOk result ((M : Structure) (K : ℕ) → AreTests tests
             → ExtendsBoth M K left (λ number. joined number tests) self.old self.new) }
     {
@@ -168,7 +168,7 @@ impl Draft {
     }
 
     /// An earlier step and the last one.
-    pub(crate) fn union(&mut self, left: Operand) -> Result<(), Memory>
+    pub(crate) fn union(&mut self, left: PlannedOperand) -> Result<(), Memory>
         ensures { OnOk result ((M : Structure) (K : ℕ)
             → ExtendsBoth M K left united self.old self.new) }
     {
@@ -186,7 +186,7 @@ impl Draft {
     }
 
     /// An earlier step without what the last one has.
-    pub(crate) fn minus(&mut self, left: Operand) -> Result<(), Memory>
+    pub(crate) fn minus(&mut self, left: PlannedOperand) -> Result<(), Memory>
         ensures { OnOk result ((M : Structure) (K : ℕ)
             → ExtendsBoth M K left taken_off self.old self.new) }
     {
@@ -246,7 +246,8 @@ impl Draft {
     pub(crate) fn extend(&mut self, period: Period) -> Result<(), Memory>
         ensures { OnOk result ((M : Structure) (K : ℕ) (f : Form)
             → IsLeastWithinLimit (periods f M.relations) period.number
-            → IsCommon (periods f M.relations) K → Extends M K (headed f) self.old self.new) }
+            → IsCommon (periods f M.relations) K
+            → Extends M K (with_head_step f) self.old self.new) }
     {
         let of = self.last;
         let reach = u128::from(of.reach);

@@ -16,7 +16,6 @@ use std::alloc::Global;
 
 /// The step of an atom.
 pub(crate) fn plan_atom(
-    alloc: Global,
     sources: &Sources<'_>,
     draft: &mut Draft,
     relation: &Name,
@@ -25,6 +24,7 @@ pub(crate) fn plan_atom(
     ensures { OnOk result ((M : Structure) (K : ℕ) → AreSources M sources.now
         → MakesSteps M K (atom relation.now terms.now) draft.old draft.new) }
 {
+    let alloc = sources.alloc;
     let facts = sources.facts(relation);
     let relation = relation.copy(alloc)?;
     let terms = copy_terms(alloc, terms)?;
@@ -42,7 +42,6 @@ pub(crate) fn plan_test(alloc: Global, draft: &mut Draft, test: &TermTest<'_>) -
 
 /// The step of a sort element.
 pub(crate) fn plan_sorted(
-    alloc: Global,
     sources: &Sources<'_>,
     draft: &mut Draft,
     sort: &Sort,
@@ -51,7 +50,8 @@ pub(crate) fn plan_sorted(
     ensures { OnOk result ((M : Structure) (K : ℕ) → AreSources M sources.now
         → MakesSteps M K (sorted sort.now name.now) draft.old draft.new) }
 {
-    let texts = sources.texts(alloc, sort)?;
+    let alloc = sources.alloc;
+    let texts = sources.texts(sort)?;
     let name = name.copy(alloc)?;
     let sort = sort.copy(alloc)?;
     draft.sort(name, sort, texts)

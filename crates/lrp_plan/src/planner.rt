@@ -11,7 +11,7 @@ ghost use Rattle.lrp_plan.specs.Drafts.{Extends, Unites};
 ghost use Rattle.lrp_plan.specs.Elements.{AreInner, CanPlan, TakesEach, TakesNext, element_of};
 ghost use Rattle.lrp_plan.specs.Sources.{AreSources};
 
-use crate::drafts::{Draft, Operand};
+use crate::drafts::{Draft, PlannedOperand};
 use crate::elements::{Element, Kind, Split};
 use crate::leaves::{plan_atom, plan_drop, plan_sorted, plan_test};
 use crate::sources::Sources;
@@ -26,7 +26,6 @@ use std::collections::VecDeque;
 // Turns of elements of a kind, each of which is planned in its turn.
 #[derive(Clone, Copy)]
 struct Turns<'a, 'b> {
-    alloc: Global,
     sources: &'a Sources<'b>,
     kind: Kind,
 }
@@ -34,7 +33,6 @@ struct Turns<'a, 'b> {
 /// The steps of a core form behind those that were made. The trees are of the elements in it.
 #[cycle(planning)]
 pub(crate) fn plan_core(
-    alloc: Global,
     sources: &Sources<'_>,
     draft: &mut Draft,
     core: &Core<'_>,
@@ -45,20 +43,18 @@ pub(crate) fn plan_core(
         → Extends M K (plan_of (core_of core.now)) draft.old draft.new) }
 {
     match core {
-        Core::Atom { relation, terms } => {
-            plan_atom(alloc, sources, draft, relation, terms.as_slice())
-        }
-        Core::Check { test } => plan_test(alloc, draft, test),
-        Core::Sorted { sort, name } => plan_sorted(alloc, sources, draft, sort, name),
+        Core::Atom { relation, terms } => { plan_atom(sources, draft, relation, terms.as_slice()) }
+        Core::Check { test } => plan_test(sources.alloc, draft, test),
+        Core::Sorted { sort, name } => plan_sorted(sources, draft, sort, name),
         Core::Not { of } => {
-            plan_core(alloc, sources, draft, of, inner)?;
+            plan_core(sources, draft, of, inner)?;
             draft.complement()
         }
-        Core::And { of } => plan_all(alloc, sources, draft, of, inner),
-        Core::Or { of } => plan_some(alloc, sources, draft, of, inner),
+        Core::And { of } => plan_all(sources, draft, of, inner),
+        Core::Or { of } => plan_some(sources, draft, of, inner),
         Core::Exists { name, sort, of } => {
-            plan_core(alloc, sources, draft, of, inner)?;
-            plan_drop(alloc, draft, name, sort)
+            plan_core(sources, draft, of, inner)?;
+            plan_drop(sources.alloc, draft, name, sort)
         }
     }
 }
@@ -66,7 +62,6 @@ pub(crate) fn plan_core(
 // The first, and then each further one with a `union`.
 #[cycle(planning)]
 fn plan_some(
-    alloc: Global,
     sources: &Sources<'_>,
     draft: &mut Draft,
     of: &[Core<'_>],
@@ -77,9 +72,9 @@ fn plan_some(
         → CanPlan M K (disjunction (cores_of of.now))
         → Extends M K (plan_of (disjunction (cores_of of.now))) draft.old draft.new) }
 {
-    let mut left: Option<Operand> = None;
+    let mut left: Option<PlannedOperand> = None;
     for (index, core) in of.iter().enumerate() {
-        plan_with(alloc, sources, draft, core, inner, index)?;
+        plan_with(sources, draft, core, inner, index)?;
         unite(draft, left)?;
         left = Some(draft.last);
     }
@@ -89,7 +84,6 @@ fn plan_some(
 // The steps of a core form, whose tree is the one at this place.
 #[cycle(planning)]
 fn plan_with(
-    alloc: Global,
     sources: &Sources<'_>,
     draft: &mut Draft,
     core: &Core<'_>,
@@ -102,7 +96,7 @@ fn plan_with(
         → Extends M K (plan_of (core_of core.now)) draft.old draft.new) }
 {
     if index < trees.len() {
-        plan_core(alloc, sources, draft, core, &trees[index].inner)?;
+        plan_core(sources, draft, core, &trees[index].inner)?;
     }
     Ok(())
 }
@@ -110,7 +104,6 @@ fn plan_with(
 // The positives by rank, then the tests that remain, then the negations.
 #[cycle(planning)]
 fn plan_all(
-    alloc: Global,
     sources: &Sources<'_>,
     draft: &mut Draft,
     of: &[Core<'_>],
@@ -121,7 +114,7 @@ fn plan_all(
         → CanPlan M K (conjunction (cores_of of.now))
         → Extends M K (plan_of (conjunction (cores_of of.now))) draft.old draft.new) }
 {
-    let parts = split(alloc, sources, of, inner)?;
+    let parts = split(sources, of, inner)?;
     let Split {
         positives,
         tests,
@@ -129,19 +122,17 @@ fn plan_all(
     } = parts;
     let mut taking = Taking {
         result: None,
-        variables: List::new(alloc),
+        variables: List::new(sources.alloc),
         tests,
         settled: false,
     };
     let turns = Turns {
-        alloc,
         sources,
         kind: Kind::Positive,
     };
     plan_each(turns, draft, of, positives, &mut taking)?;
-    take_tests(alloc, draft, &mut taking)?;
+    take_tests(sources.alloc, draft, &mut taking)?;
     let turns = Turns {
-        alloc,
         sources,
         kind: Kind::Negation,
     };
@@ -163,7 +154,7 @@ fn plan_each(
         draft.old draft.new taking.old taking.new) }
 {
     let count = elements.len();
-    let mut left = Waiting::new(turns.alloc, elements);
+    let mut left = Waiting::new(turns.sources.alloc, elements);
     for _turn in 0..count {
         plan_next(turns, draft, of, &mut left, taking)?;
     }
@@ -184,12 +175,12 @@ fn plan_next(
         taking.new) }
 {
     let turn = taking.turn(turns.kind);
-    match left.take_next(turns.alloc, turn, &taking.variables)? {
+    match left.take_next(turns.sources.alloc, turn, &taking.variables)? {
         None => Ok(()),
         Some(element) => {
             plan_at(turns, draft, of, element.index, &element.tree.inner)?;
             let variables = element.tree.variables.as_slice();
-            taking.take(turns.alloc, draft, turns.kind, variables)
+            taking.take(turns.sources.alloc, draft, turns.kind, variables)
         }
     }
 }
@@ -227,16 +218,14 @@ fn plan_element(
         → Extends M K (plan_of f) draft.old draft.new) }
 {
     match (turns.kind, core) {
-        (Kind::Positive, core) => plan_core(turns.alloc, turns.sources, draft, core, inner),
-        (Kind::Negation, Core::Not { of }) => {
-            plan_core(turns.alloc, turns.sources, draft, of, inner)
-        }
+        (Kind::Positive, core) => plan_core(turns.sources, draft, core, inner),
+        (Kind::Negation, Core::Not { of }) => { plan_core(turns.sources, draft, of, inner) }
         (Kind::Negation, _) => Ok(()),
     }
 }
 
 // The last step united with an earlier one, where there is one.
-fn unite(draft: &mut Draft, left: Option<Operand>) -> Result<(), Memory>
+fn unite(draft: &mut Draft, left: Option<PlannedOperand>) -> Result<(), Memory>
     ensures { OnOk result (Unites left draft.old draft.new) }
 {
     match left {

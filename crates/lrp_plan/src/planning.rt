@@ -14,7 +14,7 @@ ghost use Rattle.lrp_model.specs.declared.relations.Relation.{Relation as Relati
 ghost use Rattle.lrp_model.specs.TestPoints.{points};
 ghost use Rattle.lrp_plan_laws.specs.Rising.{database_periods};
 ghost use Rattle.lrp_plan_laws.specs.Settled.{IsSettled, IsSoundPlan};
-ghost use Rattle.lrp_plan_text.specs.Writable.{StepHasPeriods};
+ghost use Rattle.lrp_print.specs.Writable.{StepHasPeriods};
 ghost use Rattle.lrp_limits.specs.Multiples.{IsPeriodOf};
 ghost use Rattle.lrp_plan.specs.Planning.{IsPastLimits, IsWholeDraft, AreGathered, IsOutcome};
 ghost use Rattle.lrp_plan.specs.Sources.{AreSources};
@@ -129,6 +129,7 @@ fn gather<'a>(alloc: Global, query: &Query, database: &'a Database) -> Result<So
     let texts = query_texts(alloc, query, database)?;
     let domains = domains_of(alloc, database, &texts)?;
     Ok(Sources {
+        alloc,
         database,
         facts,
         texts,
@@ -155,7 +156,7 @@ fn whole_draft(
 {
     let mut draft = Draft::new(alloc);
     let tree = variable_tree(alloc, core)?;
-    plan_core(alloc, sources, &mut draft, core, &tree.inner)?;
+    plan_core(sources, &mut draft, core, &tree.inner)?;
     draft.extend(period)?;
     Ok(draft)
 }

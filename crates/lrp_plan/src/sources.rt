@@ -12,9 +12,10 @@ use lrp_model::{DataText, List, Memory, Name, Sort};
 use std::alloc::Global;
 use std::collections::HashMap;
 
-/// The database, facts of its relations by their names, the texts of the query, each with its sort, and the texts of both by
-/// their sorts.
+/// Where memory comes from, the database, facts of its relations by their names, the texts of the query, each with its sort,
+/// and the texts of both by their sorts.
 pub(crate) struct Sources<'a> {
+    pub(crate) alloc: Global,
     pub(crate) database: &'a Database,
     pub(crate) facts: HashMap<Name, Facts>,
     pub(crate) texts: Vec<(Sort, DataText)>,
@@ -25,6 +26,7 @@ pub(crate) struct Sources<'a> {
 impl<'a> Drop for Sources<'a> {
     fn drop(self) {
         let Sources {
+            alloc: _alloc,
             database: _database,
             facts: _facts,
             texts: _texts,
@@ -46,13 +48,13 @@ impl Sources<'_> {
     }
 
     /// The texts of a sort, each once, in order of bytes.
-    pub(crate) fn texts(&self, alloc: Global, sort: &Sort) -> Result<List<DataText>, Memory>
+    pub(crate) fn texts(&self, sort: &Sort) -> Result<List<DataText>, Memory>
         ensures { IfOk result (λ made. (M : Structure) → AreSources M self.now
             → made ≡ M.domain sort.now) }
     {
         match self.domains.of(sort) {
-            Some(texts) => list_of(alloc, texts),
-            None => ordered(alloc, self.database.texts_of(sort)),
+            Some(texts) => list_of(self.alloc, texts),
+            None => ordered(self.alloc, self.database.texts_of(sort)),
         }
     }
 

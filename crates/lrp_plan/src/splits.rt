@@ -13,7 +13,6 @@ use crate::elements::{Element, Split};
 use crate::sources::Sources;
 use lrp_core::{Core, TermTest, VariableTree};
 use lrp_model::{List, Memory, Test};
-use std::alloc::Global;
 use std::collections::VecDeque;
 
 // The rank of an element that has no number of rows.
@@ -29,7 +28,6 @@ pub(crate) struct Parts<'a> {
 
 /// The positives in order of their ranks, and the tests and the negations, in list order. The elements' trees go with them.
 pub(crate) fn split<'a>(
-    alloc: Global,
     sources: &Sources<'_>,
     of: &[Core<'_>],
     inner: &'a [VariableTree],
@@ -37,13 +35,14 @@ pub(crate) fn split<'a>(
     ensures { IfOk result (λ made. (M : Structure) → AreSources M sources.now
         → AreInner inner.now (conjunction (cores_of of.now)) → IsSplitOf M of.now made) }
 {
+    let alloc = sources.alloc;
     let mut parts = Parts {
         positives: Vec::with_capacity(alloc, of.len())?,
         tests: List::new(alloc),
         negations: VecDeque::new(alloc),
     };
     for (index, core) in of.iter().enumerate() {
-        sort_out_at(alloc, sources, &mut parts, index, core, inner)?;
+        sort_out_at(sources, &mut parts, index, core, inner)?;
     }
     let Parts {
         mut positives,
@@ -60,7 +59,6 @@ pub(crate) fn split<'a>(
 
 // The element at this place of the list, with the tree at this place.
 fn sort_out_at<'a>(
-    alloc: Global,
     sources: &Sources<'_>,
     parts: &mut Parts<'a>,
     index: usize,
@@ -72,14 +70,13 @@ fn sort_out_at<'a>(
         → SortsOut M index core.now tree parts.old parts.new) }
 {
     if index < inner.len() {
-        sort_out(alloc, sources, parts, index, core, &inner[index])?;
+        sort_out(sources, parts, index, core, &inner[index])?;
     }
     Ok(())
 }
 
 // The element at this place of the list, with its tree.
 fn sort_out<'a>(
-    alloc: Global,
     sources: &Sources<'_>,
     parts: &mut Parts<'a>,
     index: usize,
@@ -93,7 +90,7 @@ fn sort_out<'a>(
         Core::Not { .. } => add_negation(parts, index, tree),
         Core::Check { test } => {
             if is_test(test) {
-                let test = test.owned(alloc)?;
+                let test = test.owned(sources.alloc)?;
                 parts.tests.push(test)?;
                 Ok(())
             } else {

@@ -9,9 +9,9 @@ ghost use Rattle.lrp_model.specs.Conjunctions.{select_each as selected_each};
 ghost use Rattle.lrp_plan.specs.Drafts.{AreTests, Extends};
 ghost use Rattle.lrp_plan.specs.Elements.{TakesTests, TurnsTest};
 ghost use Rattle.lrp_plan.specs.Waiting.{turn_of};
-ghost use Rattle.lrp_plan.specs.Taking.{NextTest, Takes, TakesIn, TakesOff, TakesTest, HaveSame, Carries, Splits, Subtracts, covers as covered_by};
+ghost use Rattle.lrp_plan.specs.Taking.{NextTest, TakesElement, TakesIn, TakesOff, TakesTest, HaveSame, Carries, Splits, Subtracts, covers as covered_by};
 
-use crate::drafts::{Draft, Operand};
+use crate::drafts::{Draft, PlannedOperand};
 use crate::elements::Kind;
 use crate::waiting::Turn;
 use lrp_core::{Core, TermTest, Variable, add_variables, covers, free_variables};
@@ -23,7 +23,7 @@ use std::mem;
 /// Where they are settled, the variables cover none of them, so that they need not be looked at until there is a
 /// further variable.
 pub(crate) struct Taking {
-    pub(crate) result: Option<Operand>,
+    pub(crate) result: Option<PlannedOperand>,
     pub(crate) variables: List<Variable>,
     pub(crate) tests: List<Test>,
     pub(crate) settled: bool,
@@ -84,7 +84,7 @@ impl Taking {
         kind: Kind,
         variables: &[Variable],
     ) -> Result<(), Memory>
-        ensures { OnOk result (Takes kind (map variable_of variables.now) self.old self.new
+        ensures { OnOk result (TakesElement kind (map variable_of variables.now) self.old self.new
             draft.old draft.new) }
     {
         match kind {
@@ -185,7 +185,7 @@ fn variables_of(alloc: Global, test: &Test) -> Result<List<Variable>, Memory>
 }
 
 // The last step joined with the result so far, or the tests selected of it where there is no result.
-fn carry(draft: &mut Draft, left: Option<Operand>, tests: List<Test>) -> Result<(), Memory>
+fn carry(draft: &mut Draft, left: Option<PlannedOperand>, tests: List<Test>) -> Result<(), Memory>
     ensures { OnOk result (Carries left tests draft.old draft.new) }
 {
     match left {
@@ -199,7 +199,7 @@ fn carry(draft: &mut Draft, left: Option<Operand>, tests: List<Test>) -> Result<
 fn subtract(
     alloc: Global,
     draft: &mut Draft,
-    left: Option<Operand>,
+    left: Option<PlannedOperand>,
     covered: bool,
 ) -> Result<(), Memory>
     ensures { OnOk result (Subtracts left covered draft.old draft.new) }

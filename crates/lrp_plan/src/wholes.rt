@@ -4,7 +4,7 @@ ghost use Rattle.lrp_core.specs.Cores.{core_of, cores_of, test_of};
 ghost use Rattle.lrp_model.specs.Formulas.{conjunction};
 ghost use Rattle.lrp_model.specs.Periods.{periods, test_periods};
 ghost use Rattle.lrp_model.specs.Satisfaction.{Structure};
-ghost use Rattle.lrp_limits.specs.Facts.{KeepsPeriod, KeepsFacts, KeepsRows};
+ghost use Rattle.lrp_limits.specs.Facts.{KeepsMultiples, KeepsFacts, KeepsRows};
 ghost use Rattle.lrp_plan.specs.Sources.{AreSources};
 
 use crate::sources::Sources;
@@ -20,7 +20,8 @@ pub(crate) fn with_core(
     period: Option<Period>,
 ) -> Option<Period>
     ensures { (M : Structure) → AreSources M sources.now
-        → KeepsPeriod (periods (core_of core.now) M.relations) (option_map (λ p. p.number) period)
+        → KeepsMultiples (periods (core_of core.now) M.relations)
+        (option_map (λ p. p.number) period)
         (option_map (λ p. p.number) result) }
 {
     match core {
@@ -37,7 +38,7 @@ pub(crate) fn with_core(
 #[cycle(periods)]
 fn with_each(sources: &Sources<'_>, of: &[Core<'_>], period: Option<Period>) -> Option<Period>
     ensures { (M : Structure) → AreSources M sources.now
-        → KeepsPeriod (periods (conjunction (cores_of of.now)) M.relations)
+        → KeepsMultiples (periods (conjunction (cores_of of.now)) M.relations)
         (option_map (λ p. p.number) period) (option_map (λ p. p.number) result) }
 {
     let mut all = period;
@@ -70,7 +71,7 @@ fn with_rows(period: Period, rows: Option<Period>) -> Option<Period>
 
 // The period with that of a test.
 fn with_test(period: Option<Period>, test: &TermTest<'_>) -> Option<Period>
-    ensures { KeepsPeriod (test_periods (test_of test.now)) (option_map (λ p. p.number) period)
+    ensures { KeepsMultiples (test_periods (test_of test.now)) (option_map (λ p. p.number) period)
         (option_map (λ p. p.number) result) }
 {
     match test {

@@ -9,7 +9,7 @@ use std::alloc::Global;
 
 /// The text of a database of trips, and that of a query.
 #[derive(Drop)]
-pub struct Texts {
+pub struct SampleTexts {
     pub database: List<u8>,
     pub query: List<u8>,
 }
@@ -54,7 +54,7 @@ fn database_text(alloc: Global, seed: u32, size: u32) -> Result<String, Memory>
 /// # Errors
 ///
 /// Memory was refused.
-pub fn sample_texts(alloc: Global, seed: u32, size: u32) -> Result<Texts, Memory>
+pub fn sample_texts(alloc: Global, seed: u32, size: u32) -> Result<SampleTexts, Memory>
     requires seed { seed ≤ 1000000 }
     requires size { size ≤ 500 }
     ensures database { IfOk result (λ texts. texts.database ≡ sample_database seed size) }
@@ -65,7 +65,7 @@ pub fn sample_texts(alloc: Global, seed: u32, size: u32) -> Result<Texts, Memory
 {
     let database = database_text(alloc, seed, size)?;
     let query = String::from_str(alloc, QUERY)?;
-    Ok(Texts {
+    Ok(SampleTexts {
         database: List::from_vec(database.into_bytes()),
         query: List::from_vec(query.into_bytes()),
     })

@@ -5,7 +5,7 @@ use Rattle.std.specs.List.{AllByRecursion}
 use Rattle.std.specs.Ordering.{ordering_reverse}
 use Rattle.std.proofs.lemmas.Bool.{cases_lt}
 use Rattle.std.proofs.lemmas.Int.{ints}
-use Rattle.lrp_theory.specs.Divides.{IsMember}
+use Rattle.lrp_theory.specs.Divides.{IsPointMember}
 use Rattle.lrp_theory.proofs.Modulo.{Divides-is, Divides-zero}
 use Rattle.lrp_model.specs.Cells.{Many}
 use Rattle.lrp_model.specs.Order.{Before, InWindow, tuple_cmp}
@@ -46,7 +46,7 @@ pairs (t ∷ ts) h (suc i) (suc j) d low high = pairs ts h.1 i j d (omega arith)
 -- ---- the answers of the first day
 
 -- a minute of the day is the residue of its point
-own_residue : (r : ℕ) (x : ℤ) → r < 1440 → (pos 0 ≤ℤ x) × (x ≤ℤ pos 1439) → IsMember (pos r) (pos 1440) x → pos r ≡ x
+own_residue : (r : ℕ) (x : ℤ) → r < 1440 → (pos 0 ≤ℤ x) × (x ≤ℤ pos 1439) → IsPointMember (pos r) (pos 1440) x → pos r ≡ x
 own_residue r x l h m = one_residue 1440 (pos r) x x (omega (arith, ints)) (omega (arith, ints)) h.0 (omega (arith, ints)) m (Divides-is (pos 1440) (pos 0) (x -ℤ x) (omega (arith, ints)) (Divides-zero (pos 1440)))
 
 module _ (seed size : ℕ) where

@@ -3,7 +3,7 @@ use Rattle.std.proofs.Common.{◌≡◌, ℕ, ◌≤◌, Bool, true, false, cond
 use Rattle.std.specs.Prelude.{ℤ, pos, ◌-ℤ◌, ◌≤ℤ◌, ◌<ℤ◌}
 use Rattle.std.specs.List.{AllByRecursion}
 use Rattle.std.proofs.lemmas.Int.{ints}
-use Rattle.lrp_theory.specs.Divides.{Divides, IsMember}
+use Rattle.lrp_theory.specs.Divides.{Divides, IsPointMember}
 use Rattle.lrp_theory.proofs.Modulo.{Divides-is, Divides--, small_multiple}
 use Rattle.lrp_model.specs.Texts.{Text, Identifier}
 use Rattle.lrp_model.specs.Rows.{Datum, time, text}
@@ -17,7 +17,7 @@ use Rattle.lrp_sample_laws.proofs.Few.{HasSome, few}
 
 -- the variable's integer has the cell's residue modulo K, which is from 0 to K - 1; or its text is the cell's
 abbrev pub Lies : ℕ → Assignment → FormCell → Variable → Type 0
-Lies K env cell (time_variable v) = (pos 0 ≤ℤ cell.residues v) × (cell.residues v <ℤ pos K) × IsMember (cell.residues v) (pos K) (env.times v)
+Lies K env cell (time_variable v) = (pos 0 ≤ℤ cell.residues v) × (cell.residues v <ℤ pos K) × IsPointMember (cell.residues v) (pos K) (env.times v)
 Lies K env cell (data_variable v) = env.texts v ≡ cell.texts v
 
 -- the assignment lies in the cell of this number
@@ -30,7 +30,7 @@ LieIn M K n cell vs f = (env : Assignment) → Satisfies f M env → HasSome (Li
 
 -- ---- cells in which one assignment lies are one
 
-pub one_residue : (K : ℕ) (r s x : ℤ) → pos 0 ≤ℤ r → r <ℤ pos K → pos 0 ≤ℤ s → s <ℤ pos K → IsMember r (pos K) x → IsMember s (pos K) x → r ≡ s
+pub one_residue : (K : ℕ) (r s x : ℤ) → pos 0 ≤ℤ r → r <ℤ pos K → pos 0 ≤ℤ s → s <ℤ pos K → IsPointMember r (pos K) x → IsPointMember s (pos K) x → r ≡ s
 one_residue K r s x rl rh sl sh rm sm =
     let d : Divides (pos K) (r -ℤ s) = Divides-is (pos K) ((x -ℤ s) -ℤ (x -ℤ r)) (r -ℤ s) (omega (arith, ints)) (Divides-- (pos K) (x -ℤ s) (x -ℤ r) sm rm) in
     let z : r -ℤ s ≡ pos 0 = small_multiple K (r -ℤ s) d (omega (arith, ints)) (omega (arith, ints)) in
@@ -77,7 +77,7 @@ others s v = filter (λ w. not (same_variable (bound_by s v) w))
 
 -- the value of a variable does not matter at another
 kept : (M : Structure) (K : ℕ) (cell : FormCell) (env : Assignment) (s : Sort) (v : Identifier) (d : Datum) (w : Variable) → IsOfSort M s d → same_variable (bound_by s v) w ≡ false → Lies K (with_value v d env) cell w → Lies K env cell w
-kept M K cell env Time v (time x) (time_variable w) is e h = (h.0, h.1, subst (λ b. IsMember (cell.residues w) (pos K) (cond b x (env.times w))) e h.2)
+kept M K cell env Time v (time x) (time_variable w) is e h = (h.0, h.1, subst (λ b. IsPointMember (cell.residues w) (pos K) (cond b x (env.times w))) e h.2)
 kept M K cell env Time v (time x) (data_variable w) is e h = h
 kept M K cell env Time v (text t) w is e h = absurd is
 kept M K cell env Data v (time x) w is e h = absurd is

@@ -3,7 +3,7 @@ use Rattle.std.proofs.Common.{◌≡◌, ℕ, zero, suc, ◌*◌, ◌≤◌, Lis
 use Rattle.std.specs.Prelude.{ℤ, pos, ◌-ℤ◌, codes, MatchOption}
 use Rattle.std.specs.List.{AllByRecursion}
 use Rattle.std.proofs.lemmas.Int.{ints}
-use Rattle.lrp_theory.specs.Divides.{IsMember}
+use Rattle.lrp_theory.specs.Divides.{IsPointMember}
 use Rattle.lrp_model.specs.Texts.{Text}
 use Rattle.lrp_model.specs.Formulas.{Form, negation, conjunction, exists, no_forms, form}
 use Rattle.lrp_model.specs.Variables.{Variable, time_variable, data_variable, free, head_variables}
@@ -24,7 +24,7 @@ use Rattle.lrp_sample_laws.proofs.TripCells.{world, LiesByTrip, numbered, own_ce
 abbrev one_cell : ℕ → FormCell
 one_cell k = record { residues = λ x. pos 0; texts = λ x. [] }
 
-any_is_member : (x : ℤ) → IsMember (pos 0) (pos 1) x
+any_is_member : (x : ℤ) → IsPointMember (pos 0) (pos 1) x
 any_is_member x = record { times = x -ℤ pos 0; is = omega (arith, ints) }
 
 -- leaves, with k, w and v dropped

@@ -6,7 +6,7 @@ use Rattle.std.proofs.lemmas.Int.{ints}
 use Rattle.std.proofs.lemmas.Bool.{cases_lt}
 use Rattle.std.proofs.lemmas.Nat.{mul-add-lt, div-mul-add, mod-mul-add}
 use Rattle.std.proofs.lemmas.List.FromFn.{length-map-range_with_len, get_or-map-range_with_len}
-use Rattle.lrp_theory.specs.Divides.{IsMember}
+use Rattle.lrp_theory.specs.Divides.{IsPointMember}
 use Rattle.lrp_theory.proofs.Modulo.{Divides-is, Divides-+, Divides-zero, Divides-self, Divides-neg}
 use Rattle.lrp_model.specs.Texts.{Text}
 use Rattle.lrp_model.specs.Rows.{time, text, IsInRow, Holds}
@@ -24,8 +24,8 @@ use Rattle.lrp_sample_laws.proofs.FormCells.{Lies, LiesAt, LieIn}
 
 -- the times and the text are those of trip i, on some day
 record IsOn (seed i : ℕ) (x y : ℤ) (l : Text) : Type 0 where
-  departs : IsMember (pos (departure seed i)) (pos 1440) x
-  arrives : IsMember (pos (arrival seed i)) (pos 1440) y
+  departs : IsPointMember (pos (departure seed i)) (pos 1440) x
+  arrives : IsPointMember (pos (arrival seed i)) (pos 1440) y
   runs : l ≡ line i
 
 on_trip : (seed i : ℕ) (x y : ℤ) (l : Text) → IsInRow (trip seed i) (time x ∷ time y ∷ text l ∷ []) → IsOn seed i x y l
@@ -46,12 +46,12 @@ minute_before d j = (d + (1440 - j)) % 1440
 
 -- the time is at this minute, on some day
 abbrev IsAt : ℕ → ℤ → Type 0
-IsAt r x = (pos 0 ≤ℤ pos r) × (pos r <ℤ pos 1440) × IsMember (pos r) (pos 1440) x
+IsAt r x = (pos 0 ≤ℤ pos r) × (pos r <ℤ pos 1440) × IsPointMember (pos r) (pos 1440) x
 
-is_at : (r : ℕ) (x : ℤ) → r < 1440 → IsMember (pos r) (pos 1440) (x +ℤ pos 0) → IsAt r x
+is_at : (r : ℕ) (x : ℤ) → r < 1440 → IsPointMember (pos r) (pos 1440) (x +ℤ pos 0) → IsAt r x
 is_at r x l h = (omega (arith, ints), omega (arith, ints), Divides-is (pos 1440) ((x +ℤ pos 0) -ℤ pos r) (x -ℤ pos r) (omega (arith, ints)) h)
 
-is_before : (d j : ℕ) → d < 1440 → j < 16 → IsMember (pos (minute_before d j)) (pos 1440) (pos d -ℤ pos j)
+is_before : (d j : ℕ) → d < 1440 → j < 16 → IsPointMember (pos (minute_before d j)) (pos 1440) (pos d -ℤ pos j)
 is_before d j l m = elim (cases_lt d j) [
   | inl lt ↦
       let e : minute_before d j ≡ d + (1440 - j) = omega arith in
@@ -61,7 +61,7 @@ is_before d j l m = elim (cases_lt d j) [
       Divides-is (pos 1440) (pos 0) ((pos d -ℤ pos j) -ℤ pos (minute_before d j)) (omega (arith, ints)) (Divides-zero (pos 1440))
 ]
 
-at_before : (d j : ℕ) (x y : ℤ) → d < 1440 → j < 16 → IsMember (pos d) (pos 1440) (y +ℤ pos 0) → y ≡ x +ℤ pos j → IsAt (minute_before d j) x
+at_before : (d j : ℕ) (x y : ℤ) → d < 1440 → j < 16 → IsPointMember (pos d) (pos 1440) (y +ℤ pos 0) → y ≡ x +ℤ pos j → IsAt (minute_before d j) x
 at_before d j x y l m h e =
     let parts = Divides-+ (pos 1440) ((y +ℤ pos 0) -ℤ pos d) ((pos d -ℤ pos j) -ℤ pos (minute_before d j)) h (is_before d j l m) in
     is_at (minute_before d j) x (omega arith) (Divides-is (pos 1440) (((y +ℤ pos 0) -ℤ pos d) +ℤ ((pos d -ℤ pos j) -ℤ pos (minute_before d j))) ((x +ℤ pos 0) -ℤ pos (minute_before d j)) (omega (arith, ints)) parts)

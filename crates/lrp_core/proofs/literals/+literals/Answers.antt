@@ -8,14 +8,14 @@ use Rattle.lrp_core.proofs.literals.+literals.Goals as goal
 
 pub add_formula-returns-in-And : goal.add_formula-returns-in-And
 add_formula-returns-in-And t c =
-    subst (λ g. OnOk c.add_formulas.result (AddsTexts (form_texts g c.args.database.now c.args.binders.now.items) c.args.binders.now.items c.add_formulas.new.binders.items c.args.all.now.items c.add_formulas.new.all.items))
+    subst (λ g. OnOk c.add_formulas.result (AddsTexts (form_texts g c.args.lookup.database.now c.args.binders.now.items) c.args.binders.now.items c.add_formulas.new.binders.items c.args.all.now.items c.add_formulas.new.all.items))
     (sym (ap form_of c.in-And.is ∙ form_of-And c.in-And.of ∙ ap (λ xs. conjunction (forms_of xs)) (sym c.deref-in-And.ensures.value))) c.add_formulas.ensures
 
 pub add_formula-returns-in-Or : goal.add_formula-returns-in-Or
 add_formula-returns-in-Or t c =
-    subst (λ g. OnOk c.add_formulas-in-Or.result (AddsTexts (form_texts g c.args.database.now c.args.binders.now.items) c.args.binders.now.items c.add_formulas-in-Or.new.binders.items c.args.all.now.items c.add_formulas-in-Or.new.all.items))
+    subst (λ g. OnOk c.add_formulas-in-Or.result (AddsTexts (form_texts g c.args.lookup.database.now c.args.binders.now.items) c.args.binders.now.items c.add_formulas-in-Or.new.binders.items c.args.all.now.items c.add_formulas-in-Or.new.all.items))
     (sym (ap form_of c.in-Or.is ∙ form_of-Or c.in-Or.of ∙ ap (λ xs. disjunction (forms_of xs)) (sym c.deref-in-Or.ensures.value))) c.add_formulas-in-Or.ensures
 
 pub add_formulas-loop-f-preserved : goal.add_formulas-loop-f-preserved
 add_formulas-loop-f-preserved t c =
-    texts_more c.args.database.now c.args.fs.now c.loop-f.f-index c.f-item.result c.args.binders.now.items c.loop-f.binders.items c.add_formula.new.binders.items c.args.all.now.items c.loop-f.all.items c.add_formula.new.all.items c.loop-f-test.true c.f-item.is c.loop-f.invariant c.in_ok-add_formula.ensures
+    texts_more c.args.lookup.database.now c.args.fs.now c.loop-f.f-index c.f-item.result c.args.binders.now.items c.loop-f.binders.items c.add_formula.new.binders.items c.args.all.now.items c.loop-f.all.items c.add_formula.new.all.items c.loop-f-test.true c.f-item.is c.loop-f.invariant c.in_ok-add_formula.ensures

@@ -6,4 +6,4 @@ use Rattle.lrp_core.proofs.literals.+literals.Given as goal
 
 -- those of the formulas so far
 abbrev pub invariant-add_formulas-loop-f : goal.invariant-add_formulas-loop-f
-invariant-add_formulas-loop-f l = AddsTexts (forms_texts (forms_of (take l.f-index l.fs)) l.database l.fn.binders.items) l.fn.binders.items l.binders.items l.fn.all.items l.all.items
+invariant-add_formulas-loop-f l = AddsTexts (forms_texts (forms_of (take l.f-index l.fs)) l.lookup.database.now l.fn.binders.items) l.fn.binders.items l.binders.items l.fn.all.items l.all.items

@@ -9,6 +9,7 @@ use Rattle.lrp_eval.proofs.answering.answer.Goals as goal
 
 pub settled-requires : goal.settled-requires
 settled-requires c = record {
+  valid = c.in_ok-table.ensures.valid;
   room = can_settle c.args.database.now c.requires.plan.query c.args.plan.now c.requires.plan.is c.args.cap c.in_ok-table.table (c.in_ok-table.ensures.table c.requires.plan.query c.requires.plan.is) c.in_ok-table.table.times_named c.in_ok-table.table.texts_named;
 }
 
@@ -32,5 +33,5 @@ invariant_of-result-clause-numbered c = subst (λ d. AreNumbered d c.in_ok-store
 
 pub returns-clause-answer : goal.returns-clause-answer
 returns-clause-answer c = λ q h. answer_of c.args.database.now q c.args.plan.now h c.args.cap c.in_ok-table.table (c.in_ok-table.ensures.table q h) c.in_ok-table.table.times_named c.in_ok-table.table.texts_named
-    c.in_ok-store.store c.in_ok-store.ensures c.shape.ensures.valid _ (ap (λ (x : Head). x.columns) c.in_ok-head.ensures ∙ h.is.head) (c.in_ok-domain.ensures ∙ h.is.domain)
+    c.in_ok-store.store c.in_ok-store.ensures c.in_ok-table.ensures.valid _ (ap (λ (x : Head). x.columns) c.in_ok-head.ensures ∙ h.is.head) (c.in_ok-domain.ensures ∙ h.is.domain)
     (word_is c.in_ok-store.store.period c.period-period.result c.period-period.ensures c.in_ok-store.ensures.valid.period_high) refl

@@ -1,7 +1,7 @@
 -- One zone more has small bounds.
 use Rattle.std.proofs.Common.{◌∙◌}
 use Rattle.lrp_store.specs.Stores.{zones_at}
-use Rattle.lrp_minus.proofs.Lists.{read_begins, read_ends, read_goes, read_next}
+use Rattle.lrp_cutting.proofs.Lists.{read_begins, read_ends, read_goes, read_next}
 use Rattle.lrp_eval.proofs.ReachLaws.{all_within, more_within, none_within}
 use Rattle.lrp_eval.proofs.bounding.has_reach_in.Goals as goal
 

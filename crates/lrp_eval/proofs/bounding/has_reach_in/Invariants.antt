@@ -1,6 +1,6 @@
 -- The first zones have small bounds.
 use Rattle.lrp_store.specs.Stores.{zones_at}
-use Rattle.lrp_minus.proofs.Lists.{IsReadTo}
+use Rattle.lrp_cutting.proofs.Lists.{IsReadTo}
 use Rattle.lrp_eval.proofs.ReachLaws.{AreFirstWithin}
 use Rattle.lrp_eval.proofs.bounding.has_reach_in.Given as goal
 

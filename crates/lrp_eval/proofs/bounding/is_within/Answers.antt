@@ -1,7 +1,7 @@
 -- One place more has a small bound.
 use Rattle.std.proofs.Common.{◌≡◌, inl, inr, None, sym, ap, subst, ◌∙◌, arith, get_or}
 use Rattle.lrp_theory.specs.Entries.{AtMost}
-use Rattle.lrp_minus.proofs.Lists.{below_or}
+use Rattle.lrp_cutting.proofs.Lists.{below_or}
 use Rattle.lrp_eval.proofs.ReachLaws.{low_reach}
 use Rattle.lrp_eval.proofs.bounding.is_within.Goals as goal
 

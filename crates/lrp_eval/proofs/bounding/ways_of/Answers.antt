@@ -11,8 +11,8 @@ word_is p z e h = omega (arith, ints)
 
 pub returns-clause-value : goal.returns-clause-value
 returns-clause-value c =
-    subst (λ d. c.args.period / d * c.args.store.now.period ≡ c.args.period) (sym (word_is c.args.store.now.period c.period.result c.period.ensures c.shape.ensures.valid.period_high))
-    (ways_value c.args.store.now.period c.args.period c.shape.ensures.valid.period_low c.requires.multiple)
+    subst (λ d. c.args.period / d * c.args.store.now.period ≡ c.args.period) (sym (word_is c.args.store.now.period c.period.result c.period.ensures c.requires.valid.period_high))
+    (ways_value c.args.store.now.period c.args.period c.requires.valid.period_low c.requires.multiple)
 
 pub returns-clause-some : goal.returns-clause-some
 returns-clause-some c = ways_some _ c.args.store.now.period c.args.period (returns-clause-value c) c.requires.low

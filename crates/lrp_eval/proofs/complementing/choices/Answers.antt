@@ -1,6 +1,6 @@
 -- One column more.
 use Rattle.std.proofs.Common.{◌≡◌, ◌+◌, ◌*◌, ◌++◌, ◌∷◌, [], length, ◌≤◌, take, refl, ap, sym, subst, ◌∙◌}
-use Rattle.lrp_minus.proofs.Lists.{front_more}
+use Rattle.lrp_cutting.proofs.Lists.{front_more}
 use Rattle.lrp_eval.specs.Together.{ways_for}
 use Rattle.lrp_eval.proofs.ComplementCounts.{same_count, ways_none, ways_some, ways_step}
 use Rattle.lrp_eval.proofs.SettleLaws.{take_whole}

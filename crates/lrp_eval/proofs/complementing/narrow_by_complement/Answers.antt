@@ -2,7 +2,7 @@
 use Rattle.lrp_eval.proofs.ComplementJoins.{joins, joins_left, narrowed_complement, rest_reach, taken_minus, worded_complement}
 use Rattle.lrp_eval.proofs.NarrowLaws.{unworded, worded}
 use Rattle.lrp_eval.proofs.complementing.narrow_by_complement.Goals as goal
-use Rattle.lrp_minus.proofs.Lists.{if_ok}
+use Rattle.lrp_cutting.proofs.Lists.{if_ok}
 
 pub join-requires : goal.join-requires
 join-requires c = joins (worded _ _ _ _ c.requires.narrow) (worded_complement _ _ _ _ _ _ c.requires.narrow c.requires.outside) c.new-tests.ensures

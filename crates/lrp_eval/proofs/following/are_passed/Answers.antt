@@ -1,7 +1,7 @@
 -- One step more is passed.
 use Rattle.std.proofs.Common.{rules, ◌≡◌, ◌+◌, suc, inl, inr, sym, subst, arith}
 use Rattle.lrp_eval.specs.Freeing.{IsDone}
-use Rattle.lrp_minus.proofs.Lists.{below_or}
+use Rattle.lrp_cutting.proofs.Lists.{below_or}
 use Rattle.lrp_eval.proofs.FreeingLaws.{noted_at}
 use Rattle.lrp_eval.proofs.following.are_passed.Goals as goal
 

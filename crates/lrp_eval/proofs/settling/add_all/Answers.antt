@@ -4,8 +4,8 @@ use Rattle.std.specs.Prelude.{pos}
 use Rattle.lrp_zone.specs.Zones.{ZoneView}
 use Rattle.lrp_model.specs.declared.tuples.Shape.{Shape}
 use Rattle.lrp_store.specs.Stores.{StoreView, IsPadded}
-use Rattle.lrp_minus.specs.Settling.{AddsZones}
-use Rattle.lrp_minus.proofs.AddingLaws.{none_added, one_added}
+use Rattle.lrp_cutting.specs.Settling.{AddsZones}
+use Rattle.lrp_cutting.proofs.AddingLaws.{none_added, one_added}
 use Rattle.lrp_eval.proofs.SettleLaws.{take_whole}
 use Rattle.lrp_eval.proofs.settling.add_all.Goals as goal
 use Rattle.lrp_theory.proofs.Members.{front_more}

@@ -4,5 +4,5 @@ use Rattle.std.proofs.lemmas.Bool.{eqb-true}
 use Rattle.lrp_store.proofs.ZoneCounts.{single_zones}
 use Rattle.lrp_eval.proofs.settling.has_single_zones.Goals as goal
 
-pub returns-clause-single : goal.returns-clause-single
-returns-clause-single c = λ e. single_zones c.args.store.now c.shape.ensures.valid (sym c.zones.ensures ∙ eqb-true c.zones.result c.len.result e ∙ c.len.ensures)
+pub returns : goal.returns
+returns c = λ e. single_zones c.args.store.now c.requires (sym c.zones.ensures ∙ eqb-true c.zones.result c.len.result e ∙ c.len.ensures)

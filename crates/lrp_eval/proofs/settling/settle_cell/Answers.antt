@@ -4,9 +4,9 @@ use Rattle.std.specs.Prelude.{pos, Contains}
 use Rattle.lrp_model.specs.declared.tuples.Shape.{Shape}
 use Rattle.lrp_zone.specs.Zones.{ZoneView}
 use Rattle.lrp_store.specs.Stores.{IsPadded}
-use Rattle.lrp_minus.specs.Differences.{AreOfCell}
-use Rattle.lrp_minus.specs.Settling.{AddsZones, IsSettlement, SettlesCell}
-use Rattle.lrp_minus.proofs.Lists.{on_ok}
+use Rattle.lrp_cutting.specs.Differences.{AreOfCell}
+use Rattle.lrp_cutting.specs.Settling.{AddsZones, IsSettlement, SettlesCell}
+use Rattle.lrp_cutting.proofs.Lists.{on_ok}
 use Rattle.lrp_eval.proofs.SettleLaws.{cell_of, one_cell, proper_cell}
 use Rattle.lrp_eval.proofs.StandingLaws.{line_room}
 use Rattle.lrp_eval.proofs.settling.settle_cell.Goals as goal

@@ -8,7 +8,7 @@ use Rattle.lrp_model.specs.Formulas.{atom, test, sorted, negation, exists, conju
 use Rattle.lrp_model.specs.Conjunctions.{first_or_0}
 use Rattle.lrp_plan.specs.declared.taking.Taking.{Taking}
 use Rattle.lrp_plan.specs.Elements.{AreInner, TakesAt, TakesTurns}
-use Rattle.lrp_plan.specs.Taking.{Takes}
+use Rattle.lrp_plan.specs.Taking.{TakesElement}
 use Rattle.lrp_plan.specs.Waiting.{goes_first}
 use Rattle.lrp_plan.proofs.Planned.{leaf_planned, test_planned, not_planned, exists_planned, as_planned, some_planned, all_planned}
 use Rattle.lrp_plan.proofs.FirstTrees.{tree_there, tree_read, none_past}
@@ -100,4 +100,4 @@ plan_next-returns-in_ok-plan_at-in-Some t c =
     (subst (λ turn. TakesAt (first_or_0 (goes_first turn c.args.taking.now.variables) c.args.left.now) c.args.left.now c.take_next.new.self (Some c.in-Some.element)) c.turn-turn.ensures
     (subst (TakesAt (first_or_0 (goes_first c.turn-turn.result c.args.taking.now.variables) c.args.left.now) c.args.left.now c.take_next.new.self) c.in-Some.is c.in_ok-take_next.ensures))
     (λ M K core f s is taken inner can. c.in_ok-plan_at-in-Some.ensures M K core f s is taken (subst (λ ts. AreInner ts f) (sym c.deref.ensures.value) inner) can)
-    (subst (λ vs. OnOk c.take.result (Takes c.args.turns.kind (map variable_of vs) c.args.taking.now c.take.new.self c.plan_at.new.draft c.take.new.draft)) c.as_slice-variables.ensures c.take.ensures)
+    (subst (λ vs. OnOk c.take.result (TakesElement c.args.turns.kind (map variable_of vs) c.args.taking.now c.take.new.self c.plan_at.new.draft c.take.new.draft)) c.as_slice-variables.ensures c.take.ensures)

@@ -11,7 +11,7 @@ use Rattle.lrp_plan.proofs.domains.Domains.add_named.Goals as goal
 pub returns-in-Some : goal.returns-in-Some
 returns-in-Some c =
     let had : get bytes_eq c.args.self.now.named c.args.name.now ≡ Some c.in-Some.texts.now = search rules in
-    named_gathers c.see.result (database_texts c.args.database.now) c.args.sort.now c.args.name.now c.args.text.now c.args.self.now (record { timed = c.args.self.now.timed; unnamed = c.args.self.now.unnamed; named = c.get_mut.follows.lender c.see.new.texts }) c.in-Some.texts.now c.see.new.texts c.requires had refl refl ((c.get_mut.follows.holds c.see.new.texts).3 (search rules)).0 c.see.ensures
+    named_gathers c.see.result (database_texts c.args.database.now) c.args.sort.now c.args.name.now c.args.text.now c.args.self.now (record c.args.self.now { named = c.get_mut.follows.lender c.see.new.texts }) c.in-Some.texts.now c.see.new.texts c.requires had refl refl ((c.get_mut.follows.holds c.see.new.texts).3 (search rules)).0 c.see.ensures
 
 pub returns-in_ok-insert-in-None : goal.returns-in_ok-insert-in-None
 returns-in_ok-insert-in-None c =
@@ -19,4 +19,4 @@ returns-in_ok-insert-in-None c =
     let from : keys c.in_ok-texts-in-None.texts ≡ in_order (once (texts_with c.args.sort.now (database_texts c.args.database.now))) = search rules in
     let put : (m : Identifier) → get bytes_eq c.insert.new.self m ≡ cond (bytes_eq c.args.name.now m) (Some c.see-in-None.new.texts) (get bytes_eq c.args.self.now.named m) =
     λ m. subst (λ k. get bytes_eq c.insert.new.self m ≡ cond (bytes_eq k m) (Some c.see-in-None.new.texts) (get bytes_eq c.args.self.now.named m)) c.in_ok-copy-in-None.ensures (c.in_ok-insert-in-None.ensures.updates.0 m ∙ ap (λ named. cond (bytes_eq c.in_ok-copy-in-None.field-0 m) (Some c.see-in-None.new.texts) (get bytes_eq named m)) c.get_mut.follows.holds-at-none) in
-    first_gathers (database_texts c.args.database.now) c.args.sort.now c.args.name.now c.args.text.now c.args.self.now (record { timed = c.args.self.now.timed; unnamed = c.args.self.now.unnamed; named = c.insert.new.self }) c.in_ok-texts-in-None.texts c.see-in-None.new.texts c.requires none refl refl put from c.in_ok-see-in-None.ensures
+    first_gathers (database_texts c.args.database.now) c.args.sort.now c.args.name.now c.args.text.now c.args.self.now (record c.args.self.now { named = c.insert.new.self }) c.in_ok-texts-in-None.texts c.see-in-None.new.texts c.requires none refl refl put from c.in_ok-see-in-None.ensures

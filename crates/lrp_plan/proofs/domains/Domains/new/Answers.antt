@@ -13,4 +13,4 @@ pub returns : goal.returns
 returns c =
     let timed : keys c.in_ok-timed.timed ≡ in_order (once (texts_with Time (database_texts c.args.database.now))) = search rules in
     let none : (m : Identifier) → get bytes_eq c.new.result m ≡ None = λ m. search rules in
-    begins_all (database_texts c.args.database.now) (record { timed = c.in_ok-timed.timed; unnamed = None; named = c.new.result }) timed refl none
+    begins_all (database_texts c.args.database.now) (record { alloc = c.args.alloc; timed = c.in_ok-timed.timed; unnamed = None; named = c.new.result }) timed refl none
