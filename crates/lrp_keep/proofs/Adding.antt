@@ -17,9 +17,9 @@ use Rattle.lrp_model.proofs.Decided.{cons_cases}
 use Rattle.lrp_plan_laws.proofs.Members.{all_by, all_of, in_one}
 use Rattle.lrp_zone.proofs.Cases.{eq_or}
 use Rattle.lrp_tables.specs.Calls.{tests_reach}
-use Rattle.lrp_kept.specs.Choices.{HasLargePart as HasLargeChoice}
+use Rattle.lrp_kept.specs.Choices.{HasLargeChoicePart as HasLargeChoice}
 use Rattle.lrp_kept.specs.Disjuncts.{AreDisjunctsOf}
-use Rattle.lrp_kept.specs.Held.{AreLowRows, bounds_of, names_of, relation_of, relations_of, row_of}
+use Rattle.lrp_kept.specs.Held.{AreLowRows, greatest_bounds, names_of, held_relation, relations_of, held_row}
 use Rattle.lrp_kept.specs.Keyed.{AreHeldRows, AreRelisted, IsHeldBehind, IsLetGoAt}
 use Rattle.lrp_kept.specs.Keys.{keys_of}
 use Rattle.lrp_kept.specs.Limits.{row_bound, scaled_kept_reach}
@@ -29,7 +29,7 @@ use Rattle.lrp_kept.specs.declared.disjuncts.Disjunct.{Disjunct}
 use Rattle.lrp_kept.specs.declared.disjuncts.JoinedAtom.{JoinedAtom}
 use Rattle.lrp_kept.specs.declared.rows.HeldRelation.{HeldRelation}
 use Rattle.lrp_kept.specs.declared.rows.HeldRows.{HeldRows}
-use Rattle.lrp_kept.specs.declared.rows.Source.{Source}
+use Rattle.lrp_kept.specs.declared.rows.HeldRow.{HeldRow}
 use Rattle.lrp_limits.specs.declared.periods.Period.{Period}
 use Rattle.lrp_kept.proofs.Room.{at_most, atom_room, tests_room}
 use Rattle.lrp_kept.proofs.SameReach.{kept_reach_is}
@@ -38,7 +38,7 @@ use Rattle.lrp_parts.proofs.KeyedRows.{found_at}
 use Rattle.lrp_parts.proofs.Rekeyed.{held_last, held_rows, held_without, keys_here, let_go_rows, let_go_without}
 use Rattle.lrp_parts.proofs.Without.{derived_after, derived_before}
 use Rattle.lrp_keep.specs.Keeps.{CanBeHeld, scaled_reach_of, with_row, StaysWithinLimits}
-use Rattle.lrp_keep.specs.States.{CanBeHeldIn, CanDeriveEach, HasSomeLargePart, IsHoldingCause, IsKeeper, IsKeeping, IsLetGoFrom, IsStillState, ground_at, levels_of, view_of, with_held}
+use Rattle.lrp_keep.specs.States.{CanBeHeldIn, CanDeriveEach, HasSomeLargePart, IsHoldingCause, IsKeeper, IsKeeping, IsLetGoFrom, IsStillState, ground_at, levels_of, keeper_view, with_held}
 use Rattle.lrp_kept.specs.Sketches.{AreSketchesOf, CanBeSketched}
 use Rattle.lrp_keep.specs.Unions.{AreDerived, AreDerivedBut, AreStillBut}
 use Rattle.lrp_keep.specs.Replaced.{replaced}
@@ -64,7 +64,7 @@ use Rattle.lrp_model.proofs.Everywhere.{map_count}
 use Rattle.lrp_algebra.proofs.Steps.{mapped_get}
 
 -- the names of the relations are those of the view
-pub names_in : (sources : ℕ → Option Source) (rs : List HeldRelation) → map (λ (r : Relation). r.name) (relations_of sources rs) ≡ map (λ (r : HeldRelation). r.name) rs
+pub names_in : (sources : ℕ → Option HeldRow) (rs : List HeldRelation) → map (λ (r : Relation). r.name) (relations_of sources rs) ≡ map (λ (r : HeldRelation). r.name) rs
 names_in sources [] = refl
 names_in sources (r ∷ rs) = ap (λ ns. r.name ∷ ns) (names_in sources rs)
 
@@ -74,7 +74,7 @@ names_replaced [] name rows = refl
 names_replaced (r ∷ db) name rows = ap₂ (λ n ns. n ∷ ns) (keeps_name rows name r) (names_replaced db name rows)
 
 -- the reach by the rows that are held
-pub scaled_is : (rows : HeldRows) (period : ℕ) (q : Question) (ds : List Disjunct) → AreDistinct (names_of rows) → AreDisjunctsOf (names_of rows) q ds → scaled_kept_reach (relations_of (get rows.sources) rows.relations.items) (bounds_of rows.relations.items) period q ≡ scaled_over (bounds_of rows.relations.items) period q.head ds
+pub scaled_is : (rows : HeldRows) (period : ℕ) (q : Question) (ds : List Disjunct) → AreDistinct (names_of rows) → AreDisjunctsOf (names_of rows) q ds → scaled_kept_reach (relations_of (get rows.sources) rows.relations.items) (greatest_bounds rows.relations.items) period q ≡ scaled_over (greatest_bounds rows.relations.items) period q.head ds
 scaled_is rows period q ds distinct are = ap (λ n. 2 ^ (time_count q.head + 1) * n) (kept_reach_is (get rows.sources) rows.relations.items distinct period q ds are)
 
 -- a list with one element more, split at its end
@@ -96,7 +96,7 @@ module _ (of : KeptQuery) (old : State) (is : IsKeeping of old) (relation : ℕ)
   q = question_of of.query.now
 
   abbrev bounds : List ℕ
-  bounds = bounds_of old.rows.relations.items
+  bounds = greatest_bounds old.rows.relations.items
 
   abbrev db : List Relation
   db = relations_of (get old.rows.sources) old.rows.relations.items
@@ -145,7 +145,7 @@ module _ (of : KeptQuery) (old : State) (is : IsKeeping of old) (relation : ℕ)
           read = can_be_read of.domain fits.held.columns row a.terms period fits.row_fits (count d a listed own e) positive high (fits.periods (read d a listed own e)) (omega (arith, l, m, r));
         }
 
-    module _ (new : HeldRows) (key : ℕ) (source : Source) (relation_is : source.relation ≡ relation) (row_is : source.row ≡ row) (sketches : AreSketchesOf of.domain ds relation row source.sketches.items) (w : IsHeldBehind source key old.rows new) where
+    module _ (new : HeldRows) (key : ℕ) (source : HeldRow) (relation_is : source.relation ≡ relation) (row_is : source.row ≡ row) (sketches : AreSketchesOf of.domain ds relation row source.sketches.items) (w : IsHeldBehind source key old.rows new) where
       own_low : source.relation < length old.rows.relations.items
       own_low = subst (λ n. n < length old.rows.relations.items) (sym relation_is) low
 
@@ -194,7 +194,7 @@ module _ (of : KeptQuery) (old : State) (is : IsKeeping of old) (relation : ℕ)
       names_now : names_of new ≡ names_of old.rows
       names_now = names_stay old.rows new relation (keys_of old.rows relation ++ key ∷ []) listed_now
 
-      bounds_now : bounds_of new.relations.items ≡ bounds
+      bounds_now : greatest_bounds new.relations.items ≡ bounds
       bounds_now =
           let a = relisted_alike (λ h s. s.most ≡ h.most) relation (keys_of old.rows relation ++ key ∷ []) old.rows.relations.items new.relations.items listed_now (λ h. refl) (λ h s at x. x.most) in
           same_images (λ (h : HeldRelation). h.most) (λ (h : HeldRelation). h.most) old.rows.relations.items new.relations.items a.count a.each
@@ -211,7 +211,7 @@ module _ (of : KeptQuery) (old : State) (is : IsKeeping of old) (relation : ℕ)
                 let place : i ≡ relation = (last_now 0).alone i (subst (λ x. Contains (keys_of new i) x) same_key here) in
                 let held : h.0 ≡ fits.held = some_is h.0 fits.held (sym h.1 ∙ ap (slice_get old.rows.relations.items) place ∙ fits.at) in
                 let own : s ≡ source = some_is s source (sym e ∙ ap (get new.sources) same_key ∙ w.there) in
-                subst (λ (x : HeldRelation). row_bound s.row ≤ x.most) (sym held) (subst (λ r. row_bound r ≤ fits.held.most) (sym (ap (λ (x : Source). x.row) own ∙ row_is)) fits.low)
+                subst (λ (x : HeldRelation). row_bound s.row ≤ x.most) (sym held) (subst (λ r. row_bound r ≤ fits.held.most) (sym (ap (λ (x : HeldRow). x.row) own ∙ row_is)) fits.low)
             | inr other ↦
                 let was : Contains (keys_of old.rows i) k = without.from i k here other in
                 is.low i k h.0 s h.1 (subst (λ l. Contains l k) (keys_at old.rows i h.0 h.1) was) (without.sources k other ∙ e)
@@ -223,7 +223,7 @@ module _ (of : KeptQuery) (old : State) (is : IsKeeping of old) (relation : ℕ)
           let can = is.state.can i d at in
           let listed : Contains ds d = Contains-from_get ds i d at in
           let g : Ground = ground_at of new period in
-          let high_now : scaled_over (bounds_of new.relations.items) period of.query.now.head.columns ds ≤ 2 ^ 62 = subst (λ bs. scaled_over bs period of.query.now.head.columns ds ≤ 2 ^ 62) (sym bounds_now) reach in
+          let high_now : scaled_over (greatest_bounds new.relations.items) period of.query.now.head.columns ds ≤ 2 ^ 62 = subst (λ bs. scaled_over bs period of.query.now.head.columns ds ≤ 2 ^ 62) (sym bounds_now) reach in
           let tests_high = tests_room bounds period of.query.now.head.columns ds reach d listed can.some in
           record {
             low = omega (arith, positive);
@@ -235,11 +235,11 @@ module _ (of : KeptQuery) (old : State) (is : IsKeeping of old) (relation : ℕ)
             tests = can.tests;
             tests_room = at_most bounds period of.query.now.head.columns ds reach d listed can.some (tests_reach d.tests + period) tests_high;
             room = tests_high;
-            rows = λ j a k p c. read_by g (bounds_of new.relations.items) ds d listed can.some high_now j a k p (readable_now i d at j a k p c);
+            rows = λ j a k p c. read_by g (greatest_bounds new.relations.items) ds d listed can.some high_now j a k p (readable_now i d at j a k p c);
             head = λ a p. let c = can.head a p in record { names = c.names };
           }
         where
-          readable_now : (i : ℕ) (d : Disjunct) → slice_get ds i ≡ Some d → (j : ℕ) (a : JoinedAtom) (k : ℕ) → slice_get d.atoms.items j ≡ Some a → Contains (keys_of new a.relation) k → IsReadable (ground_at of new period) (bounds_of new.relations.items) d j a k
+          readable_now : (i : ℕ) (d : Disjunct) → slice_get ds i ≡ Some d → (j : ℕ) (a : JoinedAtom) (k : ℕ) → slice_get d.atoms.items j ≡ Some a → Contains (keys_of new a.relation) k → IsReadable (ground_at of new period) (greatest_bounds new.relations.items) d j a k
           readable_now i d at j a k p c =
               let can = is.state.can i d at in
               let listed : Contains ds d = Contains-from_get ds i d at in
@@ -276,7 +276,7 @@ module _ (of : KeptQuery) (old : State) (is : IsKeeping of old) (relation : ℕ)
       rows_now : rows_under (get new.sources) (keys_of old.rows relation ++ key ∷ []) ≡ rows_of db fits.held.name ++ row ∷ []
       rows_now =
           let front : rows_under (get new.sources) (keys_of old.rows relation) ≡ rows_under (get old.rows.sources) (keys_of old.rows relation) = rows_same (get new.sources) (get old.rows.sources) (keys_of old.rows relation) was_other in
-          let back : rows_under (get new.sources) (key ∷ []) ≡ row ∷ [] = append-nil (row_of (get new.sources key)) ∙ ap row_of w.there ∙ ap (λ r. r ∷ []) row_is in
+          let back : rows_under (get new.sources) (key ∷ []) ≡ row ∷ [] = append-nil (held_row (get new.sources key)) ∙ ap held_row w.there ∙ ap (λ r. r ∷ []) row_is in
           let own : rows_of db fits.held.name ≡ rows_under (get old.rows.sources) (keys_of old.rows relation) = ap rows_in (found_at (get old.rows.sources) old.rows.relations.items relation fits.held is.distinct fits.at) ∙ ap (rows_under (get old.rows.sources)) (sym (keys_at old.rows relation fits.held fits.at)) in
           rows_both (get new.sources) (keys_of old.rows relation) (key ∷ []) ∙ ap₂ (λ a b. a ++ b) (front ∙ sym own) back
 
@@ -291,7 +291,7 @@ module _ (of : KeptQuery) (old : State) (is : IsKeeping of old) (relation : ℕ)
       distinct_now : AreDistinct (names_of new)
       distinct_now = subst AreDistinct (sym names_now) is.distinct
 
-      reach_now : scaled_kept_reach (relations_of (get new.sources) new.relations.items) (bounds_of new.relations.items) period q ≤ 2 ^ 62
+      reach_now : scaled_kept_reach (relations_of (get new.sources) new.relations.items) (greatest_bounds new.relations.items) period q ≤ 2 ^ 62
       reach_now = subst (λ n. n ≤ 2 ^ 62) (sym (scaled_is new period q ds distinct_now disjuncts_now)) (subst (λ bs. scaled_over bs period of.query.now.head.columns ds ≤ 2 ^ 62) (sym bounds_now) reach)
 
       -- some part has too many cells
@@ -309,26 +309,26 @@ module _ (of : KeptQuery) (old : State) (is : IsKeeping of old) (relation : ℕ)
         rows_fit : AllByRecursion (λ (r : Relation). AllByRecursion (CanBeHeld of.domain r.columns) r.rows) (with_row db name row)
         rows_fit = all_fit (rows_of db name ++ row ∷ []) name of.domain db is.rows (λ r c e.
             let found = found_at (get old.rows.sources) old.rows.relations.items relation fits.held is.distinct fits.at in
-            let here : r ≡ relation_of (get old.rows.sources) fits.held = one_named r c (e ∙ sym (named name name_is)) in
-            let own : rows_of db name ≡ (relation_of (get old.rows.sources) fits.held).rows = ap (λ n. rows_in (relation_named db n)) (sym (named name name_is)) ∙ ap rows_in found in
+            let here : r ≡ held_relation (get old.rows.sources) fits.held = one_named r c (e ∙ sym (named name name_is)) in
+            let own : rows_of db name ≡ (held_relation (get old.rows.sources) fits.held).rows = ap (λ n. rows_in (relation_named db n)) (sym (named name name_is)) ∙ ap rows_in found in
             subst (λ (x : Relation). AllByRecursion (CanBeHeld of.domain x.columns) (rows_of db name ++ row ∷ [])) (sym here)
             (all_by (CanBeHeld of.domain fits.held.columns) (rows_of db name ++ row ∷ []) (λ x i. elim (in_one (rows_of db name) (row ∷ []) x i) [
-              | inl j ↦ all_of (CanBeHeld of.domain fits.held.columns) (relation_of (get old.rows.sources) fits.held).rows x (all_of (λ (r : Relation). AllByRecursion (CanBeHeld of.domain r.columns) r.rows) db (relation_of (get old.rows.sources) fits.held) is.rows (Contains-from_get db relation (relation_of (get old.rows.sources) fits.held) (mapped_get (relation_of (get old.rows.sources)) old.rows.relations.items relation fits.held fits.at))) (subst (λ l. Contains l x) own j)
+              | inl j ↦ all_of (CanBeHeld of.domain fits.held.columns) (held_relation (get old.rows.sources) fits.held).rows x (all_of (λ (r : Relation). AllByRecursion (CanBeHeld of.domain r.columns) r.rows) db (held_relation (get old.rows.sources) fits.held) is.rows (Contains-from_get db relation (held_relation (get old.rows.sources) fits.held) (mapped_get (held_relation (get old.rows.sources)) old.rows.relations.items relation fits.held fits.at))) (subst (λ l. Contains l x) own j)
               | inr j ↦ elim (cons_cases row x [] j) [ inl s ↦ subst (CanBeHeld of.domain fits.held.columns) s fits.row_fits | inr none ↦ absurd (let l : none.0 < 0 = none.1 in omega (arith, l)) ]
             ])))
           where
-            one_named : (r : Relation) → Contains db r → r.name ≡ fits.held.name → r ≡ relation_of (get old.rows.sources) fits.held
+            one_named : (r : Relation) → Contains db r → r.name ≡ fits.held.name → r ≡ held_relation (get old.rows.sources) fits.held
             one_named r c e =
                 let p = place_in db r c in
-                let m = at_mapped (relation_of (get old.rows.sources)) old.rows.relations.items p.0 r p.1 in
+                let m = at_mapped (held_relation (get old.rows.sources)) old.rows.relations.items p.0 r p.1 in
                 let found = found_at (get old.rows.sources) old.rows.relations.items p.0 m.0 is.distinct m.1 in
                 let own = found_at (get old.rows.sources) old.rows.relations.items relation fits.held is.distinct fits.at in
                 let same : m.0.name ≡ fits.held.name = ap (λ (x : Relation). x.name) m.2 ∙ e in
-                sym m.2 ∙ some_is (relation_of (get old.rows.sources) m.0) (relation_of (get old.rows.sources) fits.held) (sym found ∙ ap (relation_named db) same ∙ own)
+                sym m.2 ∙ some_is (held_relation (get old.rows.sources) m.0) (held_relation (get old.rows.sources) fits.held) (sym found ∙ ap (relation_named db) same ∙ own)
 
         -- the new state
         module _ (after : State) (rows_are : after.rows ≡ new) (period_is : after.period.number ≡ period) (derived : AreDerived (ground_at of new period) ds (levels_of after)) where
-          relations_are : (view_of of after).relations ≡ with_row db name row
+          relations_are : (keeper_view of after).relations ≡ with_row db name row
           relations_are = ap (λ (r : HeldRows). relations_of (get r.sources) r.relations.items) rows_are ∙ relations_with name name_is
 
           keeping_after : IsKeeping of after
@@ -348,13 +348,13 @@ module _ (of : KeptQuery) (old : State) (is : IsKeeping of old) (relation : ℕ)
             low = subst AreLowRows (sym rows_are) low_now;
           }
 
-          reach_after : scaled_reach_of (view_of of after) ≤ 2 ^ 62
-          reach_after = subst (λ (r : HeldRows). scaled_kept_reach (relations_of (get r.sources) r.relations.items) (bounds_of r.relations.items) after.period.number q ≤ 2 ^ 62) (sym rows_are) (subst (λ n. scaled_kept_reach (relations_of (get new.sources) new.relations.items) (bounds_of new.relations.items) n q ≤ 2 ^ 62) (sym period_is) reach_now)
+          reach_after : scaled_reach_of (keeper_view of after) ≤ 2 ^ 62
+          reach_after = subst (λ (r : HeldRows). scaled_kept_reach (relations_of (get r.sources) r.relations.items) (greatest_bounds r.relations.items) after.period.number q ≤ 2 ^ 62) (sym rows_are) (subst (λ n. scaled_kept_reach (relations_of (get new.sources) new.relations.items) (greatest_bounds new.relations.items) n q ≤ 2 ^ 62) (sym period_is) reach_now)
 
           pub keeper_after : IsKeeper of after
           keeper_after = record { keeping = keeping_after; reach = reach_after }
 
-          pub limits_after : StaysWithinLimits (view_of of after)
+          pub limits_after : StaysWithinLimits (keeper_view of after)
           limits_after = record {
             period = subst (λ n. n ≤ 2 ^ 62) (sym period_is) high;
             reach = reach_after;
@@ -363,11 +363,11 @@ module _ (of : KeptQuery) (old : State) (is : IsKeeping of old) (relation : ℕ)
                 (subst (λ (r : HeldRows). HasLargeChoice (relations_of (get r.sources) r.relations.items) q of.domain after.period.number of.cap) rows_are large));
           }
 
-          pub view_after : view_of of after ≡ with_held (view_of of old) name row period
+          pub view_after : keeper_view of after ≡ with_held (keeper_view of old) name row period
           view_after =
-              ap (λ rs. record { query = of.query.now; domain = of.domain; cap = of.cap; relations = rs; period = after.period.number; bounds = bounds_of after.rows.relations.items }) relations_are
-              ∙ ap (λ n. record { query = of.query.now; domain = of.domain; cap = of.cap; relations = with_row db name row; period = n; bounds = bounds_of after.rows.relations.items }) period_is
-              ∙ ap (λ bs. record { query = of.query.now; domain = of.domain; cap = of.cap; relations = with_row db name row; period = period; bounds = bs }) (ap (λ (r : HeldRows). bounds_of r.relations.items) rows_are ∙ bounds_now)
+              ap (λ rs. record { query = of.query.now; domain = of.domain; cap = of.cap; relations = rs; period = after.period.number; bounds = greatest_bounds after.rows.relations.items }) relations_are
+              ∙ ap (λ n. record { query = of.query.now; domain = of.domain; cap = of.cap; relations = with_row db name row; period = n; bounds = greatest_bounds after.rows.relations.items }) period_is
+              ∙ ap (λ bs. record { query = of.query.now; domain = of.domain; cap = of.cap; relations = with_row db name row; period = period; bounds = bs }) (ap (λ (r : HeldRows). greatest_bounds r.relations.items) rows_are ∙ bounds_now)
 
       -- ---- what a refusal leaves
 

@@ -9,7 +9,7 @@ use Rattle.lrp_tables.proofs.Passing.{nothing_at}
 use Rattle.lrp_tables.specs.Columns.{head_texts, head_times}
 use Rattle.lrp_parts.specs.Derivations.{HoldsIn, Levels}
 use Rattle.lrp_keep.specs.States.{IsKeeping, levels_of}
-use Rattle.lrp_keep.specs.Taken.{AreAlike, HasTakenSome, HaveReach}
+use Rattle.lrp_keep.specs.Taken.{AreAlike, HasTakenSome, HeldHaveReach}
 use Rattle.lrp_keep.specs.Unions.{HoldsAll}
 use Rattle.lrp_keep.specs.declared.kept_query.KeptQuery.{KeptQuery}
 use Rattle.lrp_keep.specs.declared.states.State.{State}
@@ -63,7 +63,7 @@ module _ (of : KeptQuery) (s : State) (is : IsKeeping of s) (start : StoreView) 
     pub all_hold : HoldsAll all of.domain final
     all_hold = holds_all all of.domain start final nothing taken
 
-    pub all_reach : (high : ℕ) → ((levels : Levels) → Contains all levels → HaveReach (HoldsIn levels (length levels - 1)) high) → HasReach final high
+    pub all_reach : (high : ℕ) → ((levels : Levels) → Contains all levels → HeldHaveReach (HoldsIn levels (length levels - 1)) high) → HasReach final high
     all_reach high each = taken.within high (λ keys store x. each x.1 (Contains-from_get all x.0 x.1 x.3) keys store x.4) (record { each = λ cell table c. absurd (nothing_at start empty cell table c) })
 
 -- the period as it is passed

@@ -3,7 +3,7 @@ use Rattle.std.proofs.Common.{◌≡◌, ◌<◌, ◌≤◌, ℕ, true, false, L
 use Rattle.std.proofs.lemmas.Bool.{ltb-false, ltb-true}
 use Rattle.lrp_model.specs.declared.relations.Column.{Column}
 use Rattle.lrp_limits.specs.Capped.{capped}
-use Rattle.lrp_kept.specs.Held.{bounds_of}
+use Rattle.lrp_kept.specs.Held.{greatest_bounds}
 use Rattle.lrp_kept.specs.Sizes.{scaled_over}
 use Rattle.lrp_kept.specs.declared.disjuncts.Disjunct.{Disjunct}
 use Rattle.lrp_kept.specs.declared.rows.HeldRelation.{HeldRelation}
@@ -14,7 +14,7 @@ above_limit r n e t = let l : 4611686018427387904 < r = ltb-true 461168601842738
 pub within_limit : (r n : ℕ) → r ≡ capped n → ltb 4611686018427387904 r ≡ false → n ≤ 4611686018427387904
 within_limit r n e t = let l : r ≤ 4611686018427387904 = ltb-false 4611686018427387904 r t in omega (arith, e, l)
 
-pub same_reach : (period : ℕ) (rs relations : List HeldRelation) (cs columns : List Column) (ds disjuncts : List Disjunct) (r : ℕ) → rs ≡ relations → cs ≡ columns → ds ≡ disjuncts → r ≡ capped (scaled_over (bounds_of rs) period cs ds) → r ≡ capped (scaled_over (bounds_of relations) period columns disjuncts)
+pub same_reach : (period : ℕ) (rs relations : List HeldRelation) (cs columns : List Column) (ds disjuncts : List Disjunct) (r : ℕ) → rs ≡ relations → cs ≡ columns → ds ≡ disjuncts → r ≡ capped (scaled_over (greatest_bounds rs) period cs ds) → r ≡ capped (scaled_over (greatest_bounds relations) period columns disjuncts)
 same_reach period rs relations cs columns ds disjuncts r e f g h =
-    subst (λ x. r ≡ capped (scaled_over (bounds_of x) period columns disjuncts)) e
-    (subst (λ x. r ≡ capped (scaled_over (bounds_of rs) period x disjuncts)) f (subst (λ x. r ≡ capped (scaled_over (bounds_of rs) period cs x)) g h))
+    subst (λ x. r ≡ capped (scaled_over (greatest_bounds x) period columns disjuncts)) e
+    (subst (λ x. r ≡ capped (scaled_over (greatest_bounds rs) period x disjuncts)) f (subst (λ x. r ≡ capped (scaled_over (greatest_bounds rs) period cs x)) g h))

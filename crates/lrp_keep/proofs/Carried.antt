@@ -7,7 +7,7 @@ use Rattle.lrp_store.specs.Stores.{StoreView}
 use Rattle.lrp_parts.specs.Derivations.{AreReleased, CanBeReadBy, CanDerive, Ground, HoldsIn, IsDerivedFrom, IsWithoutKey, Levels}
 use Rattle.lrp_parts.proofs.Without.{derived_after, derived_before, with_rows}
 use Rattle.lrp_kept.specs.Keys.{keys_in, keys_of}
-use Rattle.lrp_kept.specs.Keyed.{AreHeldRows, StandOnce}
+use Rattle.lrp_kept.specs.Keyed.{AreHeldRows, HaveOwnKeys}
 use Rattle.lrp_kept.specs.declared.disjuncts.Disjunct.{Disjunct}
 use Rattle.lrp_kept.specs.declared.rows.HeldRelation.{HeldRelation}
 use Rattle.lrp_kept.specs.declared.rows.HeldRows.{HeldRows}
@@ -64,7 +64,7 @@ same_derived g others d levels a derived =
 pub same_held_rows : (old new : HeldRows) → AreAsHeld old new → AreHeldRows old → AreHeldRows new
 same_held_rows old new a h = record {
   there = λ i k c. let s = h.there i k (subst (λ l. Contains l k) (a.keys i) c) in record { source = s.source; held = a.sources k ∙ s.held; relation_is = s.relation_is };
-  once = λ i. subst (λ l. StandOnce l) (sym (a.keys i)) (h.once i);
+  once = λ i. subst (λ l. HaveOwnKeys l) (sym (a.keys i)) (h.once i);
 }
 
 -- ---- what can be derived

@@ -25,7 +25,7 @@ use Rattle.lrp_plan_laws.proofs.Names.{names_self}
 use Rattle.lrp_model.specs.Variables.{free}
 use Rattle.lrp_kept.specs.Choices.{as_list, disjunct_tests, listed_disjuncts, tests_among}
 use Rattle.lrp_kept.specs.Disjuncts.{AreDisjunctsOf, IsAtomOf, IsDisjunctOf}
-use Rattle.lrp_kept.specs.KeptForm.{elements, is_neither, some_passes}
+use Rattle.lrp_kept.specs.KeptForm.{kept_elements, is_neither, some_passes}
 use Rattle.lrp_kept.specs.Limits.{names_relation}
 use Rattle.lrp_kept.specs.Sizes.{is_reader, tested_periods}
 use Rattle.lrp_kept.specs.declared.disjuncts.Disjunct.{Disjunct}
@@ -214,7 +214,7 @@ module _ (db : List Relation) where
   period_of (form (exists v s f) fs) k e h = absurd (false≢true (sym e))
   period_of (form (forall v s f) fs) k e h = absurd (false≢true (sym e))
 
-  to_elements : (f : Form) (k : ℕ) → Contains (periods f db) k → Contains (periods_each (elements f) db) k
+  to_elements : (f : Form) (k : ℕ) → Contains (periods f db) k → Contains (periods_each (kept_elements f) db) k
   to_elements (exists v s f) k c = to_elements f k c
   to_elements (conjunction fs) k c = c
   to_elements (atom name ts) k c = in_left (periods (atom name ts) db) [] k c
@@ -228,7 +228,7 @@ module _ (db : List Relation) where
   in_first : (ks : List ℕ) (k : ℕ) → Contains (ks ++ []) k → Contains ks k
   in_first ks k c = elim (in_one ks [] k c) [ inl d ↦ d | inr d ↦ absurd (nowhere k d) ]
 
-  from_elements : (f : Form) (k : ℕ) → Contains (periods_each (elements f) db) k → Contains (periods f db) k
+  from_elements : (f : Form) (k : ℕ) → Contains (periods_each (kept_elements f) db) k → Contains (periods f db) k
   from_elements (exists v s f) k c = from_elements f k c
   from_elements (conjunction fs) k c = c
   from_elements (atom name ts) k c = in_first (periods (atom name ts) db) k c
@@ -287,7 +287,7 @@ module _ (names : List Identifier) (q : Question) (ds : List Disjunct) (are : Ar
 
   -- ---- periods
 
-  module _ (db : List Relation) (named : map (λ (r : Relation). r.name) db ≡ names) (literal : (f : Form) → Contains (listed_disjuncts q) f → some_passes is_neither (elements f) ≡ false) where
+  module _ (db : List Relation) (named : map (λ (r : Relation). r.name) db ≡ names) (literal : (f : Form) → Contains (listed_disjuncts q) f → some_passes is_neither (kept_elements f) ≡ false) where
     abbrev all_periods : List ℕ
     all_periods = flat_map tested_periods ds ++ read_periods ds db (length db)
 
@@ -332,7 +332,7 @@ module _ (names : List Identifier) (q : Question) (ds : List Disjunct) (are : Ar
 
     -- a period of the disjunct
     of_form : (f : Form) (d : Disjunct) → Contains (listed_disjuncts q) f → Contains ds d → IsDisjunctOf names f d → (k : ℕ) → Contains (periods f db) k → Contains all_periods k
-    of_form f d listed c is k i = elim (period_in db (elements f) k (literal f listed) (to_elements db f k i)) [
+    of_form f d listed c is k i = elim (period_in db (kept_elements f) k (literal f listed) (to_elements db f k i)) [
       | inl x ↦
           let w = zip_in (IsAtomOf names) (atoms f) d.atoms.items x.0 is.atoms_are (subst (λ l. Contains l x.0) (sym (atoms_are f)) x.1) in
           let r = rows_at w.0.relation x.0.name w.2.name in
@@ -348,8 +348,8 @@ module _ (names : List Identifier) (q : Question) (ds : List Disjunct) (are : Ar
         let z = zip_in (IsDisjunctOf names) (listed_disjuncts q) ds x.0 are.each x.1 in
         of_form x.0 z.0 x.1 z.1 z.2 k x.2
 
-    into_body : (f : Form) (k : ℕ) → Contains (listed_disjuncts q) f → HasPeriod db (elements f) k → Contains (periods q.body db) k
-    into_body f k listed h = of_core_period db q.body k (of_disjunct (λ f. periods f db) (λ fs. periods_each fs db) refl (λ f fs. refl) (λ fs. refl) core f k listed (from_elements db f k (period_of db (elements f) k (literal f listed) h)))
+    into_body : (f : Form) (k : ℕ) → Contains (listed_disjuncts q) f → HasPeriod db (kept_elements f) k → Contains (periods q.body db) k
+    into_body f k listed h = of_core_period db q.body k (of_disjunct (λ f. periods f db) (λ fs. periods_each fs db) refl (λ f fs. refl) (λ fs. refl) core f k listed (from_elements db f k (period_of db (kept_elements f) k (literal f listed) h)))
 
     pub periods_from : (k : ℕ) → Contains all_periods k → Contains (periods q.body db) k
     periods_from k c = elim (in_one (flat_map tested_periods ds) (read_periods ds db (length db)) k c) [
@@ -391,7 +391,7 @@ points_of_tests (form (forall v s f) fs) t p c i = in_right (points f) (points_e
 only_first : (ps : List RowPoint) (p : RowPoint) → Contains (ps ++ []) p → Contains ps p
 only_first ps p c = elim (in_one ps [] p c) [ inl d ↦ d | inr d ↦ absurd (nowhere p d) ]
 
-points_of_elements : (f : Form) (p : RowPoint) → Contains (points_each (elements f)) p → Contains (points f) p
+points_of_elements : (f : Form) (p : RowPoint) → Contains (points_each (kept_elements f)) p → Contains (points f) p
 points_of_elements (exists v s f) p c = points_of_elements f p c
 points_of_elements (conjunction fs) p c = c
 points_of_elements (atom name ts) p c = only_first [] p c
@@ -407,4 +407,4 @@ pub tested_point : (q : Question) (f : Form) (t : Test) (p : RowPoint) → Conta
 tested_point q f t p listed c i =
     let core : Form = positive q.body false in
     all_of (Contains (points q.body)) (points core) p (marked_points core q.body [] (marks_from [] q.body))
-    (of_disjunct points points_each refl (λ f fs. refl) (λ fs. refl) core f p listed (points_of_elements f p (points_of_tests (elements f) t p c i)))
+    (of_disjunct points points_each refl (λ f fs. refl) (λ fs. refl) core f p listed (points_of_elements f p (points_of_tests (kept_elements f) t p c i)))

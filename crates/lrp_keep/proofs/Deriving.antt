@@ -16,17 +16,17 @@ use Rattle.lrp_plan_laws.specs.Scopes.{IsNarrow}
 use Rattle.lrp_tables.specs.Calls.{test_period, tests_reach}
 use Rattle.lrp_tables.specs.Columns.{head_texts, head_times}
 use Rattle.lrp_algebra.specs.Rows.{bounds_reach, CanBeRead, DividesPeriod}
-use Rattle.lrp_minus.proofs.Lists.{got_in}
+use Rattle.lrp_cutting.proofs.Lists.{got_in}
 use Rattle.lrp_parts.specs.Derivations.{CanBeReadBy, CanDerive, Ground}
 use Rattle.lrp_kept.specs.Keys.{keys_of}
 use Rattle.lrp_kept.specs.Disjuncts.{IsAtomOf, IsDisjunctOf}
-use Rattle.lrp_kept.specs.KeptForm.{elements, is_conjunctive, is_neither, some_passes}
+use Rattle.lrp_kept.specs.KeptForm.{kept_elements, is_conjunctive, is_neither, some_passes}
 use Rattle.lrp_kept.specs.Outlines.{IsOutlineFor}
 use Rattle.lrp_kept.specs.Sizes.{joined_reach, scaled_over}
 use Rattle.lrp_kept.specs.declared.disjuncts.Disjunct.{Disjunct}
 use Rattle.lrp_kept.specs.declared.disjuncts.JoinedAtom.{JoinedAtom}
 use Rattle.lrp_kept.specs.declared.rows.Sketch.{Sketch}
-use Rattle.lrp_kept.specs.declared.rows.Source.{Source}
+use Rattle.lrp_kept.specs.declared.rows.HeldRow.{HeldRow}
 use Rattle.lrp_parts.proofs.Behind.{own_reach, rises}
 use Rattle.lrp_keep.proofs.KeptAnswers.{zip_back}
 use Rattle.lrp_parts.proofs.Narrow.{can_be_joined, has_head}
@@ -36,7 +36,7 @@ use Rattle.lrp_plan_laws.proofs.Elements.{within}
 
 -- the row under the key is as the atom reads it, in cells of the period, and no bound of it is above the relation's
 pub record IsReadable (g : Ground) (bounds : List ℕ) (d : Disjunct) (i : ℕ) (a : JoinedAtom) (key : ℕ) : Type 0 where
-  pub source : Source
+  pub source : HeldRow
   pub held : get g.rows.sources key ≡ Some source
   pub read : CanBeRead a.terms source.row
   pub periods : AllByRecursion (DividesPeriod (pos g.period)) source.row.values
@@ -69,7 +69,7 @@ module _ (g : Ground) (bounds : List ℕ) (ds : List Disjunct) (d : Disjunct) (l
         sketched = r.sketched;
       }
 
-module _ (names : List Identifier) (f : Form) (d : Disjunct) (is : IsDisjunctOf names f d) (kept : is_conjunctive (elements f) ≡ true) (literal : some_passes is_neither (elements f) ≡ false) (g : Ground) (bounds : List ℕ) (ds : List Disjunct) (listed : Contains ds d) (high : scaled_over bounds g.period g.head ds ≤ 2 ^ 62) where
+module _ (names : List Identifier) (f : Form) (d : Disjunct) (is : IsDisjunctOf names f d) (kept : is_conjunctive (kept_elements f) ≡ true) (literal : some_passes is_neither (kept_elements f) ≡ false) (g : Ground) (bounds : List ℕ) (ds : List Disjunct) (listed : Contains ds d) (high : scaled_over bounds g.period g.head ds ≤ 2 ^ 62) where
   some : 0 < length d.atoms.items
   some = some_joined names f d is kept
 
@@ -79,7 +79,7 @@ module _ (names : List Identifier) (f : Form) (d : Disjunct) (is : IsDisjunctOf 
   number_known : (i : ℕ) (a : JoinedAtom) → slice_get d.atoms.items i ≡ Some a → a.relation < length names
   number_known i a at = let x = zip_back (IsAtomOf names) (atoms f) d.atoms.items i a is.atoms_are at in within names a.relation x.0.name x.2.name
 
-  pub can_derive : 0 < g.period → length names ≤ length g.rows.relations.items → IsNarrow (free_each (elements f)) → ((t : Test) → Contains d.tests t → (pos 1 ≤ℤ test_period t) × Divides (test_period t) (pos g.period)) → IsOfHead g f
+  pub can_derive : 0 < g.period → length names ≤ length g.rows.relations.items → IsNarrow (free_each (kept_elements f)) → ((t : Test) → Contains d.tests t → (pos 1 ≤ℤ test_period t) × Divides (test_period t) (pos g.period)) → IsOfHead g f
       → ((i : ℕ) (a : JoinedAtom) (key : ℕ) → slice_get d.atoms.items i ≡ Some a → Contains (keys_of g.rows a.relation) key → IsReadable g bounds d i a key) → CanDerive g d
   can_derive low count narrow periods head rows = record {
     low = low;

@@ -7,11 +7,11 @@ use Rattle.lrp_model.specs.declared.relations.Row.{Row}
 use Rattle.lrp_model.proofs.Decided.{cons_cases}
 use Rattle.lrp_plan_laws.proofs.Members.{in_one, in_right}
 use Rattle.lrp_zone.proofs.Cases.{eq_or}
-use Rattle.lrp_kept.specs.Held.{row_of}
+use Rattle.lrp_kept.specs.Held.{held_row}
 use Rattle.lrp_kept.specs.Keyed.{AreHeldRows, AreRelisted, IsHeldBehind}
 use Rattle.lrp_kept.specs.Keys.{keys_in, keys_of}
 use Rattle.lrp_kept.specs.declared.rows.HeldRows.{HeldRows}
-use Rattle.lrp_kept.specs.declared.rows.Source.{Source}
+use Rattle.lrp_kept.specs.declared.rows.HeldRow.{HeldRow}
 use Rattle.lrp_parts.proofs.Rekeyed.{held_rows, keys_here, keys_there}
 use Rattle.lrp_keep.specs.States.{AreAllHeld, AreHeldAlso}
 use Rattle.lrp_kept.specs.Sketches.{AreSketchesOf}
@@ -32,7 +32,7 @@ none_also of number rows held = record {
   sketched = λ k c. absurd (let l : c.0 < 0 = c.1 in omega (arith, l));
 }
 
-module _ (of : KeptQuery) (number : ℕ) (all : List Row) (old mid new : HeldRows) (low : number < length old.relations.items) (was : AreHeldRows old) (a : AreHeldAlso of number all old mid) (source : Source) (key : ℕ) (row : Row) (relation_is : source.relation ≡ number) (row_is : source.row ≡ row)
+module _ (of : KeptQuery) (number : ℕ) (all : List Row) (old mid new : HeldRows) (low : number < length old.relations.items) (was : AreHeldRows old) (a : AreHeldAlso of number all old mid) (source : HeldRow) (key : ℕ) (row : Row) (relation_is : source.relation ≡ number) (row_is : source.row ≡ row)
     (sketches : AreSketchesOf of.domain of.disjuncts.items number row source.sketches.items) (w : IsHeldBehind source key mid new) where
   low_mid : source.relation < length mid.relations.items
   low_mid = let n : length mid.relations.items ≡ length old.relations.items = a.listed.count in let e : source.relation ≡ number = relation_is in omega (arith, low, n, e)
@@ -57,7 +57,7 @@ module _ (of : KeptQuery) (number : ℕ) (all : List Row) (old mid new : HeldRow
     listed = subst (λ l. AreRelisted number l old.relations.items new.relations.items) (ap (λ l. l ++ key ∷ []) keys_mid ∙ append_assoc (keys_of old number) a.keys (key ∷ [])) (relisted_twice number (keys_of old number ++ a.keys) (keys_of mid number ++ key ∷ []) old.relations.items mid.relations.items new.relations.items a.listed listed_new);
     under =
         let front : rows_under (get new.sources) a.keys ≡ all = rows_same (get new.sources) (get mid.sources) a.keys (λ k c. w.others k (is_other number k (listed_mid k c))) ∙ a.under in
-        let back : rows_under (get new.sources) (key ∷ []) ≡ row ∷ [] = append-nil (row_of (get new.sources key)) ∙ ap row_of w.there ∙ ap (λ r. r ∷ []) row_is in
+        let back : rows_under (get new.sources) (key ∷ []) ≡ row ∷ [] = append-nil (held_row (get new.sources key)) ∙ ap held_row w.there ∙ ap (λ r. r ∷ []) row_is in
         rows_both (get new.sources) a.keys (key ∷ []) ∙ ap₂ (λ x y. x ++ y) front back;
     others = λ i k c. w.others k (λ e.
         let s = was.there i k c in

@@ -17,11 +17,11 @@ use Rattle.lrp_tables.specs.Columns.{head_times}
 use Rattle.lrp_kept.specs.Choices.{listed_disjuncts}
 use Rattle.lrp_parts.specs.Derivations.{Ground, Levels}
 use Rattle.lrp_kept.specs.Disjuncts.{AreDisjunctsOf, IsDisjunctOf}
-use Rattle.lrp_kept.specs.Held.{bounds_of, names_of, relations_of}
+use Rattle.lrp_kept.specs.Held.{greatest_bounds, names_of, relations_of}
 use Rattle.lrp_keep.specs.Keeps.{IsKeptAnswer}
-use Rattle.lrp_kept.specs.KeptForm.{all_occur, bound_variables, elements, is_conjunctive, is_disjunct, is_kept, query_disjuncts}
+use Rattle.lrp_kept.specs.KeptForm.{all_occur, bound_variables, kept_elements, is_conjunctive, is_disjunct, is_kept, query_disjuncts}
 use Rattle.lrp_kept.specs.Limits.{kept_reach}
-use Rattle.lrp_keep.specs.States.{IsAnswerOfState, IsKeeping, ground_at, levels_of, view_of}
+use Rattle.lrp_keep.specs.States.{IsAnswerOfState, IsKeeping, ground_at, levels_of, keeper_view}
 use Rattle.lrp_kept.specs.declared.disjuncts.Disjunct.{Disjunct}
 use Rattle.lrp_keep.specs.declared.kept_query.KeptQuery.{KeptQuery}
 use Rattle.lrp_keep.specs.declared.states.State.{State}
@@ -38,8 +38,8 @@ whole_each names q ds kept are i d at =
     let x = zip_back (IsDisjunctOf names) (listed_disjuncts q) ds i d are.each at in
     let f = x.0 in
     let good : is_disjunct q.head f ≡ true = one_passes (is_disjunct q.head) (query_disjuncts q) f kept x.1 in
-    let first = each_true (is_conjunctive (elements f) && all_occur (elements f) (head_variables q.head)) (all_occur (elements f) (bound_variables f)) good in
-    is_whole_at names f d x.2 (each_true (is_conjunctive (elements f)) (all_occur (elements f) (head_variables q.head)) first.0).0
+    let first = each_true (is_conjunctive (kept_elements f) && all_occur (kept_elements f) (head_variables q.head)) (all_occur (kept_elements f) (bound_variables f)) good in
+    is_whole_at names f d x.2 (each_true (is_conjunctive (kept_elements f)) (all_occur (kept_elements f) (head_variables q.head)) first.0).0
 
 module _ (of : KeptQuery) (s : State) (is : IsKeeping of s) where
   abbrev g : Ground
@@ -69,7 +69,7 @@ module _ (of : KeptQuery) (s : State) (is : IsKeeping of s) where
       (subst (λ p. is_kept p ≡ true) (sym same) is.kept) is.ascends
       (subst (λ p. AllByRecursion (Contains of.domain) (constants (relations_of (get s.rows.sources) s.rows.relations.items) p)) (sym same) is.known))
 
-  pub kept_answer : (a : Answer) → IsAnswerOfState of s a → IsKeptAnswer (view_of of s) a
+  pub kept_answer : (a : Answer) → IsAnswerOfState of s a → IsKeptAnswer (keeper_view of s) a
   kept_answer a h =
       let times : a.store.shape.times ≡ length (head_times q.head) = h.times in
       record {
@@ -81,6 +81,6 @@ module _ (of : KeptQuery) (s : State) (is : IsKeeping of s) where
               (λ x. answer_to g q head ds rests all is.state.derived a.store h.valid h.times h.texts h.holds tuple (subst (λ t. t) e x)),
               λ x. subst (λ t. t) (sym e) (answer_from g q head ds rests all is.state.derived a.store h.valid h.times h.texts h.holds tuple x),
             );
-        small = small_zones a.store h.valid (time_count q.head) (kept_reach (relations_of (get s.rows.sources) s.rows.relations.items) (bounds_of s.rows.relations.items) s.period.number q) (times ∙ sym (times_counted q.head))
-            (h.reach (kept_reach (relations_of (get s.rows.sources) s.rows.relations.items) (bounds_of s.rows.relations.items) s.period.number q) (kept_low g q ds all is.distinct is.state.disjuncts is.state.derived is.low (λ i d at. (whole i d at).some)));
+        small = small_zones a.store h.valid (time_count q.head) (kept_reach (relations_of (get s.rows.sources) s.rows.relations.items) (greatest_bounds s.rows.relations.items) s.period.number q) (times ∙ sym (times_counted q.head))
+            (h.reach (kept_reach (relations_of (get s.rows.sources) s.rows.relations.items) (greatest_bounds s.rows.relations.items) s.period.number q) (kept_low g q ds all is.distinct is.state.disjuncts is.state.derived is.low (λ i d at. (whole i d at).some)));
       }

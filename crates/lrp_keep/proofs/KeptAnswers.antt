@@ -27,11 +27,11 @@ use Rattle.lrp_tables.specs.Columns.{head_texts, head_times, text_name, texts_of
 use Rattle.lrp_tables.specs.Tables.{Has, HasTexts}
 use Rattle.lrp_parts.specs.Bound.{AreCompleted}
 use Rattle.lrp_kept.specs.Choices.{ChosenWithValues, IsChosenBy, IsDerived, as_list, listed_disjuncts, tests_among}
-use Rattle.lrp_parts.specs.Derivations.{AreKeysFor, Ground, HoldsIn, IsDerivedFor, IsDerivedFrom, IsHeldFor, IsOfChoice, IsOfPart, Levels, last_of, tests_in, tests_of_part, texts_in}
+use Rattle.lrp_parts.specs.Derivations.{AreKeysFor, Ground, HoldsIn, IsDerivedFor, IsDerivedFrom, IsHeldFor, IsOfChoice, IsOfPart, Levels, last_atom, atom_tests, tests_of_part, atom_texts}
 use Rattle.lrp_kept.specs.Keys.{keys_of}
 use Rattle.lrp_kept.specs.Disjuncts.{AreDisjunctsOf, IsAtomOf, IsDisjunctOf, bound_columns}
 use Rattle.lrp_kept.specs.Held.{names_of, relations_of}
-use Rattle.lrp_kept.specs.KeptForm.{all_occur, all_pass, bound_variables, elements, is_atom_with, is_conjunctive, is_disjunct, is_kept, is_neither, matrix, query_disjuncts, some_passes}
+use Rattle.lrp_kept.specs.KeptForm.{all_occur, all_pass, bound_variables, kept_elements, is_atom_with, is_conjunctive, is_disjunct, is_kept, is_neither, matrix, query_disjuncts, some_passes}
 use Rattle.lrp_kept.specs.SortedForms.{IsSortedForm, binders_at}
 use Rattle.lrp_keep.specs.Unions.{AreDerived, HoldsAll}
 use Rattle.lrp_kept.specs.declared.disjuncts.Disjunct.{Disjunct}
@@ -96,9 +96,9 @@ one_passes p (form g fs) f e i = elim (cons_cases g f (as_list fs) i) [
 -- a disjunct's atoms and tests are those that the whole choice asks
 pub record IsWholeAt (d : Disjunct) : Type 0 where
   pub some : 0 < length d.atoms.items
-  pub tests_to : (t : Test) → Contains (tests_in (last_of d (length d.atoms.items))) t → Contains d.tests t
-  pub tests_from : (t : Test) → Contains d.tests t → Contains (tests_in (last_of d (length d.atoms.items))) t
-  pub texts : (v : Identifier) → Contains (texts_in (last_of d (length d.atoms.items))) v → (j : JoinedAtom) × Contains d.atoms.items j × Contains (flat_map texts_of_term j.terms) v
+  pub tests_to : (t : Test) → Contains (atom_tests (last_atom d (length d.atoms.items))) t → Contains d.tests t
+  pub tests_from : (t : Test) → Contains d.tests t → Contains (atom_tests (last_atom d (length d.atoms.items))) t
+  pub texts : (v : Identifier) → Contains (atom_texts (last_atom d (length d.atoms.items))) v → (j : JoinedAtom) × Contains d.atoms.items j × Contains (flat_map texts_of_term j.terms) v
 
 -- a query in kept form, its disjuncts over the ground's rows, whose binders within the head are sorted; the constants are known
 pub record RestsOn (g : Ground) (q : Question) (bs : List Column) (ds : List Disjunct) : Type 0 where
@@ -161,29 +161,29 @@ module _ (g : Ground) (q : Question) (bs : List Column) (ds : List Disjunct) (on
     good : is_disjunct q.head f ≡ true
     good = one_passes (is_disjunct q.head) (query_disjuncts q) f on.kept listed
 
-    conjunctive : is_conjunctive (elements f) ≡ true
-    conjunctive = and_first (is_conjunctive (elements f)) (all_occur (elements f) (head_variables q.head)) (and_first (is_conjunctive (elements f) && all_occur (elements f) (head_variables q.head)) (all_occur (elements f) (bound_variables f)) good)
+    conjunctive : is_conjunctive (kept_elements f) ≡ true
+    conjunctive = and_first (is_conjunctive (kept_elements f)) (all_occur (kept_elements f) (head_variables q.head)) (and_first (is_conjunctive (kept_elements f) && all_occur (kept_elements f) (head_variables q.head)) (all_occur (kept_elements f) (bound_variables f)) good)
 
-    literal : some_passes is_neither (elements f) ≡ false
-    literal = not_true (some_passes is_neither (elements f)) (and_first (not (some_passes is_neither (elements f))) _ (and_first (not (some_passes is_neither (elements f)) && some_passes _ (elements f)) _ conjunctive))
+    literal : some_passes is_neither (kept_elements f) ≡ false
+    literal = not_true (some_passes is_neither (kept_elements f)) (and_first (not (some_passes is_neither (kept_elements f))) _ (and_first (not (some_passes is_neither (kept_elements f)) && some_passes _ (kept_elements f)) _ conjunctive))
 
-    head_occurs : all_occur (elements f) (head_variables q.head) ≡ true
-    head_occurs = and_right (is_conjunctive (elements f)) (all_occur (elements f) (head_variables q.head)) (and_first (is_conjunctive (elements f) && all_occur (elements f) (head_variables q.head)) (all_occur (elements f) (bound_variables f)) good)
+    head_occurs : all_occur (kept_elements f) (head_variables q.head) ≡ true
+    head_occurs = and_right (is_conjunctive (kept_elements f)) (all_occur (kept_elements f) (head_variables q.head)) (and_first (is_conjunctive (kept_elements f) && all_occur (kept_elements f) (head_variables q.head)) (all_occur (kept_elements f) (bound_variables f)) good)
 
-    bound_occur : all_occur (elements f) (bound_variables f) ≡ true
-    bound_occur = and_right (is_conjunctive (elements f) && all_occur (elements f) (head_variables q.head)) (all_occur (elements f) (bound_variables f)) good
+    bound_occur : all_occur (kept_elements f) (bound_variables f) ≡ true
+    bound_occur = and_right (is_conjunctive (kept_elements f) && all_occur (kept_elements f) (head_variables q.head)) (all_occur (kept_elements f) (bound_variables f)) good
 
     sorted : IsSortedForm f db bs
     sorted = on.sorted f listed
 
-    zipped : AllZip (IsAtomOf (names_of g.rows)) (atoms_each (elements f)) d.atoms.items
+    zipped : AllZip (IsAtomOf (names_of g.rows)) (atoms_each (kept_elements f)) d.atoms.items
     zipped = subst (λ l. AllZip (IsAtomOf (names_of g.rows)) l d.atoms.items) (atoms_are f) is.atoms_are
 
     -- each binder of a text has one of its sort
     sorted_texts : (keys : List ℕ) → AreKeysFor g.rows d.atoms.items keys → length keys ≡ length d.atoms.items → HasSortedTexts g.domain M (IsOfChoice g d keys) (binders_at f bs)
     sorted_texts keys rows size env h b i kindly =
-        let r = rows_chosen g.rows on.distinct env (atoms_each (elements f)) d.atoms.items keys zipped rows size h.rows in
-        in_domain db q b.sort (env.texts b.name) (binder_text db (binders_at f bs) env (elements f) r.0 b (own_names_at f db bs sorted on.own) literal (sorted_elements f db bs sorted) r.1 r.2 i (occurs b i kindly))
+        let r = rows_chosen g.rows on.distinct env (atoms_each (kept_elements f)) d.atoms.items keys zipped rows size h.rows in
+        in_domain db q b.sort (env.texts b.name) (binder_text db (binders_at f bs) env (kept_elements f) r.0 b (own_names_at f db bs sorted on.own) literal (sorted_elements f db bs sorted) r.1 r.2 i (occurs b i kindly))
       where
         as_text : (b : Column) → is_data b.sort ≡ true → bound_by b.sort b.name ≡ data_variable b.name
         as_text b e = by b.sort e
@@ -218,10 +218,10 @@ module _ (g : Ground) (q : Question) (bs : List Column) (ds : List Disjunct) (on
         which (implication f k) cs b i = inl i
         which (forall v s f) cs b i = inl i
 
-        occurs : (b : Column) → Contains (binders_at f bs) b → is_data b.sort ≡ true → some_passes (is_atom_with (data_variable b.name)) (elements f) ≡ true
-        occurs b i kindly = subst (λ v. some_passes (is_atom_with v) (elements f) ≡ true) (as_text b kindly) (elim (which f bs b i) [
-          | inl k ↦ one_occurs (elements f) (head_variables q.head) (bound_by b.sort b.name) head_occurs (in_head q.head b (on.binders b k))
-          | inr k ↦ one_occurs (elements f) (bound_variables f) (bound_by b.sort b.name) bound_occur k
+        occurs : (b : Column) → Contains (binders_at f bs) b → is_data b.sort ≡ true → some_passes (is_atom_with (data_variable b.name)) (kept_elements f) ≡ true
+        occurs b i kindly = subst (λ v. some_passes (is_atom_with v) (kept_elements f) ≡ true) (as_text b kindly) (elim (which f bs b i) [
+          | inl k ↦ one_occurs (kept_elements f) (head_variables q.head) (bound_by b.sort b.name) head_occurs (in_head q.head b (on.binders b k))
+          | inr k ↦ one_occurs (kept_elements f) (bound_variables f) (bound_by b.sort b.name) bound_occur k
         ])
 
     -- ---- a choice by its keys
@@ -231,25 +231,25 @@ module _ (g : Ground) (q : Question) (bs : List Column) (ds : List Disjunct) (on
 
     chosen_by : (keys : List ℕ) → AreWholeKeys keys → (env : Assignment) → IsOfChoice g d keys env → IsChosenBy db (conjuncts (matrix f)) env
     chosen_by keys k env h =
-        let r = rows_chosen g.rows on.distinct env (atoms_each (elements f)) d.atoms.items keys zipped k.0 k.1 h.rows in
+        let r = rows_chosen g.rows on.distinct env (atoms_each (kept_elements f)) d.atoms.items keys zipped k.0 k.1 h.rows in
         record {
           rows = r.0;
           held = r.1;
           is = record {
             rows_match = r.2;
-            tests_pass = all_by (Passes env) (tests_among (elements f)) (λ t i. all_of (Passes env) (tests_in (last_of d (length keys))) t h.passes (subst (λ n. Contains (tests_in (last_of d n)) t) (sym k.1) (whole.tests_from t (subst (λ l. Contains l t) (sym is.tests_are) i))));
+            tests_pass = all_by (Passes env) (tests_among (kept_elements f)) (λ t i. all_of (Passes env) (atom_tests (last_atom d (length keys))) t h.passes (subst (λ n. Contains (atom_tests (last_atom d n)) t) (sym k.1) (whole.tests_from t (subst (λ l. Contains l t) (sym is.tests_are) i))));
           };
         }
 
     keyed_by : (env : Assignment) → IsChosenBy db (conjuncts (matrix f)) env → (keys : List ℕ) × AreWholeKeys keys × IsOfChoice g d keys env
     keyed_by env c =
-        let r = keys_chosen g.rows on.distinct env (atoms_each (elements f)) d.atoms.items c.rows zipped c.held c.is.rows_match in (
+        let r = keys_chosen g.rows on.distinct env (atoms_each (kept_elements f)) d.atoms.items c.rows zipped c.held c.is.rows_match in (
           r.0,
           (r.1, r.2),
           record {
-            known = all_by (λ v. Contains g.domain (env.texts v)) (texts_in (last_of d (length r.0))) (λ v i. text v (whole.texts v (subst (λ n. Contains (texts_in (last_of d n)) v) r.2 i)));
+            known = all_by (λ v. Contains g.domain (env.texts v)) (atom_texts (last_atom d (length r.0))) (λ v i. text v (whole.texts v (subst (λ n. Contains (atom_texts (last_atom d n)) v) r.2 i)));
             rows = r.3;
-            passes = all_by (Passes env) (tests_in (last_of d (length r.0))) (λ t i. all_of (Passes env) (tests_among (elements f)) t c.is.tests_pass (subst (λ l. Contains l t) is.tests_are (whole.tests_to t (subst (λ n. Contains (tests_in (last_of d n)) t) r.2 i))));
+            passes = all_by (Passes env) (atom_tests (last_atom d (length r.0))) (λ t i. all_of (Passes env) (tests_among (kept_elements f)) t c.is.tests_pass (subst (λ l. Contains l t) is.tests_are (whole.tests_to t (subst (λ n. Contains (atom_tests (last_atom d n)) t) r.2 i))));
           },
         )
       where
@@ -264,8 +264,8 @@ module _ (g : Ground) (q : Question) (bs : List Column) (ds : List Disjunct) (on
 
         text : (v : Identifier) → (j : JoinedAtom) × Contains d.atoms.items j × Contains (flat_map texts_of_term j.terms) v → Contains g.domain (env.texts v)
         text v x =
-            let a = atom_of (atoms_each (elements f)) d.atoms.items x.0 zipped x.1 in
-            let t = some_text db (binders_at f bs) env (atoms_each (elements f)) c.rows a.0 v (sorted_atoms (elements f) db (binders_at f bs) literal (sorted_elements f db bs sorted)) c.held c.is.rows_match a.1 (subst (λ ts. Contains (flat_map texts_of_term ts) v) a.2 x.2) in
+            let a = atom_of (atoms_each (kept_elements f)) d.atoms.items x.0 zipped x.1 in
+            let t = some_text db (binders_at f bs) env (atoms_each (kept_elements f)) c.rows a.0 v (sorted_atoms (kept_elements f) db (binders_at f bs) literal (sorted_elements f db bs sorted)) c.held c.is.rows_match a.1 (subst (λ ts. Contains (flat_map texts_of_term ts) v) a.2 x.2) in
             on.known t.0.sort (env.texts v) (in_domain db q t.0.sort (env.texts v) t.3)
 
     pub derived_to : (keys : List ℕ) → AreWholeKeys keys → (env : Assignment) → AreCompleted g.domain (bound_columns f) (IsOfChoice g d keys) env → ChosenWithValues f M env
@@ -338,7 +338,7 @@ module _ (g : Ground) (q : Question) (bs : List Column) (ds : List Disjunct) (on
         let there = at_place all z.0 (let l : z.0 < length ds = there_is ds z.0 d z.2 in let m : length all ≡ length ds = derived.count in omega (arith, l, m)) in
         let w = derived.each z.0 d there.0 z.2 there.1 in
         let last = in_the_end g.domain x.disjunct db bs (IsOfChoice g d c.0) env (on.sorted x.disjunct x.listed) c.2 in
-        let part : IsOfPart g d c.0 last.last = record { known = last.member.known; rows = last.member.rows; passes = all_by (Passes last.last) (tests_of_part d (length c.0)) (λ t i. all_of (Passes last.last) (tests_in (last_of d (length c.0))) t last.member.passes (tests_are d (length c.0) t i)) } in
+        let part : IsOfPart g d c.0 last.last = record { known = last.member.known; rows = last.member.rows; passes = all_by (Passes last.last) (tests_of_part d (length c.0)) (λ t i. all_of (Passes last.last) (atom_tests (last_atom d (length c.0))) t last.member.passes (tests_are d (length c.0) t i)) } in
         let held = held_for d there.0 whole.some w c.0 c.1.0 c.1.1 last.last part in
         let size : length c.0 - 1 ≡ length there.0 - 1 = (let a : length c.0 ≡ length d.atoms.items = c.1.1 in let b : length there.0 ≡ length d.atoms.items = w.sound.count in omega (arith, a, b)) in
         let sound = w.sound.each (length c.0 - 1) c.0 held.0 held.1 in

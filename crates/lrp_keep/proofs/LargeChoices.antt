@@ -8,7 +8,7 @@ use Rattle.lrp_model.specs.Texts.{AreDistinct}
 use Rattle.lrp_model.specs.declared.relations.Relation.{Relation}
 use Rattle.lrp_model.specs.declared.relations.Row.{Row}
 use Rattle.lrp_plan_laws.specs.Atoms.{Atom, atoms}
-use Rattle.lrp_kept.specs.Choices.{HasLargePart as HasLargeChoice, HasManyCells, listed_disjuncts}
+use Rattle.lrp_kept.specs.Choices.{HasLargeChoicePart as HasLargeChoice, HasManyCells, listed_disjuncts}
 use Rattle.lrp_kept.specs.Disjuncts.{AreDisjunctsOf, IsAtomOf, IsDisjunctOf}
 use Rattle.lrp_kept.specs.Held.{names_of, relations_of}
 use Rattle.lrp_kept.specs.Keyed.{AreHeldRows}
@@ -16,7 +16,7 @@ use Rattle.lrp_kept.specs.Keys.{keys_of}
 use Rattle.lrp_kept.specs.declared.disjuncts.Disjunct.{Disjunct}
 use Rattle.lrp_kept.specs.declared.disjuncts.JoinedAtom.{JoinedAtom}
 use Rattle.lrp_kept.specs.declared.rows.HeldRows.{HeldRows}
-use Rattle.lrp_kept.specs.declared.rows.Source.{Source}
+use Rattle.lrp_kept.specs.declared.rows.HeldRow.{HeldRow}
 use Rattle.lrp_parts.specs.Derivations.{AreHeldBehind, AreKeysFor, Ground, HasManyKeyedCells, HasRow, Levels}
 use Rattle.lrp_parts.proofs.KeyedRows.{key_of_row, rows_at, rows_under_keys}
 use Rattle.lrp_parts.proofs.LargeParts.{AreUnder, many_of_keys, many_of_rows}
@@ -93,7 +93,7 @@ module _ (g : Ground) (q : Question) (ds : List Disjunct) (are : AreDisjunctsOf 
   abbrev relations : List Relation
   relations = relations_of (get g.rows.sources) g.rows.relations.items
 
-  under_key : (i key : ℕ) → Contains (keys_of g.rows i) key → (source : Source) × (get g.rows.sources key ≡ Some source)
+  under_key : (i key : ℕ) → Contains (keys_of g.rows i) key → (source : HeldRow) × (get g.rows.sources key ≡ Some source)
   under_key i key c = let s = held.there i key c in (s.source, s.held)
 
   pub large_choice : HasSomeLargePart g ds → HasLargeChoice relations q g.domain g.period g.cap

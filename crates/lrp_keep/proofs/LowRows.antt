@@ -6,14 +6,14 @@ use Rattle.lrp_model.specs.Formulas.{Question}
 use Rattle.lrp_model.specs.Texts.{AreDistinct}
 use Rattle.lrp_model.proofs.Decided.{cons_cases, contains_none}
 use Rattle.lrp_algebra.specs.Rows.{bounds_reach}
-use Rattle.lrp_minus.proofs.Lists.{got_in}
+use Rattle.lrp_cutting.proofs.Lists.{got_in}
 use Rattle.lrp_parts.specs.Derivations.{Ground, HoldsIn, Levels}
 use Rattle.lrp_kept.specs.Keys.{keys_in}
 use Rattle.lrp_kept.specs.Disjuncts.{AreDisjunctsOf}
-use Rattle.lrp_kept.specs.Held.{AreLowRows, bounds_of, names_of, relations_of}
+use Rattle.lrp_kept.specs.Held.{AreLowRows, greatest_bounds, names_of, relations_of}
 use Rattle.lrp_kept.specs.Limits.{kept_reach, row_bound}
 use Rattle.lrp_kept.specs.Sizes.{joined_reach, reach_over}
-use Rattle.lrp_keep.specs.Taken.{HaveReach}
+use Rattle.lrp_keep.specs.Taken.{HeldHaveReach}
 use Rattle.lrp_keep.specs.Unions.{AreDerived}
 use Rattle.lrp_kept.specs.declared.disjuncts.Disjunct.{Disjunct}
 use Rattle.lrp_kept.specs.declared.disjuncts.JoinedAtom.{JoinedAtom}
@@ -23,19 +23,19 @@ use Rattle.lrp_kept.proofs.SameReach.{kept_reach_is}
 use Rattle.lrp_holdings.proofs.Chained.{none_some, some_is}
 use Rattle.lrp_plan_laws.proofs.Elements.{found}
 
-pub most_at : (rs : List HeldRelation) (i : ℕ) (r : HeldRelation) → slice_get rs i ≡ Some r → slice_index_or (bounds_of rs) i 0 ≡ r.most
+pub most_at : (rs : List HeldRelation) (i : ℕ) (r : HeldRelation) → slice_get rs i ≡ Some r → slice_index_or (greatest_bounds rs) i 0 ≡ r.most
 most_at [] i r e = absurd (none_some r e)
 most_at (h ∷ rs) zero r e = ap (λ (x : HeldRelation). x.most) (some_is h r e)
 most_at (h ∷ rs) (suc i) r e = most_at rs i r e
 
-pub low_rows : (g : Ground) (atoms : List JoinedAtom) → AreLowRows g.rows → HaveLowRows g (bounds_of g.rows.relations.items) atoms
+pub low_rows : (g : Ground) (atoms : List JoinedAtom) → AreLowRows g.rows → HaveLowRows g (greatest_bounds g.rows.relations.items) atoms
 low_rows g atoms low a key s i k e = by (slice_get g.rows.relations.items a.relation) refl
   where
-    by : (o : Option HeldRelation) → slice_get g.rows.relations.items a.relation ≡ o → bounds_reach s.row.bounds a.terms + g.period ≤ joined_reach (bounds_of g.rows.relations.items) g.period a
+    by : (o : Option HeldRelation) → slice_get g.rows.relations.items a.relation ≡ o → bounds_reach s.row.bounds a.terms + g.period ≤ joined_reach (greatest_bounds g.rows.relations.items) g.period a
     by None none = absurd (contains_none key (subst (λ x. Contains (keys_in x) key) none k))
     by (Some r) at =
         let l : row_bound s.row ≤ r.most = low a.relation key r s at (subst (λ x. Contains (keys_in x) key) at k) e in
-        let m : slice_index_or (bounds_of g.rows.relations.items) a.relation 0 ≡ r.most = most_at g.rows.relations.items a.relation r at in
+        let m : slice_index_or (greatest_bounds g.rows.relations.items) a.relation 0 ≡ r.most = most_at g.rows.relations.items a.relation r at in
         omega (arith, l, m)
 
 place_of : {X : Type 0} (xs : List X) (x : X) → Contains xs x → (i : ℕ) × (slice_get xs i ≡ Some x) × (i < length xs)
@@ -47,12 +47,12 @@ place_of (y ∷ xs) x c = elim (cons_cases y x xs c) [
 
 -- what is held of whole choices has at most the kept reach of the query
 pub kept_low : (g : Ground) (q : Question) (ds : List Disjunct) (all : List Levels) → AreDistinct (names_of g.rows) → AreDisjunctsOf (names_of g.rows) q ds → AreDerived g ds all → AreLowRows g.rows → ((i : ℕ) (d : Disjunct) → slice_get ds i ≡ Some d → 0 < length d.atoms.items)
-    → (levels : Levels) → Contains all levels → HaveReach (HoldsIn levels (length levels - 1)) (kept_reach (relations_of (get g.rows.sources) g.rows.relations.items) (bounds_of g.rows.relations.items) g.period q)
+    → (levels : Levels) → Contains all levels → HeldHaveReach (HoldsIn levels (length levels - 1)) (kept_reach (relations_of (get g.rows.sources) g.rows.relations.items) (greatest_bounds g.rows.relations.items) g.period q)
 kept_low g q ds all distinct are derived low some levels c =
     let at = place_of all levels c in
     let n : length all ≡ length ds = derived.count in
     let within : at.0 < length all = at.2 in
     let d = found ds at.0 (omega (arith, n, within)) in
-    let held : HaveReach (HoldsIn levels (length levels - 1)) (reach_over (bounds_of g.rows.relations.items) g.period ds) =
-    low_answers g (bounds_of g.rows.relations.items) ds d.0 (got_in ds at.0 d.0 d.1) (some at.0 d.0 d.1) (low_rows g d.0.atoms.items low) levels (derived.each at.0 d.0 levels d.1 at.1).sound in
-    subst (λ r. HaveReach (HoldsIn levels (length levels - 1)) r) (sym (kept_reach_is (get g.rows.sources) g.rows.relations.items distinct g.period q ds are)) held
+    let held : HeldHaveReach (HoldsIn levels (length levels - 1)) (reach_over (greatest_bounds g.rows.relations.items) g.period ds) =
+    low_answers g (greatest_bounds g.rows.relations.items) ds d.0 (got_in ds at.0 d.0 d.1) (some at.0 d.0 d.1) (low_rows g d.0.atoms.items low) levels (derived.each at.0 d.0 levels d.1 at.1).sound in
+    subst (λ r. HeldHaveReach (HoldsIn levels (length levels - 1)) r) (sym (kept_reach_is (get g.rows.sources) g.rows.relations.items distinct g.period q ds are)) held

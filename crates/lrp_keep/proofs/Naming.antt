@@ -16,14 +16,14 @@ use Rattle.lrp_plan_laws.specs.Atoms.{Atom, atoms, atoms_each}
 use Rattle.lrp_plan_laws.proofs.Members.{all_by, all_of}
 use Rattle.lrp_kept.specs.Choices.{listed_disjuncts}
 use Rattle.lrp_kept.specs.Drafts.{CanBeJoinedUp}
-use Rattle.lrp_kept.specs.Held.{names_of, relation_of}
-use Rattle.lrp_kept.specs.KeptForm.{elements}
+use Rattle.lrp_kept.specs.Held.{names_of, held_relation}
+use Rattle.lrp_kept.specs.KeptForm.{kept_elements}
 use Rattle.lrp_kept.specs.SortedForms.{IsSortedAtom, IsSortedForm, binders_at}
 use Rattle.lrp_kept.specs.declared.rows.HeldRelation.{HeldRelation}
 use Rattle.lrp_kept.proofs.DisjunctAtoms.{IsSorted, atoms_are, sorted_atoms, sorted_elements}
 use Rattle.lrp_kept.proofs.SortedForms.{disjuncts_sorted}
 use Rattle.lrp_keep.specs.Keeps.{CanBeAdded, CanBeHeld, CanBeKept}
-use Rattle.lrp_keep.specs.States.{CanBeAddedAt, IsKeeper, view_of}
+use Rattle.lrp_keep.specs.States.{CanBeAddedAt, IsKeeper, keeper_view}
 use Rattle.lrp_keep.specs.declared.kept_query.KeptQuery.{KeptQuery}
 use Rattle.lrp_keep.specs.declared.states.State.{State}
 use Rattle.lrp_keep.proofs.Adding.{names_in}
@@ -52,29 +52,29 @@ can_join db q domain names can same = all_by (CanBeJoinedUp names) (listed_disju
     let bs = map column_of (reverse can.query.raw.head) in
     let whole = conjunctive_of q can.kept f c in
     let sorted : IsSortedForm f db bs = disjuncts_sorted db can.query.raw can.query.sorted f (subst (λ p. Contains (listed_disjuncts p) f) can.query.is c) in
-    let each = sorted_atoms (elements f) db (binders_at f bs) (literal_in f whole) (sorted_elements f db bs sorted) in
+    let each = sorted_atoms (kept_elements f) db (binders_at f bs) (literal_in f whole) (sorted_elements f db bs sorted) in
     record {
       conjunctive = whole;
       named = all_by (λ a. Contains names a.name) (atoms f) (λ a i. subst (λ ns. Contains ns a.name) (sym same)
-          (sorted_name db (binders_at f bs) a (relation_named db a.name) refl (all_of (IsSorted db (binders_at f bs)) (atoms_each (elements f)) a each (subst (λ l. Contains l a) (atoms_are f) i))));
+          (sorted_name db (binders_at f bs) a (relation_named db a.name) refl (all_of (IsSorted db (binders_at f bs)) (atoms_each (kept_elements f)) a each (subst (λ l. Contains l a) (atoms_are f) i))));
     })
 
 -- ---- a relation of a keeper
 
-pub known_name : (of : KeptQuery) (s : State) (name : Identifier) (row : Row) → CanBeAdded (view_of of s) name row → Contains (names_of s.rows) name
+pub known_name : (of : KeptQuery) (s : State) (name : Identifier) (row : Row) → CanBeAdded (keeper_view of s) name row → Contains (names_of s.rows) name
 known_name of s name row can =
-    let p = place_in (view_of of s).relations can.relation can.is.listed in
-    let at = mapped_get (λ (r : Relation). r.name) (view_of of s).relations p.0 can.relation p.1 in
-    subst (λ n. Contains (names_of s.rows) n) can.is.named (subst (λ ns. Contains ns can.relation.name) (names_in (get s.rows.sources) s.rows.relations.items) (Contains-from_get (map (λ (r : Relation). r.name) (view_of of s).relations) p.0 can.relation.name at))
+    let p = place_in (keeper_view of s).relations can.relation can.is.listed in
+    let at = mapped_get (λ (r : Relation). r.name) (keeper_view of s).relations p.0 can.relation p.1 in
+    subst (λ n. Contains (names_of s.rows) n) can.is.named (subst (λ ns. Contains ns can.relation.name) (names_in (get s.rows.sources) s.rows.relations.items) (Contains-from_get (map (λ (r : Relation). r.name) (keeper_view of s).relations) p.0 can.relation.name at))
 
 -- the relation of the number has the name
 pub held_named : (s : State) (number : ℕ) (name : Identifier) → slice_get (names_of s.rows) number ≡ Some name → (h : HeldRelation) × (slice_get s.rows.relations.items number ≡ Some h) × (h.name ≡ name)
 held_named s number name at = at_mapped (λ (h : HeldRelation). h.name) s.rows.relations.items number name at
 
-pub can_be_added_at : (of : KeptQuery) (s : State) (number : ℕ) (name : Identifier) (row : Row) → IsKeeper of s → CanBeAdded (view_of of s) name row → slice_get (names_of s.rows) number ≡ Some name → CanBeAddedAt of s number row
+pub can_be_added_at : (of : KeptQuery) (s : State) (number : ℕ) (name : Identifier) (row : Row) → IsKeeper of s → CanBeAdded (keeper_view of s) name row → slice_get (names_of s.rows) number ≡ Some name → CanBeAddedAt of s number row
 can_be_added_at of s number name row keeper can at =
-    let p = place_in (view_of of s).relations can.relation can.is.listed in
-    let m = at_mapped (relation_of (get s.rows.sources)) s.rows.relations.items p.0 can.relation p.1 in
+    let p = place_in (keeper_view of s).relations can.relation can.is.listed in
+    let m = at_mapped (held_relation (get s.rows.sources)) s.rows.relations.items p.0 can.relation p.1 in
     let same : m.0.name ≡ name = ap (λ (r : Relation). r.name) m.2 ∙ can.is.named in
     let here : p.0 ≡ number = one_place (names_of s.rows) p.0 number name keeper.keeping.distinct (mapped_get (λ (h : HeldRelation). h.name) s.rows.relations.items p.0 m.0 m.1 ∙ ap (λ n. Some n) same) at in
     record {

@@ -33,11 +33,11 @@ use Rattle.lrp_limits.proofs.Keeping.{least_is}
 use Rattle.lrp_limits.proofs.Raised.{above, period_from}
 use Rattle.lrp_tables.specs.Calls.{test_period}
 use Rattle.lrp_tables.specs.Columns.{head_texts, head_times}
-use Rattle.lrp_kept.specs.Choices.{HasLargePart as HasLargeChoice, listed_disjuncts}
+use Rattle.lrp_kept.specs.Choices.{HasLargeChoicePart as HasLargeChoice, listed_disjuncts}
 use Rattle.lrp_kept.specs.Disjuncts.{AreDisjunctsOf, IsDisjunctOf}
-use Rattle.lrp_kept.specs.Held.{AreLowRows, bounds_of, names_of, relation_of, relations_of}
-use Rattle.lrp_kept.specs.Keyed.{AreHeldRows, StandOnce}
-use Rattle.lrp_kept.specs.KeptForm.{elements, is_neither, some_passes}
+use Rattle.lrp_kept.specs.Held.{AreLowRows, greatest_bounds, names_of, held_relation, relations_of}
+use Rattle.lrp_kept.specs.Keyed.{AreHeldRows, HaveOwnKeys}
+use Rattle.lrp_kept.specs.KeptForm.{kept_elements, is_neither, some_passes}
 use Rattle.lrp_kept.specs.Keys.{keys_in, keys_of}
 use Rattle.lrp_kept.specs.Limits.{relation_bound, row_bound, scaled_kept_reach}
 use Rattle.lrp_kept.specs.SortedForms.{HaveColumnsOf, IsSortedForm}
@@ -46,7 +46,7 @@ use Rattle.lrp_kept.specs.declared.disjuncts.Disjunct.{Disjunct}
 use Rattle.lrp_kept.specs.declared.disjuncts.JoinedAtom.{JoinedAtom}
 use Rattle.lrp_kept.specs.declared.rows.HeldRelation.{HeldRelation}
 use Rattle.lrp_kept.specs.declared.rows.HeldRows.{HeldRows}
-use Rattle.lrp_kept.specs.declared.rows.Source.{Source}
+use Rattle.lrp_kept.specs.declared.rows.HeldRow.{HeldRow}
 use Rattle.lrp_kept.proofs.Room.{at_most, atom_room, below_greatest}
 use Rattle.lrp_kept.proofs.SortedDisjuncts.{disjunct_in_head, disjunct_narrow, few_head_texts, few_head_times, head_named}
 use Rattle.lrp_kept.proofs.SortedForms.{disjuncts_sorted}
@@ -55,7 +55,7 @@ use Rattle.lrp_parts.specs.Derivations.{CanDerive}
 use Rattle.lrp_parts.proofs.KeyedRows.{row_of_key}
 use Rattle.lrp_parts.proofs.Narrow.{can_be_joined, fits_elements}
 use Rattle.lrp_keep.specs.Keeps.{CanBeHeld, opened, scaled_reach_of, IsPastLimit, StaysWithinLimits}
-use Rattle.lrp_keep.specs.States.{AreAllHeld, AreMarkedBy, CanBeOpened, CanDeriveEach, HasSomeLargePart, IsFilled, IsKeeper, ground_at, levels_of, periods_at, read_periods, view_of}
+use Rattle.lrp_keep.specs.States.{AreAllHeld, AreMarkedBy, CanBeOpened, CanDeriveEach, HasSomeLargePart, HasRowsFilled, IsKeeper, ground_at, levels_of, periods_at, read_periods, keeper_view}
 use Rattle.lrp_kept.specs.Sketches.{CanBeSketched}
 use Rattle.lrp_keep.specs.Unions.{AreDerived}
 use Rattle.lrp_keep.specs.declared.faults.KeepFault.TheVariants.{BoundLimit, TooManyCells}
@@ -82,7 +82,7 @@ use Rattle.lrp_algebra.proofs.Steps.{abs_is, mapped_get}
 
 -- ---- names and columns
 
-module _ (sources : ℕ → Option Source) where
+module _ (sources : ℕ → Option HeldRow) where
   found_too : (db : List Relation) (rs : List HeldRelation) (name : Identifier) (r : Relation) → map (λ (h : HeldRelation). h.name) rs ≡ map (λ (r : Relation). r.name) db → map (λ (h : HeldRelation). h.columns) rs ≡ map (λ (r : Relation). r.columns) db
       → relation_named db name ≡ Some r → (s : Relation) × (relation_named (relations_of sources rs) name ≡ Some s) × (s.columns ≡ r.columns)
   found_too [] rs name r n c e = cc
@@ -92,12 +92,12 @@ module _ (sources : ℕ → Option Source) where
       let columns : h.columns ≡ x.columns = cc in
       let names : map (λ (h : HeldRelation). h.name) rs ≡ map (λ (r : Relation). r.name) db = cc in
       let all : map (λ (h : HeldRelation). h.columns) rs ≡ map (λ (r : Relation). r.columns) db = cc in
-      subst (λ m. (s : Relation) × ((if bytes_eq m name then Some (relation_of sources h) else relation_named (relations_of sources rs) name) ≡ Some s) × (s.columns ≡ r.columns)) (sym same)
+      subst (λ m. (s : Relation) × ((if bytes_eq m name then Some (held_relation sources h) else relation_named (relations_of sources rs) name) ≡ Some s) × (s.columns ≡ r.columns)) (sym same)
       (by (bytes_eq x.name name) e (λ f. found_too db rs name r names all f) columns)
     where
       by : (b : Bool) → (if b then Some x else relation_named db name) ≡ Some r → (relation_named db name ≡ Some r → (s : Relation) × (relation_named (relations_of sources rs) name ≡ Some s) × (s.columns ≡ r.columns)) → h.columns ≡ x.columns
-          → (s : Relation) × ((if b then Some (relation_of sources h) else relation_named (relations_of sources rs) name) ≡ Some s) × (s.columns ≡ r.columns)
-      by true f rest k = (relation_of sources h, refl, k ∙ ap (λ (y : Relation). y.columns) (some_is x r f))
+          → (s : Relation) × ((if b then Some (held_relation sources h) else relation_named (relations_of sources rs) name) ≡ Some s) × (s.columns ≡ r.columns)
+      by true f rest k = (held_relation sources h, refl, k ∙ ap (λ (y : Relation). y.columns) (some_is x r f))
       by false f rest k = rest f
 
   have_columns : (db : List Relation) (rs : List HeldRelation) → map (λ (h : HeldRelation). h.name) rs ≡ map (λ (r : Relation). r.name) db → map (λ (h : HeldRelation). h.columns) rs ≡ map (λ (r : Relation). r.columns) db → HaveColumnsOf db (relations_of sources rs)
@@ -124,7 +124,7 @@ module _ (of : KeptQuery) (db : List Relation) (start : HeldRows) (can : CanBeOp
   sorted_in : (f : Form) → Contains (listed_disjuncts q) f → IsSortedForm f db bs
   sorted_in f c = disjuncts_sorted db can.can.query.raw can.can.query.sorted f (subst (λ p. Contains (listed_disjuncts p) f) can.can.query.is c)
 
-  literal : (f : Form) → Contains (listed_disjuncts q) f → some_passes is_neither (elements f) ≡ false
+  literal : (f : Form) → Contains (listed_disjuncts q) f → some_passes is_neither (kept_elements f) ≡ false
   literal = literal_of q can.can.kept
 
   to_all : (k : ℕ) → Contains (periods q.body db) k → Contains all_periods k
@@ -218,7 +218,7 @@ module _ (of : KeptQuery) (db : List Relation) (start : HeldRows) (can : CanBeOp
           let n = named_at i x.0 x.1 x.2 x.3 in
           ap f x.4 ∙ go x.0 x.1 n.0 n.1 ∙ ap g same)
 
-      pub bounds_are : bounds_of marked.relations.items ≡ map relation_bound db
+      pub bounds_are : greatest_bounds marked.relations.items ≡ map relation_bound db
       bounds_are = images (λ (h : HeldRelation). h.most) relation_bound (λ s r a b. refl)
 
       names_are : names_of marked ≡ map (λ (r : Relation). r.name) db
@@ -247,7 +247,7 @@ module _ (of : KeptQuery) (db : List Relation) (start : HeldRows) (can : CanBeOp
       pub held_marked : AreHeldRows marked
       held_marked = record {
         there = λ i k c. absurd (let d : Contains [] k = subst (λ l. Contains l k) (none_marked i) c in let l : d.0 < 0 = d.1 in omega (arith, l));
-        once = λ i. subst (λ l. StandOnce l) (sym (none_marked i)) tt;
+        once = λ i. subst (λ l. HaveOwnKeys l) (sym (none_marked i)) tt;
       }
 
       pub size_marked : length marked.relations.items ≡ length db
@@ -256,29 +256,29 @@ module _ (of : KeptQuery) (db : List Relation) (start : HeldRows) (can : CanBeOp
       reach_is : scaled_reach_of (opened of.query.now db of.domain of.cap) ≡ scaled_kept_reach db (map relation_bound db) (period_of db q.body) q
       reach_is = refl
 
-      scaled_marked : scaled_kept_reach db (map relation_bound db) p q ≡ scaled_over (bounds_of marked.relations.items) p q.head ds
+      scaled_marked : scaled_kept_reach db (map relation_bound db) p q ≡ scaled_over (greatest_bounds marked.relations.items) p q.head ds
       scaled_marked =
           ap (λ bs. scaled_kept_reach db bs p q) (sym bounds_are)
-          ∙ scaled_named (relations_of (get marked.sources) marked.relations.items) db (bounds_of marked.relations.items) p q (sym names_are ∙ sym (names_in (get marked.sources) marked.relations.items))
+          ∙ scaled_named (relations_of (get marked.sources) marked.relations.items) db (greatest_bounds marked.relations.items) p q (sym names_are ∙ sym (names_in (get marked.sources) marked.relations.items))
           ∙ scaled_is marked p q ds distinct_marked disjuncts_marked
 
-      pub above_cause : 2 ^ 62 < scaled_over (bounds_of marked.relations.items) p of.query.now.head.columns ds → IsPastLimit (opened of.query.now db of.domain of.cap) BoundLimit
+      pub above_cause : 2 ^ 62 < scaled_over (greatest_bounds marked.relations.items) p of.query.now.head.columns ds → IsPastLimit (opened of.query.now db of.domain of.cap) BoundLimit
       above_cause l = (subst (λ n. n ≤ 2 ^ 62) (period_is p least) high, subst (λ n. 2 ^ 62 < scaled_kept_reach db (map relation_bound db) n q) (period_is p least) (subst (λ n. 2 ^ 62 < n) (sym scaled_marked) l))
 
-      module _ (reach : scaled_over (bounds_of marked.relations.items) p of.query.now.head.columns ds ≤ 2 ^ 62) where
+      module _ (reach : scaled_over (greatest_bounds marked.relations.items) p of.query.now.head.columns ds ≤ 2 ^ 62) where
         some_atoms : (d : Disjunct) → Contains ds d → 0 < length d.atoms.items
         some_atoms d listed = let z = zip_of (IsDisjunctOf names) (listed_disjuncts q) ds d can.disjuncts.each listed in some_joined names z.0 d z.2 (conjunctive_of q can.can.kept z.0 z.1)
 
-        room : (d : Disjunct) (a : JoinedAtom) → Contains ds d → Contains d.atoms.items a → joined_reach (bounds_of marked.relations.items) p a ≤ 2 ^ 62
+        room : (d : Disjunct) (a : JoinedAtom) → Contains ds d → Contains d.atoms.items a → joined_reach (greatest_bounds marked.relations.items) p a ≤ 2 ^ 62
         room d a listed own =
             let some = some_atoms d listed in
-            at_most (bounds_of marked.relations.items) p of.query.now.head.columns ds reach d listed some (joined_reach (bounds_of marked.relations.items) p a) (atom_room (bounds_of marked.relations.items) p of.query.now.head.columns ds reach d listed some a own)
+            at_most (greatest_bounds marked.relations.items) p of.query.now.head.columns ds reach d listed some (joined_reach (greatest_bounds marked.relations.items) p a) (atom_room (greatest_bounds marked.relations.items) p of.query.now.head.columns ds reach d listed some a own)
 
         count : (d : Disjunct) (a : JoinedAtom) (h : HeldRelation) → Contains ds d → Contains d.atoms.items a → slice_get marked.relations.items a.relation ≡ Some h → length a.terms ≡ length h.columns
         count d a h listed own at = joined_count marked q ds bs disjuncts_marked distinct_marked
             (λ f c. same_form db (relations_of (get marked.sources) marked.relations.items) (have_columns (get marked.sources) db marked.relations.items names_are columns_are) f bs (sorted_in f c)) literal d a h listed own at
 
-        narrow : (f : Form) → Contains (listed_disjuncts q) f → IsNarrow (free_each (elements f))
+        narrow : (f : Form) → Contains (listed_disjuncts q) f → IsNarrow (free_each (kept_elements f))
         narrow f c = fits_elements IsNarrow f (disjunct_narrow db can.can.query.raw can.can.query.sorted f (subst (λ p. Contains (listed_disjuncts p) f) can.can.query.is c)) (literal f c)
 
         reads_own : (d : Disjunct) (a : JoinedAtom) → Contains ds d → Contains d.atoms.items a → list_any (is_reader a.relation) ds ≡ true
@@ -300,8 +300,8 @@ module _ (of : KeptQuery) (db : List Relation) (start : HeldRows) (can : CanBeOp
             let columns : h.0.columns ≡ r.columns = ap (λ (y : HeldRelation). y.columns) x.4 ∙ n.1 ∙ ap (λ (y : Relation). y.columns) same in
             let most : h.0.most ≡ relation_bound r = ap (λ (y : HeldRelation). y.most) x.4 ∙ ap relation_bound same in
             let l : row_bound row ≤ relation_bound r = below_greatest row_bound r.rows row c in
-            let m : slice_index_or (bounds_of marked.relations.items) a.relation 0 ≡ h.0.most = ap (λ n. slice_index_or (bounds_of marked.relations.items) n 0) e ∙ most_at marked.relations.items i h.0 h.1 in
-            let k : joined_reach (bounds_of marked.relations.items) p a ≤ 2 ^ 62 = room d a listed own in
+            let m : slice_index_or (greatest_bounds marked.relations.items) a.relation 0 ≡ h.0.most = ap (λ n. slice_index_or (greatest_bounds marked.relations.items) n 0) e ∙ most_at marked.relations.items i h.0 h.1 in
+            let k : joined_reach (greatest_bounds marked.relations.items) p a ≤ 2 ^ 62 = room d a listed own in
             record {
               few_times = j.few_times;
               few_texts = j.few_texts;
@@ -314,7 +314,7 @@ module _ (of : KeptQuery) (db : List Relation) (start : HeldRows) (can : CanBeOp
         -- ---- all rows are held
 
         module _ (filled : HeldRows) (all : AreAllHeld of db (length db) marked filled) where
-          filled_at : (i : ℕ) (s : HeldRelation) → slice_get filled.relations.items i ≡ Some s → (h : HeldRelation) × (r : Relation) × (slice_get marked.relations.items i ≡ Some h) × (slice_get db i ≡ Some r) × IsFilled (get filled.sources) r.rows h s
+          filled_at : (i : ℕ) (s : HeldRelation) → slice_get filled.relations.items i ≡ Some s → (h : HeldRelation) × (r : Relation) × (slice_get marked.relations.items i ≡ Some h) × (slice_get db i ≡ Some r) × HasRowsFilled (get filled.sources) r.rows h s
           filled_at i s e =
               let l : i < length filled.relations.items = within filled.relations.items i s e in
               let n : length filled.relations.items ≡ length marked.relations.items = all.count in
@@ -322,7 +322,7 @@ module _ (of : KeptQuery) (db : List Relation) (start : HeldRows) (can : CanBeOp
               let h = found marked.relations.items i (omega (arith, l, n)) in
               let r = found db i (omega (arith, l, n, m)) in
               let x = all.at i h.0 r.0 (omega (arith, l, n, m)) h.1 r.1 in
-              (h.0, r.0, h.1, r.1, subst (λ t. IsFilled (get filled.sources) r.0.rows h.0 t) (some_is x.0 s (sym x.1 ∙ e)) x.2)
+              (h.0, r.0, h.1, r.1, subst (λ t. HasRowsFilled (get filled.sources) r.0.rows h.0 t) (some_is x.0 s (sym x.1 ∙ e)) x.2)
 
           abbrev relation_as : Identifier → List Column → List Row → Relation
           relation_as name columns rows = record { name = name; columns = columns; rows = rows }
@@ -331,7 +331,7 @@ module _ (of : KeptQuery) (db : List Relation) (start : HeldRows) (can : CanBeOp
           as_relation a b c d k l e f g = ap (λ x. relation_as x c k) e ∙ ap (λ x. relation_as b x k) f ∙ ap (λ x. relation_as b d x) g
 
           pub relations_are : relations_of (get filled.sources) filled.relations.items ≡ db
-          relations_are = same_images (λ (r : Relation). r) (relation_of (get filled.sources)) db filled.relations.items (all.count ∙ size_marked) (λ i r s e f.
+          relations_are = same_images (λ (r : Relation). r) (held_relation (get filled.sources)) db filled.relations.items (all.count ∙ size_marked) (λ i r s e f.
               let x = filled_at i s f in
               let y = marked_at i x.0 x.2 in
               let n = named_at i y.0 y.1 y.2 y.3 in
@@ -342,7 +342,7 @@ module _ (of : KeptQuery) (db : List Relation) (start : HeldRows) (can : CanBeOp
               (x.4.columns ∙ ap (λ (t : HeldRelation). t.columns) y.4 ∙ n.1 ∙ ap (λ (t : Relation). t.columns) again)
               (x.4.under ∙ ap (λ (t : Relation). t.rows) same)) ∙ map-id db
 
-          pub bounds_filled : bounds_of filled.relations.items ≡ bounds_of marked.relations.items
+          pub bounds_filled : greatest_bounds filled.relations.items ≡ greatest_bounds marked.relations.items
           bounds_filled = same_images (λ (h : HeldRelation). h.most) (λ (h : HeldRelation). h.most) marked.relations.items filled.relations.items all.count (λ i h s e f. let x = filled_at i s f in x.4.most ∙ ap (λ (t : HeldRelation). t.most) (some_is x.0 h (sym x.2 ∙ e)))
 
           names_filled : names_of filled ≡ names
@@ -355,7 +355,7 @@ module _ (of : KeptQuery) (db : List Relation) (start : HeldRows) (can : CanBeOp
           distinct_filled = subst AreDistinct (sym names_filled) can.distinct
 
           -- a row under a key is one of the database
-          row_in : (i key : ℕ) (s : HeldRelation) (source : Source) → slice_get filled.relations.items i ≡ Some s → Contains s.keys.items key → get filled.sources key ≡ Some source → (r : Relation) × (slice_get db i ≡ Some r) × Contains r.rows source.row × (s.most ≡ relation_bound r) × (s.columns ≡ r.columns)
+          row_in : (i key : ℕ) (s : HeldRelation) (source : HeldRow) → slice_get filled.relations.items i ≡ Some s → Contains s.keys.items key → get filled.sources key ≡ Some source → (r : Relation) × (slice_get db i ≡ Some r) × Contains r.rows source.row × (s.most ≡ relation_bound r) × (s.columns ≡ r.columns)
           row_in i key s source e c held =
               let x = filled_at i s e in
               let y = marked_at i x.0 x.2 in
@@ -366,7 +366,7 @@ module _ (of : KeptQuery) (db : List Relation) (start : HeldRows) (can : CanBeOp
           low_filled : AreLowRows filled
           low_filled i key s source e c held = let x = row_in i key s source e c held in subst (λ n. row_bound source.row ≤ n) (sym x.3) (below_greatest row_bound x.0.rows source.row x.2)
 
-          high_filled : scaled_over (bounds_of filled.relations.items) p of.query.now.head.columns ds ≤ 2 ^ 62
+          high_filled : scaled_over (greatest_bounds filled.relations.items) p of.query.now.head.columns ds ≤ 2 ^ 62
           high_filled = subst (λ bs. scaled_over bs p of.query.now.head.columns ds ≤ 2 ^ 62) (sym bounds_filled) reach
 
           pub can_opened : CanDeriveEach (ground_at of filled p) ds
@@ -374,7 +374,7 @@ module _ (of : KeptQuery) (db : List Relation) (start : HeldRows) (can : CanBeOp
               let listed : Contains ds d = Contains-from_get ds i d at in
               let z = zip_of (IsDisjunctOf (names_of filled)) (listed_disjuncts q) ds d disjuncts_filled.each listed in
               let inside : Contains (listed_disjuncts (plain_question can.can.query.raw)) z.0 = subst (λ p. Contains (listed_disjuncts p) z.0) can.can.query.is z.1 in
-              can_derive (names_of filled) z.0 d z.2 (conjunctive_of q can.can.kept z.0 z.1) (literal z.0 z.1) (ground_at of filled p) (bounds_of filled.relations.items) ds listed high_filled
+              can_derive (names_of filled) z.0 d z.2 (conjunctive_of q can.can.kept z.0 z.1) (literal z.0 z.1) (ground_at of filled p) (greatest_bounds filled.relations.items) ds listed high_filled
               (omega (arith, positive)) (let n : length (names_of filled) ≡ length filled.relations.items = map_count (λ (h : HeldRelation). h.name) filled.relations.items in omega (arith, n)) (narrow z.0 z.1) (λ t k. test_fits d t listed k)
               (record {
                 own = subst (λ (p : Question). HaveDistinctNames p.head) (sym can.can.query.is) (head_named db can.can.query.raw can.can.query.sorted);
@@ -384,13 +384,13 @@ module _ (of : KeptQuery) (db : List Relation) (start : HeldRows) (can : CanBeOp
               })
               (λ j a key e c. readable_in d listed j a key e c)
             where
-              readable_in : (d : Disjunct) → Contains ds d → (j : ℕ) (a : JoinedAtom) (key : ℕ) → slice_get d.atoms.items j ≡ Some a → Contains (keys_of filled a.relation) key → IsReadable (ground_at of filled p) (bounds_of filled.relations.items) d j a key
+              readable_in : (d : Disjunct) → Contains ds d → (j : ℕ) (a : JoinedAtom) (key : ℕ) → slice_get d.atoms.items j ≡ Some a → Contains (keys_of filled a.relation) key → IsReadable (ground_at of filled p) (greatest_bounds filled.relations.items) d j a key
               readable_in d listed j a key e c =
                   let own : Contains d.atoms.items a = Contains-from_get d.atoms.items j a e in
                   let x = all.sketched a.relation key c in
                   by (slice_get filled.relations.items a.relation) refl
                 where
-                  by : (o : Option HeldRelation) → slice_get filled.relations.items a.relation ≡ o → IsReadable (ground_at of filled p) (bounds_of filled.relations.items) d j a key
+                  by : (o : Option HeldRelation) → slice_get filled.relations.items a.relation ≡ o → IsReadable (ground_at of filled p) (greatest_bounds filled.relations.items) d j a key
                   by None none = absurd (let d : Contains [] key = subst (λ o. Contains (keys_in o) key) none c in let l : d.0 < 0 = d.1 in omega (arith, l))
                   by (Some s) at =
                       let own : Contains d.atoms.items a = Contains-from_get d.atoms.items j a e in
@@ -417,11 +417,11 @@ module _ (of : KeptQuery) (db : List Relation) (start : HeldRows) (can : CanBeOp
           )
 
           module _ (s : State) (rows_are : s.rows ≡ filled) (number_is : s.period.number ≡ p) (derived : AreDerived (ground_at of filled p) ds (levels_of s)) where
-            pub view_opened : view_of of s ≡ opened of.query.now db of.domain of.cap
+            pub view_opened : keeper_view of s ≡ opened of.query.now db of.domain of.cap
             view_opened =
-                ap (λ rs. record { query = of.query.now; domain = of.domain; cap = of.cap; relations = rs; period = s.period.number; bounds = bounds_of s.rows.relations.items }) (ap (λ (r : HeldRows). relations_of (get r.sources) r.relations.items) rows_are ∙ relations_are)
-                ∙ ap (λ n. record { query = of.query.now; domain = of.domain; cap = of.cap; relations = db; period = n; bounds = bounds_of s.rows.relations.items }) (number_is ∙ period_is p least)
-                ∙ ap (λ bs. record { query = of.query.now; domain = of.domain; cap = of.cap; relations = db; period = period_of db q.body; bounds = bs }) (ap (λ (r : HeldRows). bounds_of r.relations.items) rows_are ∙ bounds_filled ∙ bounds_are)
+                ap (λ rs. record { query = of.query.now; domain = of.domain; cap = of.cap; relations = rs; period = s.period.number; bounds = greatest_bounds s.rows.relations.items }) (ap (λ (r : HeldRows). relations_of (get r.sources) r.relations.items) rows_are ∙ relations_are)
+                ∙ ap (λ n. record { query = of.query.now; domain = of.domain; cap = of.cap; relations = db; period = n; bounds = greatest_bounds s.rows.relations.items }) (number_is ∙ period_is p least)
+                ∙ ap (λ bs. record { query = of.query.now; domain = of.domain; cap = of.cap; relations = db; period = period_of db q.body; bounds = bs }) (ap (λ (r : HeldRows). greatest_bounds r.relations.items) rows_are ∙ bounds_filled ∙ bounds_are)
 
             pub limits_opened : StaysWithinLimits (opened of.query.now db of.domain of.cap)
             limits_opened = record {
@@ -431,7 +431,7 @@ module _ (of : KeptQuery) (db : List Relation) (start : HeldRows) (can : CanBeOp
                   (subst (λ rs. HasLargeChoice rs q of.domain p of.cap) (sym relations_are) (subst (λ n. HasLargeChoice db q of.domain n of.cap) (sym (period_is p least)) large));
             }
 
-            relations_now : (view_of of s).relations ≡ db
+            relations_now : (keeper_view of s).relations ≡ db
             relations_now = ap (λ (r : HeldRows). relations_of (get r.sources) r.relations.items) rows_are ∙ relations_are
 
             pub keeper_opened : IsKeeper of s

@@ -19,18 +19,18 @@ use Rattle.lrp_plan_laws.proofs.Members.{all_by, all_of}
 use Rattle.lrp_plan_laws.proofs.PeriodLaws.{lcm_all_is, lcm_common, lcm_positive}
 use Rattle.lrp_zone.proofs.Cases.{eq_or}
 use Rattle.lrp_kept.specs.Disjuncts.{AreDisjunctsOf}
-use Rattle.lrp_kept.specs.Held.{AreLowRows, bounds_of, names_of, relation_of, relations_of}
+use Rattle.lrp_kept.specs.Held.{AreLowRows, greatest_bounds, names_of, held_relation, relations_of}
 use Rattle.lrp_kept.specs.Limits.{raised_period, row_bound}
 use Rattle.lrp_kept.specs.SortedForms.{HaveColumnsOf}
 use Rattle.lrp_kept.specs.Sizes.{is_reader}
 use Rattle.lrp_kept.specs.declared.rows.HeldRelation.{HeldRelation}
 use Rattle.lrp_kept.specs.declared.rows.HeldRows.{HeldRows}
-use Rattle.lrp_kept.specs.declared.rows.Source.{Source}
+use Rattle.lrp_kept.specs.declared.rows.HeldRow.{HeldRow}
 use Rattle.lrp_limits.specs.declared.periods.Period.{Period}
 use Rattle.lrp_parts.specs.Derivations.{CanDerive}
 use Rattle.lrp_parts.specs.declared.derivation.Derived.{Derived}
 use Rattle.lrp_keep.specs.Keeps.{CanBeHeld, raised_at, scaled_reach_of, with_added, with_row, IsPastLimit}
-use Rattle.lrp_keep.specs.States.{CanBeAddedAt, CanBeHeldIn, IsAddedAt, IsAddingCause, IsHeldAt, IsHoldingCause, IsKeeper, IsKeeping, IsMarked, IsStillState, ground_at, levels_of, period_with, view_of, with_held}
+use Rattle.lrp_keep.specs.States.{CanBeAddedAt, CanBeHeldIn, IsAddedAt, IsAddingCause, IsHeldAt, IsHoldingCause, IsKeeper, IsKeeping, IsMarked, IsStillState, ground_at, levels_of, period_with, keeper_view, with_held}
 use Rattle.lrp_keep.specs.Unions.{AreDerived}
 use Rattle.lrp_keep.specs.declared.faults.KeepFault.{KeepFault}
 use Rattle.lrp_keep.specs.declared.faults.KeepFault.TheVariants.{PeriodLimit}
@@ -59,7 +59,7 @@ as_relation a b c d k l e f g = ap (λ x. relation_as x c k) e ∙ ap (λ x. rel
 
 module _ (old new : HeldRows) (held : AreAsHeld old new) (alike : AreAlike IsSameBut old.relations.items new.relations.items) where
   pub same_relations : relations_of (get new.sources) new.relations.items ≡ relations_of (get old.sources) old.relations.items
-  same_relations = same_images (relation_of (get old.sources)) (relation_of (get new.sources)) old.relations.items new.relations.items alike.count (λ i h s x y.
+  same_relations = same_images (held_relation (get old.sources)) (held_relation (get new.sources)) old.relations.items new.relations.items alike.count (λ i h s x y.
       let a = alike.each i h s x y in
       as_relation s.name h.name s.columns h.columns (rows_under (get new.sources) s.keys.items) (rows_under (get old.sources) h.keys.items) a.name a.columns
       (ap (rows_under (get new.sources)) a.keys ∙ rows_same (get new.sources) (get old.sources) h.keys.items (λ k c. held.sources k)))
@@ -83,7 +83,7 @@ module _ (of : KeptQuery) (old new : State) (is : IsKeeping of old) (held : AreA
   names_are : names_of new.rows ≡ names_of old.rows
   names_are = same_names old.rows new.rows held alike
 
-  relations_are : (view_of of new).relations ≡ (view_of of old).relations
+  relations_are : (keeper_view of new).relations ≡ (keeper_view of old).relations
   relations_are = same_relations old.rows new.rows held alike
 
   pub keeping_same : IsKeeping of new
@@ -109,7 +109,7 @@ swapped : (a b : ℕ) → max a b ≡ max b a
 swapped a b = omega arith
 
 -- beside the relation of the name
-raised_in : (sources : ℕ → Option Source) (name : Identifier) (most : ℕ) (rs : List HeldRelation) → raised_at name most (relations_of sources rs) (bounds_of rs) ≡ map (λ (h : HeldRelation). if bytes_eq h.name name then max h.most most else h.most) rs
+raised_in : (sources : ℕ → Option HeldRow) (name : Identifier) (most : ℕ) (rs : List HeldRelation) → raised_at name most (relations_of sources rs) (greatest_bounds rs) ≡ map (λ (h : HeldRelation). if bytes_eq h.name name then max h.most most else h.most) rs
 raised_in sources name most [] = refl
 raised_in sources name most (h ∷ rs) = ap (λ ns. (if bytes_eq h.name name then max h.most most else h.most) ∷ ns) (raised_in sources name most rs)
 
@@ -154,7 +154,7 @@ module _ (of : KeptQuery) (old : State) (keeper : IsKeeper of old) (relation : �
   named : (name : Identifier) → slice_get (names_of old.rows) relation ≡ Some name → fits.held.name ≡ name
   named name e = let m = at_mapped (λ (r : HeldRelation). r.name) old.rows.relations.items relation name e in ap (λ (r : HeldRelation). r.name) (some_is fits.held m.0 (sym fits.at ∙ m.1)) ∙ m.2
 
-  bounds_raised : (name : Identifier) → slice_get (names_of old.rows) relation ≡ Some name → bounds_of new.rows.relations.items ≡ raised_at name (row_bound row) (view_of of old).relations (bounds_of old.rows.relations.items)
+  bounds_raised : (name : Identifier) → slice_get (names_of old.rows) relation ≡ Some name → greatest_bounds new.rows.relations.items ≡ raised_at name (row_bound row) (keeper_view of old).relations (greatest_bounds old.rows.relations.items)
   bounds_raised name e =
       same_images (λ (h : HeldRelation). if bytes_eq h.name name then max h.most (row_bound row) else h.most) (λ (h : HeldRelation). h.most) old.rows.relations.items new.rows.relations.items marked.count one
       ∙ sym (raised_in (get old.rows.sources) name (row_bound row) old.rows.relations.items)
@@ -178,15 +178,15 @@ module _ (of : KeptQuery) (old : State) (keeper : IsKeeper of old) (relation : �
           not_by true t m = cc
           not_by false t m = m
 
-  period_named : (name : Identifier) → slice_get (names_of old.rows) relation ≡ Some name → period_with of old relation row ≡ (with_added (view_of of old) name row).period
+  period_named : (name : Identifier) → slice_get (names_of old.rows) relation ≡ Some name → period_with of old relation row ≡ (with_added (keeper_view of old) name row).period
   period_named name e = ap (λ b. if b then raised_period old.period.number row else old.period.number) (sym (reads (names_of old.rows) (question_of of.query.now) of.disjuncts.items keeper.keeping.state.disjuncts keeper.keeping.distinct relation name e))
 
   module _ (period : ℕ) (raised : period ≡ period_with of old relation row) (low_row : AllByRecursion (λ k. 1 ≤ k) (row_periods row)) where
-    pub as_added : (name : Identifier) → slice_get (names_of old.rows) relation ≡ Some name → with_held (view_of of new) name row period ≡ with_added (view_of of old) name row
+    pub as_added : (name : Identifier) → slice_get (names_of old.rows) relation ≡ Some name → with_held (keeper_view of new) name row period ≡ with_added (keeper_view of old) name row
     as_added name e =
-        ap (λ rs. record { query = of.query.now; domain = of.domain; cap = of.cap; relations = with_row rs name row; period = period; bounds = bounds_of new.rows.relations.items }) (same_relations old.rows new.rows held alike)
-        ∙ ap (λ p. record { query = of.query.now; domain = of.domain; cap = of.cap; relations = with_row (view_of of old).relations name row; period = p; bounds = bounds_of new.rows.relations.items }) (raised ∙ period_named name e)
-        ∙ ap (λ bs. record { query = of.query.now; domain = of.domain; cap = of.cap; relations = with_row (view_of of old).relations name row; period = (with_added (view_of of old) name row).period; bounds = bs }) (bounds_raised name e)
+        ap (λ rs. record { query = of.query.now; domain = of.domain; cap = of.cap; relations = with_row rs name row; period = period; bounds = greatest_bounds new.rows.relations.items }) (same_relations old.rows new.rows held alike)
+        ∙ ap (λ p. record { query = of.query.now; domain = of.domain; cap = of.cap; relations = with_row (keeper_view of old).relations name row; period = p; bounds = greatest_bounds new.rows.relations.items }) (raised ∙ period_named name e)
+        ∙ ap (λ bs. record { query = of.query.now; domain = of.domain; cap = of.cap; relations = with_row (keeper_view of old).relations name row; period = (with_added (keeper_view of old) name row).period; bounds = bs }) (bounds_raised name e)
 
     own : (name : Identifier) → slice_get (names_of old.rows) relation ≡ Some name → slice_get (names_of new.rows) relation ≡ Some name
     own name e = ap (λ l. slice_get l relation) names_new ∙ e
@@ -270,7 +270,7 @@ module _ (of : KeptQuery) (old : State) (keeper : IsKeeper of old) (relation : �
       period_back : back.period ≡ old.period
       period_back = same_period ∙ same.period ∙ period_is
 
-      bounds_back : bounds_of back.rows.relations.items ≡ bounds_of old.rows.relations.items
+      bounds_back : greatest_bounds back.rows.relations.items ≡ greatest_bounds old.rows.relations.items
       bounds_back = same_images (λ (h : HeldRelation). h.most) (λ (h : HeldRelation). h.most) old.rows.relations.items back.rows.relations.items alike_back.count (λ i h s x y. (alike_back.each i h s x y).1)
 
       derived_back : AreDerived (ground_at of back.rows back.period.number) of.disjuncts.items (levels_of back)
@@ -279,11 +279,11 @@ module _ (of : KeptQuery) (old : State) (keeper : IsKeeper of old) (relation : �
           (subst (λ (p : Period). AreDerived (ground_at of back.rows p.number) of.disjuncts.items (levels_of still)) (sym same_period)
           (record { count = same.derived.count; each = λ i d levels at there. same_derived (ground_at of still.rows still.period.number) back.rows d levels (marked_as_held relation fits.held.most still.rows back.rows unmarked) (same.derived.each i d levels at there) }))
 
-      pub view_back : view_of of back ≡ view_of of old
+      pub view_back : keeper_view of back ≡ keeper_view of old
       view_back =
-          ap (λ rs. record { query = of.query.now; domain = of.domain; cap = of.cap; relations = rs; period = back.period.number; bounds = bounds_of back.rows.relations.items }) (same_relations old.rows back.rows held_back same_but)
-          ∙ ap (λ (p : Period). record { query = of.query.now; domain = of.domain; cap = of.cap; relations = (view_of of old).relations; period = p.number; bounds = bounds_of back.rows.relations.items }) period_back
-          ∙ ap (λ bs. record { query = of.query.now; domain = of.domain; cap = of.cap; relations = (view_of of old).relations; period = old.period.number; bounds = bs }) bounds_back
+          ap (λ rs. record { query = of.query.now; domain = of.domain; cap = of.cap; relations = rs; period = back.period.number; bounds = greatest_bounds back.rows.relations.items }) (same_relations old.rows back.rows held_back same_but)
+          ∙ ap (λ (p : Period). record { query = of.query.now; domain = of.domain; cap = of.cap; relations = (keeper_view of old).relations; period = p.number; bounds = greatest_bounds back.rows.relations.items }) period_back
+          ∙ ap (λ bs. record { query = of.query.now; domain = of.domain; cap = of.cap; relations = (keeper_view of old).relations; period = old.period.number; bounds = bs }) bounds_back
 
       pub keeper_back : IsKeeper of back
       keeper_back = record {

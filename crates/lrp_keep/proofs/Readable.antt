@@ -16,14 +16,14 @@ use Rattle.lrp_model.specs.declared.relations.Value.{Value}
 use Rattle.lrp_model.specs.declared.relations.Value.TheVariants.{Point, Const}
 use Rattle.lrp_tables.specs.Calls.{CanBeCarried, test_period}
 use Rattle.lrp_algebra.specs.Rows.{CanBeRead, DividesPeriod, HasSmallPeriod, bounds_reach}
-use Rattle.lrp_kept.specs.Held.{AreLowRows, bounds_of}
+use Rattle.lrp_kept.specs.Held.{AreLowRows, greatest_bounds}
 use Rattle.lrp_kept.specs.Keys.{keys_of}
 use Rattle.lrp_kept.specs.Outlines.{IsOutlineFor}
 use Rattle.lrp_kept.specs.Sizes.{joined_reach}
 use Rattle.lrp_kept.specs.declared.disjuncts.Disjunct.{Disjunct}
 use Rattle.lrp_kept.specs.declared.disjuncts.JoinedAtom.{JoinedAtom}
 use Rattle.lrp_kept.specs.declared.rows.Sketch.{Sketch}
-use Rattle.lrp_kept.specs.declared.rows.Source.{Source}
+use Rattle.lrp_kept.specs.declared.rows.HeldRow.{HeldRow}
 use Rattle.lrp_parts.specs.Derivations.{Ground}
 use Rattle.lrp_keep.specs.Keeps.{CanBeHeld, CanStandAlone}
 use Rattle.lrp_kept.specs.Sketches.{AreSketchesOf, IsSketchAmong}
@@ -98,11 +98,11 @@ sketched_for domain ds numbered relation row all are d listed i a at s c number 
 -- ---- the row under a key
 
 module _ (g : Ground) (ds : List Disjunct) (numbered : (i : ℕ) (d : Disjunct) → slice_get ds i ≡ Some d → d.number ≡ i) (low : AreLowRows g.rows) (positive : 1 ≤ g.period) (high : g.period ≤ 2 ^ 62) where
-  pub readable : (d : Disjunct) → Contains ds d → (i : ℕ) (a : JoinedAtom) (key : ℕ) (source : Source) (columns : List Column) → slice_get d.atoms.items i ≡ Some a → Contains (keys_of g.rows a.relation) key → get g.rows.sources key ≡ Some source
-      → CanBeHeld g.domain columns source.row → length a.terms ≡ length columns → AllByRecursion (λ k. IsMultiple k g.period) (row_periods source.row) → joined_reach (bounds_of g.rows.relations.items) g.period a ≤ 2 ^ 62
-      → AreSketchesOf g.domain ds a.relation source.row source.sketches.items → IsReadable g (bounds_of g.rows.relations.items) d i a key
+  pub readable : (d : Disjunct) → Contains ds d → (i : ℕ) (a : JoinedAtom) (key : ℕ) (source : HeldRow) (columns : List Column) → slice_get d.atoms.items i ≡ Some a → Contains (keys_of g.rows a.relation) key → get g.rows.sources key ≡ Some source
+      → CanBeHeld g.domain columns source.row → length a.terms ≡ length columns → AllByRecursion (λ k. IsMultiple k g.period) (row_periods source.row) → joined_reach (greatest_bounds g.rows.relations.items) g.period a ≤ 2 ^ 62
+      → AreSketchesOf g.domain ds a.relation source.row source.sketches.items → IsReadable g (greatest_bounds g.rows.relations.items) d i a key
   readable d listed i a key source columns at c held fits count multiples room sketches =
-      let l : bounds_reach source.row.bounds a.terms + g.period ≤ joined_reach (bounds_of g.rows.relations.items) g.period a = low_rows g d.atoms.items low a key source (Contains-from_get d.atoms.items i a at) c held in
+      let l : bounds_reach source.row.bounds a.terms + g.period ≤ joined_reach (greatest_bounds g.rows.relations.items) g.period a = low_rows g d.atoms.items low a key source (Contains-from_get d.atoms.items i a at) c held in
       record {
         source = source;
         held = held;

@@ -15,21 +15,21 @@ use Rattle.lrp_model.proofs.Logic.{all_append}
 use Rattle.lrp_plan_laws.proofs.HeadLaws.{other_name}
 use Rattle.lrp_plan_laws.proofs.Members.{all_by, all_of, in_right}
 use Rattle.lrp_kept.specs.EqualRows.{AreEqualRows}
-use Rattle.lrp_kept.specs.Held.{AreLowRows, bounds_of, names_of, relation_of, relations_of, row_of}
+use Rattle.lrp_kept.specs.Held.{AreLowRows, greatest_bounds, names_of, held_relation, relations_of, held_row}
 use Rattle.lrp_kept.specs.Keyed.{HasNoEqualRow, IsLetGoAt}
 use Rattle.lrp_kept.specs.Keys.{keys_of}
 use Rattle.lrp_kept.specs.Limits.{row_bound}
 use Rattle.lrp_kept.specs.SortedForms.{HaveColumnsOf}
 use Rattle.lrp_kept.specs.declared.rows.HeldRelation.{HeldRelation}
 use Rattle.lrp_kept.specs.declared.rows.HeldRows.{HeldRows}
-use Rattle.lrp_kept.specs.declared.rows.Source.{Source}
+use Rattle.lrp_kept.specs.declared.rows.HeldRow.{HeldRow}
 use Rattle.lrp_limits.specs.declared.periods.Period.{Period}
 use Rattle.lrp_parts.specs.Derivations.{IsWithoutKey}
 use Rattle.lrp_parts.proofs.KeyedRows.{found_at, key_of_row}
 use Rattle.lrp_parts.proofs.Rekeyed.{keys_here, let_go_without}
 use Rattle.lrp_keep.specs.Keeps.{CanBeHeld, HasNoEqual, IsTakenOut, IsWithout, scaled_reach_of}
 use Rattle.lrp_keep.specs.Replaced.{replaced}
-use Rattle.lrp_keep.specs.States.{IsKeeper, IsKeeping, IsRemoved, view_of}
+use Rattle.lrp_keep.specs.States.{IsKeeper, IsKeeping, IsRemoved, keeper_view}
 use Rattle.lrp_keep.specs.declared.kept_query.KeptQuery.{KeptQuery}
 use Rattle.lrp_keep.specs.declared.states.State.{State}
 use Rattle.lrp_keep.proofs.Adding.{names_in, names_replaced}
@@ -111,7 +111,7 @@ module _ (of : KeptQuery) (old new : State) (keeper : IsKeeper of old) (relation
   alone i c =
       let s = is.state.rows.there i key c in
       let t = is.state.rows.there relation key was_listed in
-      sym s.relation_is ∙ ap (λ (x : Source). x.relation) (some_is s.source t.source (sym s.held ∙ t.held)) ∙ t.relation_is
+      sym s.relation_is ∙ ap (λ (x : HeldRow). x.relation) (some_is s.source t.source (sym s.held ∙ t.held)) ∙ t.relation_is
 
   others_stay : (i k : ℕ) → i ≢ relation → Contains (keys_of old.rows i) k → get new.rows.sources k ≡ get old.rows.sources k
   others_stay i k n c = gone.others k (λ e. n (alone i (subst (λ x. Contains (keys_of old.rows i) x) e c)))
@@ -130,7 +130,7 @@ module _ (of : KeptQuery) (old new : State) (keeper : IsKeeper of old) (relation
   rows_were =
       ap (rows_of db) (sym named) ∙ own_rows old.rows relation held is.distinct at ∙ ap (rows_under (get old.rows.sources)) gone.were
       ∙ rows_both (get old.rows.sources) gone.front (key ∷ gone.back)
-      ∙ ap (λ l. front_rows ++ (l ++ back_rows)) (ap row_of (ap (get old.rows.sources) (sym place_is) ∙ r.first.held))
+      ∙ ap (λ l. front_rows ++ (l ++ back_rows)) (ap held_row (ap (get old.rows.sources) (sym place_is) ∙ r.first.held))
 
   -- the keys that stay are others
   fewer : (k : ℕ) → Contains (gone.front ++ gone.back) k → k ≢ key
@@ -155,23 +155,23 @@ module _ (of : KeptQuery) (old new : State) (keeper : IsKeeper of old) (relation
         r.first.before p.0 k.0 k.1 (omega (arith, l, size)) (ap (λ l. slice_get l p.0) gone.were ∙ before_end gone.front (key ∷ gone.back) p.0 k.0 p.1) k.3 (subst (λ x. AreEqualRows x row) (sym k.4) equal)));
   }
 
-  relations_are : (view_of of new).relations ≡ replaced db name (front_rows ++ back_rows)
+  relations_are : (keeper_view of new).relations ≡ replaced db name (front_rows ++ back_rows)
   relations_are =
       relations_now old.rows new.rows relation (gone.front ++ gone.back) gone.listed held at is.distinct others_stay
       ∙ ap₂ (λ n rows. replaced db n rows) named rows_are
 
-  bounds_are : bounds_of new.rows.relations.items ≡ bounds_of old.rows.relations.items
+  bounds_are : greatest_bounds new.rows.relations.items ≡ greatest_bounds old.rows.relations.items
   bounds_are =
       let a = relisted_alike (λ h s. s.most ≡ h.most) relation (gone.front ++ gone.back) old.rows.relations.items new.rows.relations.items gone.listed (λ h. refl) (λ h s at x. x.most) in
       same_images (λ (h : HeldRelation). h.most) (λ (h : HeldRelation). h.most) old.rows.relations.items new.rows.relations.items a.count a.each
 
-  view_is : view_of of new ≡ record { query = of.query.now; domain = of.domain; cap = of.cap; relations = replaced db name (front_rows ++ back_rows); period = old.period.number; bounds = bounds_of old.rows.relations.items }
+  view_is : keeper_view of new ≡ record { query = of.query.now; domain = of.domain; cap = of.cap; relations = replaced db name (front_rows ++ back_rows); period = old.period.number; bounds = greatest_bounds old.rows.relations.items }
   view_is =
-      ap (λ rs. record { query = of.query.now; domain = of.domain; cap = of.cap; relations = rs; period = new.period.number; bounds = bounds_of new.rows.relations.items }) relations_are
-      ∙ ap (λ (p : Period). record { query = of.query.now; domain = of.domain; cap = of.cap; relations = replaced db name (front_rows ++ back_rows); period = p.number; bounds = bounds_of new.rows.relations.items }) r.gone.period
+      ap (λ rs. record { query = of.query.now; domain = of.domain; cap = of.cap; relations = rs; period = new.period.number; bounds = greatest_bounds new.rows.relations.items }) relations_are
+      ∙ ap (λ (p : Period). record { query = of.query.now; domain = of.domain; cap = of.cap; relations = replaced db name (front_rows ++ back_rows); period = p.number; bounds = greatest_bounds new.rows.relations.items }) r.gone.period
       ∙ ap (λ bs. record { query = of.query.now; domain = of.domain; cap = of.cap; relations = replaced db name (front_rows ++ back_rows); period = old.period.number; bounds = bs }) bounds_are
 
-  pub without_row : IsWithout name row (view_of of old) (view_of of new)
+  pub without_row : IsWithout name row (keeper_view of old) (keeper_view of new)
   without_row = record { rows = front_rows ++ back_rows; taken = taken; is = view_is }
 
   names_are : names_of new.rows ≡ names_of old.rows
@@ -180,7 +180,7 @@ module _ (of : KeptQuery) (old new : State) (keeper : IsKeeper of old) (relation
   rows_fit : AllByRecursion (λ (r : Relation). AllByRecursion (CanBeHeld of.domain r.columns) r.rows) (replaced db name (front_rows ++ back_rows))
   rows_fit = all_fit (front_rows ++ back_rows) name of.domain db is.rows (λ x c e.
       let p = place_in db x c in
-      let m = at_mapped (relation_of (get old.rows.sources)) old.rows.relations.items p.0 x p.1 in
+      let m = at_mapped (held_relation (get old.rows.sources)) old.rows.relations.items p.0 x p.1 in
       let found = found_at (get old.rows.sources) old.rows.relations.items p.0 m.0 is.distinct m.1 in
       let same : m.0.name ≡ name = ap (λ (y : Relation). y.name) m.2 ∙ e in
       let own : rows_of db name ≡ x.rows = ap (λ n. rows_in (relation_named db n)) (sym same) ∙ ap rows_in found ∙ ap (λ (y : Relation). y.rows) m.2 in
@@ -210,5 +210,5 @@ module _ (of : KeptQuery) (old new : State) (keeper : IsKeeper of old) (relation
       low = low_new;
     };
     reach = subst (λ k. scaled_reach_of k ≤ 2 ^ 62) (sym view_is)
-        (subst (λ n. n ≤ 2 ^ 62) (sym (scaled_named db (replaced db name (front_rows ++ back_rows)) (bounds_of old.rows.relations.items) old.period.number (question_of of.query.now) (names_replaced db name (front_rows ++ back_rows)))) keeper.reach);
+        (subst (λ n. n ≤ 2 ^ 62) (sym (scaled_named db (replaced db name (front_rows ++ back_rows)) (greatest_bounds old.rows.relations.items) old.period.number (question_of of.query.now) (names_replaced db name (front_rows ++ back_rows)))) keeper.reach);
   }

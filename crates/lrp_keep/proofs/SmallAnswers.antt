@@ -18,8 +18,8 @@ use Rattle.lrp_zone.specs.Zones.{ZoneView, IsZone, columns_of, reach_of}
 use Rattle.lrp_zone.proofs.Reaches.{small_reach}
 use Rattle.lrp_store.specs.Stores.{HasReach, IsStore, StoreView, tables_at, zone_of, zones_at}
 use Rattle.lrp_tables.specs.Columns.{head_times, with_time_name}
-use Rattle.lrp_minus.specs.Settling.{IsSmallZone}
-use Rattle.lrp_minus.proofs.LineLaws.{small_zone}
+use Rattle.lrp_cutting.specs.Settling.{IsSmallZone}
+use Rattle.lrp_cutting.proofs.LineLaws.{small_zone}
 
 fewer : {X : Type 0} (n : ℕ) (xs : List X) → length (take n xs) ≤ n
 fewer zero [] = omega arith

@@ -4,7 +4,7 @@ use Rattle.std.specs.Prelude.{ℤ, IsSome, slice_get}
 use Rattle.lrp_holdings.specs.Holdings.{Held, HoldingsView, Holds, held_at}
 use Rattle.lrp_store.specs.Stores.{HasReach, InStore, IsStore, StoreView}
 use Rattle.lrp_tables.specs.Passes.{IsMadeFrom}
-use Rattle.lrp_tables.specs.Pieces.{Fits, InPiece}
+use Rattle.lrp_tables.specs.Pieces.{FitsCell, InPiece}
 use Rattle.lrp_tables.specs.declared.pieces.Piece.{Piece}
 use Rattle.lrp_tables.proofs.Adding.{IsZoneOf}
 use Rattle.lrp_tables.proofs.Passing.{IsPassing}
@@ -19,7 +19,7 @@ use Rattle.lrp_holdings.proofs.Chained.{none_some, some_is}
 -- ---- one zone
 
 -- a zone in its own cell has its own tuples
-pub same_zone : (piece : Piece) (s : StoreView) → IsZone piece.zone → Fits s.shape s.period piece → IsZoneOf (IsMadeFrom StaysSame (InPiece s.shape.texts piece)) s piece.cell piece.zone (reach_of piece.zone)
+pub same_zone : (piece : Piece) (s : StoreView) → IsZone piece.zone → FitsCell s.shape s.period piece → IsZoneOf (IsMadeFrom StaysSame (InPiece s.shape.texts piece)) s piece.cell piece.zone (reach_of piece.zone)
 same_zone piece s is fits = record {
   zone = is;
   period = fits.period_is;
@@ -34,7 +34,7 @@ same_zone piece s is fits = record {
 -- ---- one store
 
 -- the zones of a store in one of its shape and period
-pub fits_there : (piece : Piece) (from out : StoreView) → out.shape ≡ from.shape → out.period ≡ from.period → Fits from.shape from.period piece → Fits out.shape out.period piece
+pub fits_there : (piece : Piece) (from out : StoreView) → out.shape ≡ from.shape → out.period ≡ from.period → FitsCell from.shape from.period piece → FitsCell out.shape out.period piece
 fits_there piece from out e f h = rw e (rw f h)
 
 module _ (from start out : StoreView) (p : IsPassing StaysSame (λ high. high) (2 ^ 32 - 1) from start out []) (any : HasReach from (2 ^ 62)) where

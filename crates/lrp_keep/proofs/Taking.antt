@@ -5,7 +5,7 @@ use Rattle.std.specs.Option.{option_map}
 use Rattle.lrp_holdings.specs.Holdings.{Held, HoldingsView, held_at}
 use Rattle.lrp_store.specs.Stores.{IsStore, StoreView}
 use Rattle.lrp_parts.specs.Derivations.{HoldsIn, Levels}
-use Rattle.lrp_keep.specs.Taken.{AreAlike, HasTaken, HasTakenSome, HasTakenValue, IsAlike}
+use Rattle.lrp_keep.specs.Taken.{AreAlike, HasTaken, HasTakenSome, HasTakenValue, IsLikeStored}
 use Rattle.lrp_keep.proofs.Taken.{HoldsBelow, all_below, last_level, nothing_taken, one_below, one_taken, skip_below}
 use Rattle.lrp_holdings.proofs.Chained.{none_some, some_is}
 
@@ -25,10 +25,10 @@ held_there : (o : Option (Held (Option StoreView))) (value : Option StoreView) �
 held_there None value e = absurd (none_some value (sym e))
 held_there (Some x) value e = (x, refl, some_is x.value value (sym e))
 
-pub alike_slot : (h : HoldingsView (Option StoreView)) (slot : ℕ) (value : Option StoreView) (out : StoreView) → Some value ≡ option_map (λ x. x.value) (held_at h slot) → AreAlike (h ∷ []) out → IsAlike value out
+pub alike_slot : (h : HoldingsView (Option StoreView)) (slot : ℕ) (value : Option StoreView) (out : StoreView) → Some value ≡ option_map (λ x. x.value) (held_at h slot) → AreAlike (h ∷ []) out → IsLikeStored value out
 alike_slot h slot value out e alike =
     let x = held_there (held_at h slot) value e in
-    subst (λ v. IsAlike v out) x.2 (alike x.0.owners x.0.value (h, refl, (slot, x.1)))
+    subst (λ v. IsLikeStored v out) x.2 (alike x.0.owners x.0.value (h, refl, (slot, x.1)))
 
 pub taken_slot : {X Y : Type 0} (o : Result X Y) (h : HoldingsView (Option StoreView)) (slot : ℕ) (value : Option StoreView) (old new : StoreView) → Some value ≡ option_map (λ x. x.value) (held_at h slot) → OnOk o (HasTakenValue value old new) → OnOk o (MatchOption (held_at h slot) (new ≡ old) (λ held. HasTakenValue held.value old new))
 taken_slot (Ok y) h slot value old new e t =

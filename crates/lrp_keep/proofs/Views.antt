@@ -12,28 +12,28 @@ use Rattle.lrp_plan_laws.proofs.CoreLaws.{own_name}
 use Rattle.lrp_plan_laws.proofs.HeadLaws.{other_name}
 use Rattle.lrp_zone.proofs.Cases.{eq_or}
 use Rattle.lrp_kept.specs.Keys.{keys_in, keys_of}
-use Rattle.lrp_kept.specs.Held.{names_of, relation_of, relations_of, row_of}
+use Rattle.lrp_kept.specs.Held.{names_of, held_relation, relations_of, held_row}
 use Rattle.lrp_kept.specs.Keyed.{AreRelisted, IsWithKeys}
 use Rattle.lrp_keep.specs.Replaced.{replaced, with_rows}
 use Rattle.lrp_kept.specs.declared.rows.HeldRelation.{HeldRelation}
 use Rattle.lrp_kept.specs.declared.rows.HeldRows.{HeldRows}
-use Rattle.lrp_kept.specs.declared.rows.Source.{Source}
+use Rattle.lrp_kept.specs.declared.rows.HeldRow.{HeldRow}
 use Rattle.lrp_holdings.proofs.Chained.{none_some, some_is}
 use Rattle.lrp_model.proofs.Everywhere.{map_count}
 use Rattle.lrp_keep.proofs.Lists.{at_mapped}
 
 -- ---- rows under keys
 
-abbrev pub rows_under : (ℕ → Option Source) → List ℕ → List Row
-rows_under sources keys = flat_map (λ key. row_of (sources key)) keys
+abbrev pub rows_under : (ℕ → Option HeldRow) → List ℕ → List Row
+rows_under sources keys = flat_map (λ key. held_row (sources key)) keys
 
-pub rows_same : (s t : ℕ → Option Source) (keys : List ℕ) → ((k : ℕ) → Contains keys k → s k ≡ t k) → rows_under s keys ≡ rows_under t keys
+pub rows_same : (s t : ℕ → Option HeldRow) (keys : List ℕ) → ((k : ℕ) → Contains keys k → s k ≡ t k) → rows_under s keys ≡ rows_under t keys
 rows_same s t [] h = refl
-rows_same s t (k ∷ keys) h = ap₂ (λ a b. a ++ b) (ap row_of (h k (contains_first k keys))) (rows_same s t keys (λ j i. h j (contains_later k j keys i)))
+rows_same s t (k ∷ keys) h = ap₂ (λ a b. a ++ b) (ap held_row (h k (contains_first k keys))) (rows_same s t keys (λ j i. h j (contains_later k j keys i)))
 
-pub rows_both : (s : ℕ → Option Source) (front back : List ℕ) → rows_under s (front ++ back) ≡ rows_under s front ++ rows_under s back
+pub rows_both : (s : ℕ → Option HeldRow) (front back : List ℕ) → rows_under s (front ++ back) ≡ rows_under s front ++ rows_under s back
 rows_both s [] back = refl
-rows_both s (k ∷ front) back = ap (λ l. row_of (s k) ++ l) (rows_both s front back) ∙ sym (append_assoc (row_of (s k)) (rows_under s front) (rows_under s back))
+rows_both s (k ∷ front) back = ap (λ l. held_row (s k) ++ l) (rows_both s front back) ∙ sym (append_assoc (held_row (s k)) (rows_under s front) (rows_under s back))
 
 -- ---- relations, one by one
 
@@ -84,10 +84,10 @@ module _ (old new : HeldRows) (number : ℕ) (keys : List ℕ) (x : AreRelisted 
     rows = rows_under (get new.sources) keys
 
     abbrev now_of : HeldRelation → Relation
-    now_of h = relation_of (get new.sources) h
+    now_of h = held_relation (get new.sources) h
 
     abbrev was_of : HeldRelation → Relation
-    was_of h = relation_of (get old.sources) h
+    was_of h = held_relation (get old.sources) h
 
     abbrev as_relation : Identifier → List Column → List ℕ → Relation
     as_relation name columns ks = record { name = name; columns = columns; rows = rows_under (get new.sources) ks }

@@ -22,9 +22,9 @@ use Rattle.lrp_plan_laws.proofs.SortedNames.{same_name}
 use Rattle.lrp_tables.specs.Columns.{names_of_data, names_of_time, texts_of_term, times_of_term}
 use Rattle.lrp_tables.proofs.Joining.{found_in}
 use Rattle.lrp_kept.specs.Choices.{tests_among}
-use Rattle.lrp_parts.specs.Derivations.{last_of, tests_in, texts_in}
-use Rattle.lrp_kept.specs.Disjuncts.{IsAtomOf, IsDisjunctOf, is_covered}
-use Rattle.lrp_kept.specs.KeptForm.{all_occur, all_pass, elements, is_atom, is_atom_with, is_conjunctive, is_neither, some_passes, tested_variables}
+use Rattle.lrp_parts.specs.Derivations.{last_atom, atom_tests, atom_texts}
+use Rattle.lrp_kept.specs.Disjuncts.{IsAtomOf, IsDisjunctOf, is_test_covered}
+use Rattle.lrp_kept.specs.KeptForm.{all_occur, all_pass, kept_elements, is_atom, is_atom_with, is_conjunctive, is_neither, some_passes, tested_variables}
 use Rattle.lrp_kept.specs.declared.disjuncts.Disjunct.{Disjunct}
 use Rattle.lrp_kept.specs.declared.disjuncts.JoinedAtom.{JoinedAtom}
 use Rattle.lrp_parts.proofs.Behind.{both_true, each_true, in_kept, kept_test, own_tests, own_texts, own_times, rises, some_terms}
@@ -131,7 +131,7 @@ module _ (fs : Forms) (ts xs : List Identifier) (times : (v : Identifier) → so
   text_covered (data_const t) e = refl
   text_covered (data_var v) e = both_true (list_any (bytes_eq v) xs) true (found_in v xs (texts v (each_true (some_passes (is_atom_with (data_variable v)) fs) true e).0)) refl
 
-  is_all_covered : (t : Test) → all_occur fs (variables_of_test t) ≡ true → is_covered ts xs t ≡ true
+  is_all_covered : (t : Test) → all_occur fs (variables_of_test t) ≡ true → is_test_covered ts xs t ≡ true
   is_all_covered (Compare left op right) e =
       let r = all_both (λ v. some_passes (is_atom_with v) fs) (variables_of_time left) (variables_of_time right) e in
       both_true (list_all (λ v. list_any (bytes_eq v) ts) (names_of_time left ++ names_of_time right)) true (all_joined (λ v. list_any (bytes_eq v) ts) (names_of_time left) (names_of_time right) (time_covered left r.0) (time_covered right r.1)) refl
@@ -156,66 +156,66 @@ zip_length R [] (z ∷ ys) h = absurd h
 zip_length R (z ∷ xs) [] h = absurd h
 zip_length R (z ∷ xs) (w ∷ ys) h = ap suc (zip_length R xs ys h.1)
 
-module _ (names : List Identifier) (f : Form) (d : Disjunct) (is : IsDisjunctOf names f d) (kept : is_conjunctive (elements f) ≡ true) where
-  tested_too : (not (some_passes is_neither (elements f)) && some_passes is_atom (elements f) ≡ true) × (all_pass (λ g. all_occur (elements f) (tested_variables g)) (elements f) ≡ true)
-  tested_too = each_true (not (some_passes is_neither (elements f)) && some_passes is_atom (elements f)) (all_pass (λ g. all_occur (elements f) (tested_variables g)) (elements f)) kept
+module _ (names : List Identifier) (f : Form) (d : Disjunct) (is : IsDisjunctOf names f d) (kept : is_conjunctive (kept_elements f) ≡ true) where
+  tested_too : (not (some_passes is_neither (kept_elements f)) && some_passes is_atom (kept_elements f) ≡ true) × (all_pass (λ g. all_occur (kept_elements f) (tested_variables g)) (kept_elements f) ≡ true)
+  tested_too = each_true (not (some_passes is_neither (kept_elements f)) && some_passes is_atom (kept_elements f)) (all_pass (λ g. all_occur (kept_elements f) (tested_variables g)) (kept_elements f)) kept
 
-  has_atom : some_passes is_atom (elements f) ≡ true
-  has_atom = (each_true (not (some_passes is_neither (elements f))) (some_passes is_atom (elements f)) tested_too.0).1
+  has_atom : some_passes is_atom (kept_elements f) ≡ true
+  has_atom = (each_true (not (some_passes is_neither (kept_elements f))) (some_passes is_atom (kept_elements f)) tested_too.0).1
 
-  all_tested : all_pass (λ g. all_occur (elements f) (tested_variables g)) (elements f) ≡ true
+  all_tested : all_pass (λ g. all_occur (kept_elements f) (tested_variables g)) (kept_elements f) ≡ true
   all_tested = tested_too.1
 
   pub some_joined : 0 < length d.atoms.items
   some_joined =
       let n = zip_length (IsAtomOf names) (atoms f) d.atoms.items is.atoms_are in
-      let m : length (atoms f) ≡ length (atoms_each (elements f)) = ap (λ (all : List Atom). length all) (atoms_are f) in
-      let p = some_atom (elements f) has_atom in
+      let m : length (atoms f) ≡ length (atoms_each (kept_elements f)) = ap (λ (all : List Atom). length all) (atoms_are f) in
+      let p = some_atom (kept_elements f) has_atom in
       omega (arith, n, m, p)
 
-  module _ (last : JoinedAtom) (at : last_of d (length d.atoms.items) ≡ Some last) where
-    joined_with : (a : Atom) → Contains (atoms_each (elements f)) a → (i : ℕ) × (j : JoinedAtom) × (slice_get d.atoms.items i ≡ Some j) × IsAtomOf names a j
+  module _ (last : JoinedAtom) (at : last_atom d (length d.atoms.items) ≡ Some last) where
+    joined_with : (a : Atom) → Contains (atoms_each (kept_elements f)) a → (i : ℕ) × (j : JoinedAtom) × (slice_get d.atoms.items i ≡ Some j) × IsAtomOf names a j
     joined_with a c = zip_at (IsAtomOf names) (atoms f) d.atoms.items a is.atoms_are (subst (λ xs. Contains xs a) (sym (atoms_are f)) c)
 
     low : (i : ℕ) (j : JoinedAtom) → slice_get d.atoms.items i ≡ Some j → i ≤ length d.atoms.items - 1
     low i j e = let l : i < length d.atoms.items = slice_get_within d.atoms.items i j e in omega (arith, l)
 
-    time_known : (v : Identifier) → some_passes (is_atom_with (time_variable v)) (elements f) ≡ true → Contains last.vars.times v
+    time_known : (v : Identifier) → some_passes (is_atom_with (time_variable v)) (kept_elements f) ≡ true → Contains last.vars.times v
     time_known v e =
-        let a = atom_of time_variable times_of_term time_among (elements f) v e in
+        let a = atom_of time_variable times_of_term time_among (kept_elements f) v e in
         let r = joined_with a.0 a.1 in
         let own : Contains r.1.vars.times v = own_times d.tests [] [] d.atoms.items is.joined r.0 r.1 r.2 v (subst (λ ts. Contains (flat_map times_of_term ts) v) (sym r.3.terms) a.2) in
         let b = rises d.tests [] [] d.atoms.items is.joined r.0 (length d.atoms.items - 1) r.1 last (low r.0 r.1 r.2) r.2 at in
         subst (λ ns. Contains ns v) (sym b.times.1) (in_left r.1.vars.times b.times.0 v own)
 
-    text_known : (v : Identifier) → some_passes (is_atom_with (data_variable v)) (elements f) ≡ true → Contains last.vars.texts v
+    text_known : (v : Identifier) → some_passes (is_atom_with (data_variable v)) (kept_elements f) ≡ true → Contains last.vars.texts v
     text_known v e =
-        let a = atom_of data_variable texts_of_term text_among (elements f) v e in
+        let a = atom_of data_variable texts_of_term text_among (kept_elements f) v e in
         let r = joined_with a.0 a.1 in
         let own : Contains r.1.vars.texts v = own_texts d.tests [] [] d.atoms.items is.joined r.0 r.1 r.2 v (subst (λ ts. Contains (flat_map texts_of_term ts) v) (sym r.3.terms) a.2) in
         let b = rises d.tests [] [] d.atoms.items is.joined r.0 (length d.atoms.items - 1) r.1 last (low r.0 r.1 r.2) r.2 at in
         subst (λ ns. Contains ns v) (sym b.texts.1) (in_left r.1.vars.texts b.texts.0 v own)
 
-    last_tests : last.tests ≡ filter (is_covered last.vars.times last.vars.texts) d.tests
+    last_tests : last.tests ≡ filter (is_test_covered last.vars.times last.vars.texts) d.tests
     last_tests = own_tests d.tests [] [] d.atoms.items is.joined (length d.atoms.items - 1) last at
 
     tested : (t : Test) → Contains d.tests t → Contains last.tests t
     tested t c =
-        let occurs = test_occurs (elements f) (elements f) t all_tested (subst (λ ts. Contains ts t) is.tests_are c) in
-        subst (λ ts. Contains ts t) (sym last_tests) (kept_test (is_covered last.vars.times last.vars.texts) d.tests t c (is_all_covered (elements f) last.vars.times last.vars.texts time_known text_known t occurs))
+        let occurs = test_occurs (kept_elements f) (kept_elements f) t all_tested (subst (λ ts. Contains ts t) is.tests_are c) in
+        subst (λ ts. Contains ts t) (sym last_tests) (kept_test (is_test_covered last.vars.times last.vars.texts) d.tests t c (is_all_covered (kept_elements f) last.vars.times last.vars.texts time_known text_known t occurs))
 
     whole_at : IsWholeAt d
     whole_at = record {
       some = some_joined;
-      tests_to = λ t c. (in_kept (is_covered last.vars.times last.vars.texts) d.tests t (subst (λ ts. Contains ts t) last_tests (subst (λ o. Contains (tests_in o) t) at c))).0;
-      tests_from = λ t c. subst (λ o. Contains (tests_in o) t) (sym at) (tested t c);
-      texts = λ v c. elim (some_terms d.tests [] [] d.atoms.items is.joined (length d.atoms.items - 1) last at v (subst (λ o. Contains (texts_in o) v) at c)) [ inl n ↦ absurd (contains_none v n) | inr r ↦ r ];
+      tests_to = λ t c. (in_kept (is_test_covered last.vars.times last.vars.texts) d.tests t (subst (λ ts. Contains ts t) last_tests (subst (λ o. Contains (atom_tests o) t) at c))).0;
+      tests_from = λ t c. subst (λ o. Contains (atom_tests o) t) (sym at) (tested t c);
+      texts = λ v c. elim (some_terms d.tests [] [] d.atoms.items is.joined (length d.atoms.items - 1) last at v (subst (λ o. Contains (atom_texts o) v) at c)) [ inl n ↦ absurd (contains_none v n) | inr r ↦ r ];
     }
 
   -- there is a last atom
   pub is_whole_at : IsWholeAt d
-  is_whole_at = by (last_of d (length d.atoms.items)) refl
+  is_whole_at = by (last_atom d (length d.atoms.items)) refl
     where
-      by : (o : Option JoinedAtom) → last_of d (length d.atoms.items) ≡ o → IsWholeAt d
+      by : (o : Option JoinedAtom) → last_atom d (length d.atoms.items) ≡ o → IsWholeAt d
       by (Some last) e = whole_at last e
       by None e = absurd (somewhere d.atoms.items some_joined e)

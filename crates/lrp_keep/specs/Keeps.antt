@@ -27,9 +27,9 @@ use Rattle.lrp_zone.specs.Zones.{ZoneView}
 use Rattle.lrp_store.specs.Stores.{zones_at}
 use Rattle.lrp_store.specs.Tables.{InAnswer}
 use Rattle.lrp_answers.specs.declared.answer.Answer.{Answer}
-use Rattle.lrp_minus.specs.Settling.{IsSmallZone}
+use Rattle.lrp_cutting.specs.Settling.{IsSmallZone}
 use Rattle.lrp_kept.specs.KeptForm.{is_kept}
-use Rattle.lrp_kept.specs.Choices.{HasLargePart}
+use Rattle.lrp_kept.specs.Choices.{HasLargeChoicePart}
 use Rattle.lrp_kept.specs.EqualRows.{AreEqualRows}
 use Rattle.lrp_keep.specs.Replaced.{replaced}
 use Rattle.lrp_kept.specs.Limits.{kept_reach, raised_period, row_bound, relation_bound, names_relation, scaled_kept_reach}
@@ -120,7 +120,7 @@ scaled_reach_of k = scaled_kept_reach k.relations k.bounds k.period (question_of
 
 -- some part of a choice of held rows inhabits more than cap cells
 abbrev pub HasTooManyCells : KeepView → Type 0
-HasTooManyCells k = HasLargePart k.relations (question_of k.query) k.domain k.period k.cap
+HasTooManyCells k = HasLargeChoicePart k.relations (question_of k.query) k.domain k.period k.cap
 
 -- neither the period nor the scaled reach is above the greatest number, and no part of a choice has too many cells
 pub record StaysWithinLimits (k : KeepView) : Type 0 where

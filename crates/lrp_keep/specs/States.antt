@@ -14,28 +14,28 @@ use Rattle.lrp_answers.specs.declared.answer.Answer.{Answer}
 use Rattle.lrp_tables.specs.Columns.{head_texts, head_times}
 use Rattle.lrp_parts.specs.Derivations.{AreReleased, CanDerive, Ground, HasLargePart, HoldsIn, IsDerivedFrom, Levels, ground_of}
 use Rattle.lrp_kept.specs.Disjuncts.{AreDisjunctsOf}
-use Rattle.lrp_kept.specs.Held.{AreLowRows, bounds_of, names_of, relations_of, row_of}
+use Rattle.lrp_kept.specs.Held.{AreLowRows, greatest_bounds, names_of, relations_of, held_row}
 use Rattle.lrp_kept.specs.Keys.{keys_of}
 use Rattle.lrp_kept.specs.Limits.{raised_period, relation_bound, row_bound}
-use Rattle.lrp_kept.specs.Sizes.{is_reader, number_in, scaled_over, tested_periods}
-use Rattle.lrp_limits.specs.Facts.{KeepsPeriod}
+use Rattle.lrp_kept.specs.Sizes.{is_reader, period_number, scaled_over, tested_periods}
+use Rattle.lrp_limits.specs.Facts.{KeepsMultiples}
 use Rattle.lrp_limits.specs.declared.periods.Period.{Period}
 use Rattle.lrp_kept.specs.Sketches.{AreSketchesOf, CanBeSketched}
 use Rattle.lrp_kept.specs.Choices.{listed_disjuncts}
 use Rattle.lrp_kept.specs.Drafts.{CanBeJoinedUp}
-use Rattle.lrp_parts.specs.declared.parts.Setting.{Setting}
+use Rattle.lrp_parts.specs.declared.parts.DerivationSetting.{DerivationSetting}
 use Rattle.lrp_keep.specs.Keeps.{CanBeHeld, CanBeKept, IsSortedQuery, KeepView, opened, scaled_reach_of, with_added, with_row, IsPastLimit}
 use Rattle.lrp_kept.specs.KeptForm.{is_kept}
 use Rattle.lrp_kept.specs.Keyed.{AreHeldRows, AreRelisted, AreSameRows, IsEmptyOf, IsFirstEqual, IsLetGoAt}
 use Rattle.lrp_kept.specs.SortedForms.{HaveColumnsOf}
-use Rattle.lrp_keep.specs.Taken.{HaveReach}
+use Rattle.lrp_keep.specs.Taken.{HeldHaveReach}
 use Rattle.lrp_keep.specs.Unions.{AreDerived, AreDerivedBut, AreStillBut, HoldsAll}
 use Rattle.lrp_kept.specs.declared.disjuncts.Disjunct.{Disjunct}
 use Rattle.lrp_keep.specs.declared.faults.KeepFault.{KeepFault}
 use Rattle.lrp_keep.specs.declared.kept_query.KeptQuery.{KeptQuery}
 use Rattle.lrp_kept.specs.declared.rows.HeldRelation.{HeldRelation}
 use Rattle.lrp_kept.specs.declared.rows.HeldRows.{HeldRows}
-use Rattle.lrp_kept.specs.declared.rows.Source.{Source}
+use Rattle.lrp_kept.specs.declared.rows.HeldRow.{HeldRow}
 use Rattle.lrp_parts.specs.declared.derivation.Derived.{Derived}
 use Rattle.lrp_keep.specs.declared.states.State.{State}
 
@@ -51,7 +51,7 @@ abbrev pub AreDisjunctsFor : HeldRows → Question → KeptQuery → Type 0
 AreDisjunctsFor rows q of = AreDisjunctsOf (names_of rows) q of.disjuncts.items
 
 -- a row's sketches are those of a query
-abbrev pub AreSketchesFor : KeptQuery → ℕ → Row → Source → Type 0
+abbrev pub AreSketchesFor : KeptQuery → ℕ → Row → HeldRow → Type 0
 AreSketchesFor of relation row source = AreSketchesOf of.domain of.disjuncts.items relation row source.sketches.items
 
 -- ---- states
@@ -91,13 +91,13 @@ abbrev pub IsDerivedWithout : KeptQuery → ℕ → State → Type 0
 IsDerivedWithout of key s = AreDerivedBut (ground_at of s.rows s.period.number) of.disjuncts.items key (levels_of s)
 
 -- what is derived from the rows of a setting, with the last one, and without it
-abbrev pub AreDerivedIn : Setting → KeptQuery → List Derived → Type 0
+abbrev pub AreDerivedIn : DerivationSetting → KeptQuery → List Derived → Type 0
 AreDerivedIn setting of derived = AreDerived (ground_of setting) of.disjuncts.items (levels_in derived)
 
-abbrev pub AreDerivedInBut : Setting → KeptQuery → ℕ → List Derived → Type 0
+abbrev pub AreDerivedInBut : DerivationSetting → KeptQuery → ℕ → List Derived → Type 0
 AreDerivedInBut setting of key derived = AreDerivedBut (ground_of setting) of.disjuncts.items key (levels_in derived)
 
-abbrev pub AreStillInBut : Setting → KeptQuery → ℕ → List Derived → Type 0
+abbrev pub AreStillInBut : DerivationSetting → KeptQuery → ℕ → List Derived → Type 0
 AreStillInBut setting of key derived = AreStillBut (ground_of setting) of.disjuncts.items key (levels_in derived)
 
 -- new has what is derived of the disjunct behind the others
@@ -121,18 +121,18 @@ opened_with of db = opened of.query.now db of.domain of.cap
 
 -- the kept reach in cells of this period, doubled once and once more for each time column of the head
 abbrev pub scaled_at : KeptQuery → HeldRows → ℕ → ℕ
-scaled_at of rows period = scaled_over (bounds_of rows.relations.items) period of.query.now.head.columns of.disjuncts.items
+scaled_at of rows period = scaled_over (greatest_bounds rows.relations.items) period of.query.now.head.columns of.disjuncts.items
 
 -- what a keeper stands for
-abbrev pub view_of : KeptQuery → State → KeepView
-view_of of s =
+abbrev pub keeper_view : KeptQuery → State → KeepView
+keeper_view of s =
     record {
       query = of.query.now;
       domain = of.domain;
       cap = of.cap;
       relations = relations_of (get s.rows.sources) s.rows.relations.items;
       period = s.period.number;
-      bounds = bounds_of s.rows.relations.items;
+      bounds = greatest_bounds s.rows.relations.items;
     }
 
 -- the query is well-sorted for relations of these columns
@@ -144,18 +144,18 @@ pub record IsSortedOver (relations : List Relation) (q : Question) : Type 0 wher
 -- a state of a query in kept form, whose constants are known, with the greatest bounds of its rows beside the relations
 pub record IsKeeping (of : KeptQuery) (s : State) : Type 0 where
   pub state : IsStateOf of s
-  pub query : IsSortedOver (view_of of s).relations (question_of of.query.now)
+  pub query : IsSortedOver (keeper_view of s).relations (question_of of.query.now)
   pub kept : is_kept (question_of of.query.now) ≡ true
   pub distinct : AreDistinct (names_of s.rows)
   pub ascends : Ascends of.domain
-  pub known : AllByRecursion (Contains of.domain) (constants (view_of of s).relations (question_of of.query.now))
-  pub rows : AllByRecursion (λ r. AllByRecursion (CanBeHeld of.domain r.columns) r.rows) (view_of of s).relations
+  pub known : AllByRecursion (Contains of.domain) (constants (keeper_view of s).relations (question_of of.query.now))
+  pub rows : AllByRecursion (λ r. AllByRecursion (CanBeHeld of.domain r.columns) r.rows) (keeper_view of s).relations
   pub low : AreLowRows s.rows
 
 -- one within the limits
 pub record IsKeeper (of : KeptQuery) (s : State) : Type 0 where
   pub keeping : IsKeeping of s
-  pub reach : scaled_reach_of (view_of of s) ≤ 2 ^ 62
+  pub reach : scaled_reach_of (keeper_view of s) ≤ 2 ^ 62
 
 -- a database whose rows can be held in relations of which none is held
 pub record CanBeOpened (of : KeptQuery) (db : List Relation) (relations : HeldRows) : Type 0 where
@@ -174,7 +174,7 @@ pub record IsAnswerOfState (of : KeptQuery) (s : State) (a : Answer) : Type 0 wh
   pub times : a.store.shape.times ≡ length (head_times of.query.now.head.columns)
   pub texts : a.store.shape.texts ≡ length (head_texts of.query.now.head.columns)
   pub holds : HoldsAll (levels_of s) of.domain a.store
-  pub reach : (high : ℕ) → ((levels : Levels) → Contains (levels_of s) levels → HaveReach (HoldsIn levels (length levels - 1)) high) → HasReach a.store high
+  pub reach : (high : ℕ) → ((levels : Levels) → Contains (levels_of s) levels → HeldHaveReach (HoldsIn levels (length levels - 1)) high) → HasReach a.store high
 
 -- ---- a row more
 
@@ -208,18 +208,18 @@ with_held k name row period =
 
 -- new has the row in the relation of this number
 pub record IsHeldAt (of : KeptQuery) (relation : ℕ) (row : Row) (period : ℕ) (old new : State) : Type 0 where
-  pub is : (name : Identifier) → slice_get (names_of old.rows) relation ≡ Some name → view_of of new ≡ with_held (view_of of old) name row period
+  pub is : (name : Identifier) → slice_get (names_of old.rows) relation ≡ Some name → keeper_view of new ≡ with_held (keeper_view of old) name row period
 
 -- and its number and period are raised
 pub record IsAddedAt (of : KeptQuery) (relation : ℕ) (row : Row) (old new : State) : Type 0 where
-  pub is : (name : Identifier) → slice_get (names_of old.rows) relation ≡ Some name → view_of of new ≡ with_added (view_of of old) name row
+  pub is : (name : Identifier) → slice_get (names_of old.rows) relation ≡ Some name → keeper_view of new ≡ with_added (keeper_view of old) name row
 
 -- the limit that is passed with the row, by the name of its relation
 pub record IsHoldingCause (of : KeptQuery) (s : State) (relation : ℕ) (row : Row) (period : ℕ) (fault : KeepFault) : Type 0 where
-  pub cause : (name : Identifier) → slice_get (names_of s.rows) relation ≡ Some name → IsPastLimit (with_held (view_of of s) name row period) fault
+  pub cause : (name : Identifier) → slice_get (names_of s.rows) relation ≡ Some name → IsPastLimit (with_held (keeper_view of s) name row period) fault
 
 pub record IsAddingCause (of : KeptQuery) (s : State) (relation : ℕ) (row : Row) (fault : KeepFault) : Type 0 where
-  pub cause : (name : Identifier) → slice_get (names_of s.rows) relation ≡ Some name → IsPastLimit (with_added (view_of of s) name row) fault
+  pub cause : (name : Identifier) → slice_get (names_of s.rows) relation ≡ Some name → IsPastLimit (with_added (keeper_view of s) name row) fault
 
 -- the same rows and period, and all that is derived from them
 pub record IsStillState (of : KeptQuery) (old new : State) : Type 0 where
@@ -250,8 +250,8 @@ pub record AreMarkedBy (db : List Relation) (number : ℕ) (old new : HeldRows) 
   pub at : (i : ℕ) (h : HeldRelation) (r : Relation) → i < number → slice_get old.relations.items i ≡ Some h → slice_get db i ≡ Some r → slice_get new.relations.items i ≡ Some (record h { most = relation_bound r })
 
 -- a row with its sketches
-pub record HasSketches (of : KeptQuery) (relation : ℕ) (o : Option Source) : Type 0 where
-  pub source : Source
+pub record HasSketches (of : KeptQuery) (relation : ℕ) (o : Option HeldRow) : Type 0 where
+  pub source : HeldRow
   pub is : o ≡ Some source
   pub sketches : AreSketchesOf of.domain of.disjuncts.items relation source.row source.sketches.items
 
@@ -260,23 +260,23 @@ pub record AreHeldAlso (of : KeptQuery) (number : ℕ) (all : List Row) (old new
   pub held : AreHeldRows new
   pub keys : List ℕ
   pub listed : AreRelisted number (keys_of old number ++ keys) old.relations.items new.relations.items
-  pub under : flat_map (λ key. row_of (get new.sources key)) keys ≡ all
+  pub under : flat_map (λ key. held_row (get new.sources key)) keys ≡ all
   pub others : (i k : ℕ) → Contains (keys_of old i) k → get new.sources k ≡ get old.sources k
   pub sketched : (k : ℕ) → Contains keys k → HasSketches of number (get new.sources k)
 
 -- the relation has these rows in the place of none
-pub record IsFilled (sources : ℕ → Option Source) (rows : List Row) (old new : HeldRelation) : Type 0 where
+pub record HasRowsFilled (sources : ℕ → Option HeldRow) (rows : List Row) (old new : HeldRelation) : Type 0 where
   pub name : new.name ≡ old.name
   pub columns : new.columns ≡ old.columns
   pub most : new.most ≡ old.most
-  pub under : flat_map (λ key. row_of (sources key)) new.keys.items ≡ rows
+  pub under : flat_map (λ key. held_row (sources key)) new.keys.items ≡ rows
 
 -- each of the first relations has its rows in the database
 pub record AreAllHeld (of : KeptQuery) (db : List Relation) (number : ℕ) (old new : HeldRows) : Type 0 where
   pub held : AreHeldRows new
   pub count : length new.relations.items ≡ length old.relations.items
   pub rest : (i : ℕ) → number ≤ i → slice_get new.relations.items i ≡ slice_get old.relations.items i
-  pub at : (i : ℕ) (h : HeldRelation) (r : Relation) → i < number → slice_get old.relations.items i ≡ Some h → slice_get db i ≡ Some r → (s : HeldRelation) × (slice_get new.relations.items i ≡ Some s) × IsFilled (get new.sources) r.rows h s
+  pub at : (i : ℕ) (h : HeldRelation) (r : Relation) → i < number → slice_get old.relations.items i ≡ Some h → slice_get db i ≡ Some r → (s : HeldRelation) × (slice_get new.relations.items i ≡ Some s) × HasRowsFilled (get new.sources) r.rows h s
   pub sketched : (i k : ℕ) → Contains (keys_of new i) k → HasSketches of i (get new.sources k)
 
 -- the periods in the rows of a relation that some atom reads, and none of another; only relations that are there are asked for
@@ -291,7 +291,7 @@ read_periods ds db (suc n) = read_periods ds db n ++ periods_at ds n (slice_get 
 
 -- the new period is the least common multiple of the old one and these, where none is above the limit
 abbrev pub IsRaisedBy : List ℕ → Option Period → Option Period → Type 0
-IsRaisedBy periods old new = KeepsPeriod periods (number_in old) (number_in new)
+IsRaisedBy periods old new = KeepsMultiples periods (period_number old) (period_number new)
 
 -- the periods in tests, and in the rows that some atom reads
 abbrev pub whole_periods : KeptQuery → List Relation → List ℕ

@@ -36,12 +36,12 @@ pub record InSomeHeld (held : List ℕ → Option StoreView → Type 0) (times :
   pub inside : InStore store times texts
 
 -- each value that is held has at most this reach
-abbrev pub HaveReach : (List ℕ → Option StoreView → Type 0) → ℕ → Type 0
-HaveReach held high = (keys : List ℕ) (s : StoreView) → held keys (Some s) → HasReach s high
+abbrev pub HeldHaveReach : (List ℕ → Option StoreView → Type 0) → ℕ → Type 0
+HeldHaveReach held high = (keys : List ℕ) (s : StoreView) → held keys (Some s) → HasReach s high
 
 -- those of all values that are held
 abbrev pub HasTakenSome : (List ℕ → Option StoreView → Type 0) → StoreView → StoreView → Type 0
-HasTakenSome held old new = HasTakenSet (InSomeHeld held) (HaveReach held) old new
+HasTakenSome held old new = HasTakenSet (InSomeHeld held) (HeldHaveReach held) old new
 
 -- a value is held as one of no keys
 pub record IsValue (value : Option StoreView) (keys : List ℕ) (held : Option StoreView) : Type 0 where
@@ -62,10 +62,10 @@ abbrev pub HasTakenPiece : Piece → StoreView → StoreView → Type 0
 HasTakenPiece piece old new = IsAdded (IsMadeFrom StaysSame (InPiece old.shape.texts piece)) (2 ^ 32 - 1) (reach_of piece.zone) old new
 
 -- a store has the shape and the period of another one
-pub record IsAlike (value : Option StoreView) (s : StoreView) : Type 0 where
+pub record IsLikeStored (value : Option StoreView) (s : StoreView) : Type 0 where
   pub shape : (store : StoreView) → value ≡ Some store → s.shape ≡ store.shape
   pub period : (store : StoreView) → value ≡ Some store → s.period ≡ store.period
 
 -- each of those that the last level holds has
 abbrev pub AreAlike : Levels → StoreView → Type 0
-AreAlike levels s = (keys : List ℕ) (value : Option StoreView) → HoldsIn levels (length levels - 1) keys value → IsAlike value s
+AreAlike levels s = (keys : List ℕ) (value : Option StoreView) → HoldsIn levels (length levels - 1) keys value → IsLikeStored value s

@@ -23,7 +23,7 @@ pub record AreStillBut (g : Ground) (ds : List Disjunct) (key : ℕ) (all : List
   pub each : (i : ℕ) (d : Disjunct) (levels : Levels) → slice_get ds i ≡ Some d → slice_get all i ≡ Some levels → IsDerivedBut g d key levels
 
 -- the times and the texts are an answer of some whole choice
-pub record IsFoundIn (all : List Levels) (domain : List Text) (times : List ℤ) (texts : List Text) : Type 0 where
+pub record IsChoiceAnswerIn (all : List Levels) (domain : List Text) (times : List ℤ) (texts : List Text) : Type 0 where
   pub number : ℕ
   pub levels : Levels
   pub at : slice_get all number ≡ Some levels
@@ -34,5 +34,5 @@ pub record IsFoundIn (all : List Levels) (domain : List Text) (times : List ℤ)
 
 -- the store holds the answers of all whole choices, and no others
 pub record HoldsAll (all : List Levels) (domain : List Text) (s : StoreView) : Type 0 where
-  pub to : (times : List ℤ) (texts : List Text) → StoreHolds domain s times texts → IsFoundIn all domain times texts
-  pub from : (times : List ℤ) (texts : List Text) → IsFoundIn all domain times texts → StoreHolds domain s times texts
+  pub to : (times : List ℤ) (texts : List Text) → StoreHolds domain s times texts → IsChoiceAnswerIn all domain times texts
+  pub from : (times : List ℤ) (texts : List Text) → IsChoiceAnswerIn all domain times texts → StoreHolds domain s times texts

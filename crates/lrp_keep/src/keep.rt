@@ -46,9 +46,9 @@ impl<'a> Model for Keep<'a> {
 
     ghost coded = { Prim.hlevel (codes, formulas.the_row.coded) };
 
-    ghost use Rattle.lrp_keep.specs.States.{IsKeeper, view_of};
+    ghost use Rattle.lrp_keep.specs.States.{IsKeeper, keeper_view};
 
-    ghost view = { λ k. view_of k.of k.state };
+    ghost view = { λ k. keeper_view k.of k.state };
 
     ghost invariant = { λ k. IsKeeper k.of k.state };
 }

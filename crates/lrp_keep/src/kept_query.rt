@@ -6,10 +6,10 @@ ghost use Rattle.lrp_parts.specs.Derivations.{CanDerive, HasLargePart, ground_of
 ghost use Rattle.lrp_keep.specs.States.{AreDerivedAt, AreDisjunctsFor, AreSketchesFor, CanAllBeJoinedUp, CanDeriveAt, HasLargePartAt, IsDerivedBehind, ground_at, levels_in};
 ghost use Rattle.lrp_kept.specs.Sketches.{CanBeSketched};
 
-use lrp_kept::{Disjunct, HeldRows, Source, disjuncts_of};
+use lrp_kept::{Disjunct, HeldRow, HeldRows, disjuncts_of};
 use lrp_limits::periods::Period;
 use lrp_model::{Copies, Domain, Memory, Query, Row};
-use lrp_parts::{Derived, Setting};
+use lrp_parts::{DerivationSetting, Derived};
 use lrp_tables::StepFault;
 use std::alloc::Global;
 
@@ -50,20 +50,20 @@ impl<'a> KeptQuery<'a> {
     }
 
     /// A row as it is held in a relation.
-    pub(crate) fn source(&self, relation: usize, row: &Row) -> Result<Source, Memory>
+    pub(crate) fn source(&self, relation: usize, row: &Row) -> Result<HeldRow, Memory>
         requires { CanBeSketched self.now.disjuncts.items relation row.now }
         ensures relation { IfOk result (λ made. made.relation ≡ relation) }
         ensures row { IfOk result (λ made. made.row ≡ row.now) }
         ensures sketches { IfOk result (AreSketchesFor self.now relation row.now) }
     {
-        Source::of(self.alloc, &self.disjuncts, relation, row, &self.domain)
+        HeldRow::of(self.alloc, &self.disjuncts, relation, row, &self.domain)
     }
 
     /// What derivations from the rows have in common.
-    pub(crate) fn setting<'b>(&'b self, rows: &'b HeldRows, period: Period) -> Setting<'b>
+    pub(crate) fn setting<'b>(&'b self, rows: &'b HeldRows, period: Period) -> DerivationSetting<'b>
         ensures { ground_of result ≡ ground_at self.now rows.now period.number }
     {
-        Setting {
+        DerivationSetting {
             alloc: self.alloc,
             head: &self.query.head,
             domain: &self.domain,
@@ -99,7 +99,7 @@ impl<'a> KeptQuery<'a> {
 
 // Adds what the rows make of a disjunct.
 fn derive_one(
-    setting: &Setting<'_>,
+    setting: &DerivationSetting<'_>,
     disjunct: &Disjunct,
     all: &mut Vec<Derived>,
 ) -> Result<(), StepFault>

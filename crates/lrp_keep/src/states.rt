@@ -8,9 +8,9 @@ ghost use Rattle.lrp_kept.specs.Keys.{keys_of};
 ghost use Rattle.lrp_kept.specs.Keyed.{AreHeldRows, HasNoEqualRow, IsEmptyOf};
 ghost use Rattle.lrp_kept.specs.Limits.{relation_bound};
 ghost use Rattle.lrp_model.specs.Periods.{row_periods};
-ghost use Rattle.lrp_kept.specs.Sizes.{number_in};
+ghost use Rattle.lrp_kept.specs.Sizes.{period_number};
 ghost use Rattle.lrp_keep.specs.Keeps.{IsPastLimit, StaysWithinLimits};
-ghost use Rattle.lrp_keep.specs.States.{AreAllHeld, AreHeldAlso, CanBeAddedAt, CanBeHeldIn, AreDerivedIn, AreDerivedInBut, AreStillInBut, CanAllBeSketched, CanBeOpened, CanDeriveAt, CanDeriveEach, HasLargePartAt, HasSomeLargePart, IsAddedAt, IsAddingCause, IsAnswerOfState, IsDerivedAt, IsDerivedWithout, IsHeldAt, IsHoldingCause, IsKeeper, IsKeeping, IsLetGoFrom, IsMarked, IsPeriodWith, IsRaisedBy, AreMarkedBy, IsRemoved, IsStillState, IsUndone, ground_at, opened_with, periods_at, scaled_at, view_of, whole_periods};
+ghost use Rattle.lrp_keep.specs.States.{AreAllHeld, AreHeldAlso, CanBeAddedAt, CanBeHeldIn, AreDerivedIn, AreDerivedInBut, AreStillInBut, CanAllBeSketched, CanBeOpened, CanDeriveAt, CanDeriveEach, HasLargePartAt, HasSomeLargePart, IsAddedAt, IsAddingCause, IsAnswerOfState, IsDerivedAt, IsDerivedWithout, IsHeldAt, IsHoldingCause, IsKeeper, IsKeeping, IsLetGoFrom, IsMarked, IsPeriodWith, IsRaisedBy, AreMarkedBy, IsRemoved, IsStillState, IsUndone, ground_at, opened_with, periods_at, scaled_at, keeper_view, whole_periods};
 ghost use Rattle.lrp_kept.specs.Sketches.{CanBeSketched};
 
 use crate::faults::{KeepFault, of_step};
@@ -23,7 +23,7 @@ use lrp_kept::{HeldRows, is_read, scaled_reach, tested_period, with_bounds, with
 use lrp_limits::facts::with_row;
 use lrp_limits::periods::Period;
 use lrp_model::{Copies, LIMIT, Memory, Relation, Row};
-use lrp_parts::{Derived, Setting};
+use lrp_parts::{DerivationSetting, Derived};
 use lrp_tables::StepFault;
 
 /// The rows that are held, the kept period, and by disjuncts what is derived from the rows in cells of this period.
@@ -43,7 +43,7 @@ impl State {
     ) -> Result<State, KeepFault>
         requires { CanBeOpened of.now database.now relations }
         ensures keeper { IfOk result (IsKeeper of.now) }
-        ensures view { IfOk result (λ s. view_of of.now s ≡ opened_with of.now database.now) }
+        ensures view { IfOk result (λ s. keeper_view of.now s ≡ opened_with of.now database.now) }
         ensures limits { OnOk result (StaysWithinLimits (opened_with of.now database.now)) }
         ensures fault { IfErr result (IsPastLimit (opened_with of.now database.now)) }
     {
@@ -79,9 +79,9 @@ impl State {
         requires row { CanBeAddedAt of.now self.old relation row.now }
         ensures keeper { IsKeeper of.now self.new }
         ensures view { OnOk result (IsAddedAt of.now relation row.now self.old self.new) }
-        ensures limits { OnOk result (StaysWithinLimits (view_of of.now self.new)) }
+        ensures limits { OnOk result (StaysWithinLimits (keeper_view of.now self.new)) }
         ensures fault { IfErr result (IsAddingCause of.now self.old relation row.now) }
-        ensures same { OnErr result (view_of of.now self.new ≡ view_of of.now self.old) }
+        ensures same { OnErr result (keeper_view of.now self.new ≡ keeper_view of.now self.old) }
     {
         let Some(period) = self.raised_period(of, relation, row) else {
             return Err(KeepFault::PeriodLimit);
@@ -122,7 +122,7 @@ impl State {
         ensures keeper { OnOk result (IsKeeper of.now self.new) }
         ensures view { OnOk result (IsHeldAt of.now relation row.now period.number self.old
             self.new) }
-        ensures limits { OnOk result (StaysWithinLimits (view_of of.now self.new)) }
+        ensures limits { OnOk result (StaysWithinLimits (keeper_view of.now self.new)) }
         ensures fault { IfErr result (IsHoldingCause of.now self.old relation row.now
             period.number) }
         ensures same { OnErr result (IsStillState of.now self.old self.new) }
@@ -243,7 +243,7 @@ impl State {
 // Derives what the last row of a relation makes, in each disjunct.
 fn add_each(
     of: &KeptQuery<'_>,
-    setting: &Setting<'_>,
+    setting: &DerivationSetting<'_>,
     relation: usize,
     key: usize,
     derived: &mut Vec<Derived>,
@@ -329,7 +329,7 @@ fn hold_all(
 // The least common multiple of the periods in tests, and in the rows of the relations that some atom reads; `None` where it
 // is above 2^62.
 fn whole_period(of: &KeptQuery<'_>, database: &Database) -> Option<Period>
-    ensures { IsPeriodOf (whole_periods of.now database.now) (number_in result) }
+    ensures { IsPeriodOf (whole_periods of.now database.now) (period_number result) }
 {
     let mut period = tested_period(&of.disjuncts);
     for i in 0..database.relations() {

@@ -1,8 +1,8 @@
 // The answers of all choices in one store.
 ghost use Rattle.std.specs.Prelude.{◌≡◌, ◌-◌, ◌^◌, ◌∷◌, [], OnOk};
-ghost use Rattle.lrp_tables.specs.Pieces.{Fits};
+ghost use Rattle.lrp_tables.specs.Pieces.{FitsCell};
 ghost use Rattle.lrp_parts.specs.Derivations.{HoldsIn};
-ghost use Rattle.lrp_keep.specs.Taken.{AreAlike, HasTaken, HasTakenLast, HasTakenPiece, HasTakenSlot, HasTakenSome, HasTakenValue, IsAlike};
+ghost use Rattle.lrp_keep.specs.Taken.{AreAlike, HasTaken, HasTakenLast, HasTakenPiece, HasTakenSlot, HasTakenSome, HasTakenValue, IsLikeStored};
 
 use lrp_holdings::Holdings;
 use lrp_model::Memory;
@@ -50,7 +50,7 @@ fn add_slot(
 }
 
 fn add_answers(answers: &Option<PackedStore>, out: &mut Store) -> Result<(), Memory>
-    requires { IsAlike answers.now out.old }
+    requires { IsLikeStored answers.now out.old }
     ensures { OnOk result (HasTakenValue answers.now out.old out.new) }
 {
     out.shape();
@@ -80,7 +80,7 @@ fn add_all(from: &PackedStore, out: &mut Store) -> Result<(), Memory>
 
 // Adds the tuples of a zone. Many choices may have one and the same zone, which is added once where it comes at once.
 fn add_piece(piece: &Piece, out: &mut Store) -> Result<(), StoreFault>
-    requires { Fits out.old.shape out.old.period piece.now }
+    requires { FitsCell out.old.shape out.old.period piece.now }
     ensures { OnOk result (HasTakenPiece piece.now out.old out.new) }
 {
     out.shape();

@@ -8,7 +8,7 @@ use Rattle.lrp_model.specs.Satisfaction.{Structure, Assignment, Satisfies, Satis
 use Rattle.lrp_model.specs.declared.relations.Row.{Row}
 use Rattle.lrp_plan_laws.specs.Atoms.{atoms_each}
 use Rattle.lrp_kept.specs.Choices.{ChosenWithValues, IsChosenBy, Matches}
-use Rattle.lrp_kept.specs.KeptForm.{elements, is_neither, some_passes}
+use Rattle.lrp_kept.specs.KeptForm.{kept_elements, is_neither, some_passes}
 
 module _ (M : Structure) (env : Assignment) where
   pub chosen_to : (fs : Forms) → some_passes is_neither fs ≡ false → SatisfiesAll fs M env → IsChosenBy M.relations fs env
@@ -65,13 +65,13 @@ module _ (M : Structure) where
   of_all (forall v s f) env h = h.0
 
   abbrev HasLiterals : Form → Type 0
-  HasLiterals f = some_passes is_neither (elements f) ≡ false
+  HasLiterals f = some_passes is_neither (kept_elements f) ≡ false
 
   -- what satisfies a disjunct is not without a choice
   pub disjunct_to : (f : Form) (env : Assignment) → HasLiterals f → Satisfies f M env → (ChosenWithValues f M env → ⊥) → ⊥
   disjunct_to (exists v s f) env e h none = h (λ d x. disjunct_to f (with_value v d env) e x.1 (λ c. none (d, x.0, c)))
-  disjunct_to (atom name terms) env e h none = none (chosen_to M env (elements (atom name terms)) e (all_of (atom name terms) env h))
-  disjunct_to (test t) env e h none = none (chosen_to M env (elements (test t)) e (all_of (test t) env h))
+  disjunct_to (atom name terms) env e h none = none (chosen_to M env (kept_elements (atom name terms)) e (all_of (atom name terms) env h))
+  disjunct_to (test t) env e h none = none (chosen_to M env (kept_elements (test t)) e (all_of (test t) env h))
   disjunct_to (sorted s v) env e h none = cc
   disjunct_to (negation f) env e h none = cc
   disjunct_to (conjunction fs) env e h none = none (chosen_to M env fs e h)
@@ -82,8 +82,8 @@ module _ (M : Structure) where
   -- and each choice satisfies it
   pub disjunct_from : (f : Form) (env : Assignment) → HasLiterals f → ChosenWithValues f M env → Satisfies f M env
   disjunct_from (exists v s f) env e c = λ none. none c.0 (c.1, disjunct_from f (with_value v c.0 env) e c.2)
-  disjunct_from (atom name terms) env e c = of_all (atom name terms) env (chosen_from M env (elements (atom name terms)) e c)
-  disjunct_from (test t) env e c = of_all (test t) env (chosen_from M env (elements (test t)) e c)
+  disjunct_from (atom name terms) env e c = of_all (atom name terms) env (chosen_from M env (kept_elements (atom name terms)) e c)
+  disjunct_from (test t) env e c = of_all (test t) env (chosen_from M env (kept_elements (test t)) e c)
   disjunct_from (sorted s v) env e c = cc
   disjunct_from (negation f) env e c = cc
   disjunct_from (conjunction fs) env e c = chosen_from M env fs e c

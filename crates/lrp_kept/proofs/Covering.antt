@@ -10,6 +10,7 @@ use Rattle.std.proofs.lemmas.Option.{slice_get_within}
 use Rattle.lrp_model.specs.Texts.{Identifier}
 use Rattle.lrp_tables.proofs.Joining.{at_place, found_in, not_found_in, place_in}
 use Rattle.lrp_kept.specs.declared.rows.HeldRelation.{HeldRelation}
+use Rattle.lrp_kept.proofs.JoinedUp.{same_some}
 
 pub is_among_is : (o : Option ℕ) (names : List Identifier) (v : Identifier) (b : Bool) → b ≡ is_some o → IfSome o (λ i. slice_get names i ≡ Some v) → IfNone o (Contains names v → ⊥) → b ≡ list_any (bytes_eq v) names
 is_among_is (Some i) names v b e some none = e ∙ sym (found_in v names (at_place names i v some))
@@ -56,9 +57,6 @@ named_at rs n r v b low is says e = name_there rs n r low ∙ ap (λ (x : HeldRe
 
 below : (k i : ℕ) → k < i + 1 → k ≢ i → k < i
 below k i lt other = grind (arith, lt, other)
-
-same_some : {X : Type 0} (x y : X) → Some x ≡ Some y → x ≡ y
-same_some x y e = cc
 
 pub not_named_more : (rs : List HeldRelation) (n : ℕ) (r : HeldRelation) (v : Identifier) (b : Bool) → n < length rs → r ≡ get_or rs n r → b ≡ bytes_eq r.name v → b ≡ false
     → ((k : ℕ) → k < n → slice_get (map (λ (x : HeldRelation). x.name) rs) k ≡ Some v → ⊥) → (k : ℕ) → k < n + 1 → slice_get (map (λ (x : HeldRelation). x.name) rs) k ≡ Some v → ⊥

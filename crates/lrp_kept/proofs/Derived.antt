@@ -8,20 +8,17 @@ use Rattle.lrp_model.specs.declared.relations.Column.{Column}
 use Rattle.lrp_plan_laws.proofs.CoreLaws.{keeps}
 use Rattle.lrp_model.proofs.Decided.{contains_first, contains_later}
 use Rattle.lrp_kept.specs.Choices.{as_list, ChosenWithValues, IsDerived}
-use Rattle.lrp_kept.specs.KeptForm.{all_pass, elements, is_disjunct, is_kept, is_neither, query_disjuncts, some_passes}
+use Rattle.lrp_kept.specs.KeptForm.{all_pass, kept_elements, is_disjunct, is_kept, is_neither, query_disjuncts, some_passes}
 use Rattle.lrp_kept.proofs.Chosen.{disjunct_to, disjunct_from}
-
-and_left : (a b : Bool) → (a && b) ≡ true → a ≡ true
-and_left true b e = refl
-and_left false b e = cc
+use Rattle.lrp_plan_laws.proofs.PlanLaws.{and_first}
 
 and_right : (a b : Bool) → (a && b) ≡ true → b ≡ true
 and_right true b e = e
 and_right false b e = cc
 
 -- a disjunct has atoms and tests alone
-literals : (columns : List Column) (f : Form) → is_disjunct columns f ≡ true → some_passes is_neither (elements f) ≡ false
-literals columns f e = by (some_passes is_neither (elements f)) _ _ _ _ e
+literals : (columns : List Column) (f : Form) → is_disjunct columns f ≡ true → some_passes is_neither (kept_elements f) ≡ false
+literals columns f e = by (some_passes is_neither (kept_elements f)) _ _ _ _ e
   where
     by : (b x y u v : Bool) → ((not b && x && y) && u && v) ≡ true → b ≡ false
     by true x y u v e = cc
@@ -31,12 +28,12 @@ module _ (M : Structure) (env : Assignment) (columns : List Column) where
   pub some_to : (fs : Forms) → all_pass (is_disjunct columns) fs ≡ true → SatisfiesSome fs M env → (IsDerived M fs env → ⊥) → ⊥
   some_to no_forms e h none = h
   some_to (form f fs) e h none =
-      h (λ s. disjunct_to M f env (literals columns f (and_left (is_disjunct columns f) (all_pass (is_disjunct columns) fs) e)) s (λ c. none (record { disjunct = f; listed = contains_first f (as_list fs); chosen = c })))
+      h (λ s. disjunct_to M f env (literals columns f (and_first (is_disjunct columns f) (all_pass (is_disjunct columns) fs) e)) s (λ c. none (record { disjunct = f; listed = contains_first f (as_list fs); chosen = c })))
       (λ r. some_to fs (and_right (is_disjunct columns f) (all_pass (is_disjunct columns) fs) e) r (λ d. none (record { disjunct = d.disjunct; listed = contains_later f d.disjunct (as_list fs) d.listed; chosen = d.chosen })))
 
   some_from : (fs : Forms) (f : Form) → Contains (as_list fs) f → all_pass (is_disjunct columns) fs ≡ true → ChosenWithValues f M env → SatisfiesSome fs M env
   some_from no_forms f (i, low, is) e c = absurd (let l : i < 0 = low in omega (arith, l))
-  some_from (form g fs) f (zero, low, is) e c = λ one others. one (disjunct_from M g env (literals columns g (and_left (is_disjunct columns g) (all_pass (is_disjunct columns) fs) e)) (subst (λ x. ChosenWithValues x M env) (let s : f ≡ g = cc in s) c))
+  some_from (form g fs) f (zero, low, is) e c = λ one others. one (disjunct_from M g env (literals columns g (and_first (is_disjunct columns g) (all_pass (is_disjunct columns) fs) e)) (subst (λ x. ChosenWithValues x M env) (let s : f ≡ g = cc in s) c))
   some_from (form g fs) f (suc i, low, is) e c = λ one others. others (some_from fs f (i, omega (arith, low), is) (and_right (is_disjunct columns g) (all_pass (is_disjunct columns) fs) e) c)
 
   -- a formula as one of its disjuncts
@@ -56,7 +53,7 @@ module _ (M : Structure) (env : Assignment) (columns : List Column) where
   alone g e d = by d.disjunct d.listed d.chosen
     where
       by : (f : Form) → Contains (g ∷ []) f → ChosenWithValues f M env → Satisfies g M env
-      by f (zero, low, is) c = disjunct_from M g env (literals columns g (and_left (is_disjunct columns g) true e)) (subst (λ x. ChosenWithValues x M env) (let s : f ≡ g = cc in s) c)
+      by f (zero, low, is) c = disjunct_from M g env (literals columns g (and_first (is_disjunct columns g) true e)) (subst (λ x. ChosenWithValues x M env) (let s : f ≡ g = cc in s) c)
       by f (suc i, low, is) c = absurd (omega (arith, low))
 
   of_some : (g : Form) → all_pass (is_disjunct columns) (disjuncts g) ≡ true → IsDerived M (disjuncts g) env → Satisfies g M env

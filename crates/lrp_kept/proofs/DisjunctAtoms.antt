@@ -20,14 +20,14 @@ use Rattle.lrp_plan_laws.specs.Atoms.{Atom, atoms, atoms_each}
 use Rattle.lrp_plan_laws.proofs.SortedNames.{same_name}
 use Rattle.lrp_tables.specs.Columns.{texts_of_term}
 use Rattle.lrp_kept.specs.Choices.{Matches}
-use Rattle.lrp_kept.specs.KeptForm.{elements, is_atom_with, is_neither, some_passes}
+use Rattle.lrp_kept.specs.KeptForm.{kept_elements, is_atom_with, is_neither, some_passes}
 use Rattle.lrp_kept.specs.SortedForms.{AreSortedForms, IsSortedAtom, IsSortedForm, binders_at}
 use Rattle.lrp_kept.proofs.MatchedTexts.{in_database, named_listed, text_in_row}
 
 -- ---- elements
 
 -- the atoms of a formula are those of its elements
-pub atoms_are : (f : Form) → atoms f ≡ atoms_each (elements f)
+pub atoms_are : (f : Form) → atoms f ≡ atoms_each (kept_elements f)
 atoms_are (exists v s f) = atoms_are f
 atoms_are (conjunction fs) = refl
 atoms_are (atom name terms) = refl
@@ -38,7 +38,7 @@ atoms_are (disjunction fs) = sym (append-nil (atoms_each fs))
 atoms_are (implication f g) = sym (append-nil (atoms f ++ atoms g))
 atoms_are (forall v s f) = sym (append-nil (atoms f))
 
-pub sorted_elements : (f : Form) (db : List Relation) (bs : List Column) → IsSortedForm f db bs → AreSortedForms (elements f) db (binders_at f bs)
+pub sorted_elements : (f : Form) (db : List Relation) (bs : List Column) → IsSortedForm f db bs → AreSortedForms (kept_elements f) db (binders_at f bs)
 sorted_elements (exists v s f) db bs h = sorted_elements f db (record { name = v; sort = s } ∷ bs) h.1
 sorted_elements (conjunction fs) db bs h = h
 sorted_elements (atom name terms) db bs h = (h, tt)
@@ -99,7 +99,7 @@ own_names_at (forall v s f) db bs h own = own
 
 -- ---- occurrences
 
-or_cases : (a b : Bool) → (a || b) ≡ true → (a ≡ true) ⊎ (b ≡ true)
+pub or_cases : (a b : Bool) → (a || b) ≡ true → (a ≡ true) ⊎ (b ≡ true)
 or_cases true b e = inl refl
 or_cases false b e = inr e
 

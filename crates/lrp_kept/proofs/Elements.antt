@@ -7,7 +7,7 @@ use Rattle.lrp_model.specs.Core.{positive, negative, positives, negatives, conju
 use Rattle.lrp_model.specs.declared.formulas.Formula.{Formula, And as all_formulas, Or as some_formula}
 use Rattle.lrp_model.proofs.Views.{form_of-And, form_of-Or}
 use Rattle.lrp_kept.specs.KeptForm.{all_pass, some_passes}
-use Rattle.lrp_kept.specs.Signs.{signed}
+use Rattle.lrp_kept.specs.Signs.{kept_signed}
 
 or_assoc : (a b c : Bool) → (a || (b || c)) ≡ ((a || b) || c)
 or_assoc true b c = refl
@@ -54,24 +54,24 @@ all-alternatives p (f ∷ fs) = all-joined p (disjuncts (positive (form_of f) fa
 
 module _ (p : Form → Bool) (f : Formula) (v : Vec Formula Global) where
   -- an `and` that holds, and an `or` that is denied
-  pub some-And : (holds : Bool) → holds ≡ true → f ≡ all_formulas v → list_any (λ g. some_passes p (conjuncts (signed holds (form_of g)))) v.items ≡ some_passes p (conjuncts (signed holds (form_of f)))
+  pub some-And : (holds : Bool) → holds ≡ true → f ≡ all_formulas v → list_any (λ g. some_passes p (conjuncts (kept_signed holds (form_of g)))) v.items ≡ some_passes p (conjuncts (kept_signed holds (form_of f)))
   some-And true e is = sym (ap (λ x. some_passes p (conjuncts (positive x false))) (ap form_of is ∙ form_of-And v) ∙ some-positives p v.items)
   some-And false e is = cc
 
-  pub some-Or : (holds : Bool) → holds ≡ false → f ≡ some_formula v → list_any (λ g. some_passes p (conjuncts (signed holds (form_of g)))) v.items ≡ some_passes p (conjuncts (signed holds (form_of f)))
+  pub some-Or : (holds : Bool) → holds ≡ false → f ≡ some_formula v → list_any (λ g. some_passes p (conjuncts (kept_signed holds (form_of g)))) v.items ≡ some_passes p (conjuncts (kept_signed holds (form_of f)))
   some-Or true e is = cc
   some-Or false e is = sym (ap (λ x. some_passes p (conjuncts (negative x false))) (ap form_of is ∙ form_of-Or v) ∙ some-negatives p v.items)
 
-  pub all-And : (holds : Bool) → holds ≡ true → f ≡ all_formulas v → list_all (λ g. all_pass p (conjuncts (signed holds (form_of g)))) v.items ≡ all_pass p (conjuncts (signed holds (form_of f)))
+  pub all-And : (holds : Bool) → holds ≡ true → f ≡ all_formulas v → list_all (λ g. all_pass p (conjuncts (kept_signed holds (form_of g)))) v.items ≡ all_pass p (conjuncts (kept_signed holds (form_of f)))
   all-And true e is = sym (ap (λ x. all_pass p (conjuncts (positive x false))) (ap form_of is ∙ form_of-And v) ∙ all-positives p v.items)
   all-And false e is = cc
 
-  pub all-Or : (holds : Bool) → holds ≡ false → f ≡ some_formula v → list_all (λ g. all_pass p (conjuncts (signed holds (form_of g)))) v.items ≡ all_pass p (conjuncts (signed holds (form_of f)))
+  pub all-Or : (holds : Bool) → holds ≡ false → f ≡ some_formula v → list_all (λ g. all_pass p (conjuncts (kept_signed holds (form_of g)))) v.items ≡ all_pass p (conjuncts (kept_signed holds (form_of f)))
   all-Or true e is = cc
   all-Or false e is = sym (ap (λ x. all_pass p (conjuncts (negative x false))) (ap form_of is ∙ form_of-Or v) ∙ all-negatives p v.items)
 
   -- an `or` that holds, as alternatives
-  pub alternatives-Or : (holds : Bool) → holds ≡ true → f ≡ some_formula v → list_all (λ g. all_pass p (disjuncts (signed true (form_of g)))) v.items ≡ all_pass p (disjuncts (signed holds (form_of f)))
+  pub alternatives-Or : (holds : Bool) → holds ≡ true → f ≡ some_formula v → list_all (λ g. all_pass p (disjuncts (kept_signed true (form_of g)))) v.items ≡ all_pass p (disjuncts (kept_signed holds (form_of f)))
   alternatives-Or true e is = sym (ap (λ x. all_pass p (disjuncts (positive x false))) (ap form_of is ∙ form_of-Or v) ∙ all-alternatives p v.items)
   alternatives-Or false e is = cc
 
@@ -85,20 +85,20 @@ and_all false = refl
 
 module _ (p : Form → Bool) (l r g : Form) (is : g ≡ implication l r) where
   -- an implication that is denied: the one holds, and the other does not
-  pub some-Implies : (holds : Bool) → holds ≡ false → (some_passes p (conjuncts (signed true l)) || some_passes p (conjuncts (signed false r))) ≡ some_passes p (conjuncts (signed holds g))
+  pub some-Implies : (holds : Bool) → holds ≡ false → (some_passes p (conjuncts (kept_signed true l)) || some_passes p (conjuncts (kept_signed false r))) ≡ some_passes p (conjuncts (kept_signed holds g))
   some-Implies true e = cc
   some-Implies false e =
       sym (ap (λ x. some_passes p (conjuncts (negative x false))) is ∙ some-joined p (conjuncts (positive l false)) (joined (conjuncts (negative r false)) no_forms)
       ∙ ap (λ b. some_passes p (conjuncts (positive l false)) || b) (some-joined p (conjuncts (negative r false)) no_forms ∙ or_none (some_passes p (conjuncts (negative r false)))))
 
-  pub all-Implies : (holds : Bool) → holds ≡ false → (all_pass p (conjuncts (signed true l)) && all_pass p (conjuncts (signed false r))) ≡ all_pass p (conjuncts (signed holds g))
+  pub all-Implies : (holds : Bool) → holds ≡ false → (all_pass p (conjuncts (kept_signed true l)) && all_pass p (conjuncts (kept_signed false r))) ≡ all_pass p (conjuncts (kept_signed holds g))
   all-Implies true e = cc
   all-Implies false e =
       sym (ap (λ x. all_pass p (conjuncts (negative x false))) is ∙ all-joined p (conjuncts (positive l false)) (joined (conjuncts (negative r false)) no_forms)
       ∙ ap (λ b. all_pass p (conjuncts (positive l false)) && b) (all-joined p (conjuncts (negative r false)) no_forms ∙ and_all (all_pass p (conjuncts (negative r false)))))
 
   -- one that holds: the one does not, or the other does
-  pub alternatives-Implies : (holds : Bool) → holds ≡ true → (all_pass p (disjuncts (signed false l)) && all_pass p (disjuncts (signed true r))) ≡ all_pass p (disjuncts (signed holds g))
+  pub alternatives-Implies : (holds : Bool) → holds ≡ true → (all_pass p (disjuncts (kept_signed false l)) && all_pass p (disjuncts (kept_signed true r))) ≡ all_pass p (disjuncts (kept_signed holds g))
   alternatives-Implies false e = cc
   alternatives-Implies true e =
       sym (ap (λ x. all_pass p (disjuncts (positive x false))) is ∙ all-joined p (disjuncts (negative l false)) (joined (disjuncts (positive r false)) no_forms)

@@ -9,9 +9,7 @@ use Rattle.lrp_kept.specs.Keyed.{IsEmptyOf, IsEmptyRelation}
 use Rattle.lrp_kept.specs.declared.rows.HeldRelation.{HeldRelation}
 use Rattle.lrp_kept.specs.declared.rows.HeldRows.{HeldRows}
 use Rattle.lrp_kept.proofs.Zipped.{zip_push}
-
-some_same : {X : Type 0} (x y : X) → Some x ≡ Some y → x ≡ y
-some_same x y e = cc
+use Rattle.lrp_kept.proofs.JoinedUp.{same_some}
 
 pub none_yet : (db : List Relation) (rs : List HeldRelation) → rs ≡ [] → AllZip IsEmptyRelation (take 0 db) rs
 none_yet [] rs e = subst (λ xs. AllZip IsEmptyRelation [] xs) (sym e) tt
@@ -39,7 +37,7 @@ none_held : (db : List Relation) (rs : List HeldRelation) → AllZip IsEmptyRela
 none_held [] [] h i x e = absurd (let l : i < 0 = slice_get_within [] i x e in omega (arith, l))
 none_held [] (y ∷ rs) h i x e = absurd h
 none_held (r ∷ db) [] h i x e = absurd h
-none_held (r ∷ db) (y ∷ rs) h zero x e = let f : y ≡ x = some_same y x e in (ap (λ (z : HeldRelation). z.keys.items) (sym f) ∙ h.0.keys, ap (λ (z : HeldRelation). z.most) (sym f) ∙ h.0.most)
+none_held (r ∷ db) (y ∷ rs) h zero x e = let f : y ≡ x = same_some y x e in (ap (λ (z : HeldRelation). z.keys.items) (sym f) ∙ h.0.keys, ap (λ (z : HeldRelation). z.most) (sym f) ∙ h.0.most)
 none_held (r ∷ db) (y ∷ rs) h (suc i) x e = none_held db rs h.1 i x e
 
 pub empty_of : (db : List Relation) (rows : HeldRows) (i : ℕ) → length db ≤ i → AllZip IsEmptyRelation (take i db) rows.relations.items → rows.sources.slots ≡ [] → IsEmptyOf db rows

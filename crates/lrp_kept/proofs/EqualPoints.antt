@@ -5,7 +5,7 @@ use Rattle.std.proofs.Math.IntN.{*ℤ_comm, *ℤ-zero}
 use Rattle.std.specs.Int.{w64}
 use Rattle.std.proofs.lemmas.Bool.{eq-eqb, eqb-true}
 use Rattle.std.proofs.lemmas.Int.{ints, to_z-of_z}
-use Rattle.lrp_theory.specs.Divides.{Divides, IsMember}
+use Rattle.lrp_theory.specs.Divides.{Divides, IsPointMember}
 use Rattle.lrp_theory.proofs.Modulo.{Divides-is, Divides-neg, Divides-self, Divides-zero}
 use Rattle.lrp_theory.proofs.Multiples.{Divides-trans, no_remainder}
 
@@ -40,7 +40,7 @@ without_rest : (k a b : ℤ) → 0 < nat_abs k → Divides k (b -ℤ a) → nat_
 without_rest k a b low d = no_remainder (nat_abs k) (nat_abs (a -ℤ b)) low (back (pos (nat_abs k)) (a -ℤ b) (b -ℤ a) (turned a b) (to_magnitude k (b -ℤ a) d))
 
 -- the test of the remainder
-pub step_decides : (a b k : ℤ) (d m : ℕ) → 0 < m → d ≡ nat_abs (a -ℤ b) → m ≡ nat_abs k → IsTrue (d % m == 0) ↔ IsMember a k b
+pub step_decides : (a b k : ℤ) (d m : ℕ) → 0 < m → d ≡ nat_abs (a -ℤ b) → m ≡ nat_abs k → IsTrue (d % m == 0) ↔ IsPointMember a k b
 step_decides a b k d m low ed em = (
   (λ t. in_step k a b positive (subst (λ x. x % nat_abs k ≡ 0) ed (subst (λ y. d % y ≡ 0) em (to (d % m) t)))),
   λ h. from (d % m) (subst (λ y. d % y ≡ 0) (sym em) (subst (λ x. x % nat_abs k ≡ 0) (sym ed) (without_rest k a b positive h))),
@@ -56,7 +56,7 @@ step_decides a b k d m low ed em = (
     from n e = grind (arith, e)
 
 -- a period of 0 leaves the offset alone
-pub same_alone : (a b k : ℤ) → 0 ≡ nat_abs k → IsMember a k b → a ≡ b
+pub same_alone : (a b k : ℤ) → 0 ≡ nat_abs k → IsPointMember a k b → a ≡ b
 same_alone a b (pos n) e h =
     let z : b -ℤ a ≡ pos n *ℤ h.times = h.is in
     let f : pos n ≡ pos 0 = ap pos (sym e) in
@@ -64,11 +64,11 @@ same_alone a b (pos n) e h =
     omega (arith, ints, z, g)
 same_alone a b (negsuc n) e h = absurd (let l : 0 ≡ suc n = e in omega (arith, l))
 
-alone_is : (a b k : ℤ) → a ≡ b → IsMember a k b
+alone_is : (a b k : ℤ) → a ≡ b → IsPointMember a k b
 alone_is a b k e = Divides-is k (pos 0) (b -ℤ a) (omega (arith, ints, e)) (Divides-zero k)
 
 -- the test of the offsets
-pub same_offsets : (a b k : ℤ) → SFits w64 a → SFits w64 b → 0 ≡ nat_abs k → IsTrue (eqb (of_z w64 a) (of_z w64 b)) ↔ IsMember a k b
+pub same_offsets : (a b k : ℤ) → SFits w64 a → SFits w64 b → 0 ≡ nat_abs k → IsTrue (eqb (of_z w64 a) (of_z w64 b)) ↔ IsPointMember a k b
 same_offsets a b k f g none = (
   (λ t. alone_is a b k (sym (to_z-of_z w64 a f) ∙ ap (to_z w64) (eqb-true (of_z w64 a) (of_z w64 b) t) ∙ to_z-of_z w64 b g)),
   λ h. eq-eqb (of_z w64 a) (of_z w64 b) (ap (of_z w64) (same_alone a b k none h)),

@@ -12,28 +12,26 @@ use Rattle.lrp_kept.specs.Keys.{keys_at, keys_in, keys_of}
 use Rattle.lrp_kept.specs.Keyed.{AreRelisted, AreSameRows, HasNoEqualRow, IsFirstEqual, IsHeldBehind, IsLetGoAt, IsUnlisted}
 use Rattle.lrp_kept.specs.declared.rows.HeldRelation.{HeldRelation}
 use Rattle.lrp_kept.specs.declared.rows.HeldRows.{HeldRows}
-use Rattle.lrp_kept.specs.declared.rows.Source.{Source}
+use Rattle.lrp_kept.specs.declared.rows.HeldRow.{HeldRow}
 use Rattle.lrp_kept.proofs.Relisted.{same_listed}
-
-same_some : {X : Type 0} (x y : X) → Some x ≡ Some y → x ≡ y
-same_some x y e = cc
+use Rattle.lrp_kept.proofs.JoinedUp.{same_some}
 
 -- ---- looking for an equal row
 
 -- what a look at a key says
-abbrev pub Says : Option Source → Bool → Row → Type 0
+abbrev pub Says : Option HeldRow → Bool → Row → Type 0
 Says o b row = MatchOption o (b ≡ false) (λ source. IsTrue b ↔ AreEqualRows source.row row)
 
-there_is : (o : Option Source) (b : Bool) (row : Row) → Says o b row → b ≡ true → (s : Source) × (o ≡ Some s) × AreEqualRows s.row row
+there_is : (o : Option HeldRow) (b : Bool) (row : Row) → Says o b row → b ≡ true → (s : HeldRow) × (o ≡ Some s) × AreEqualRows s.row row
 there_is None b row h e = absurd (true≢false (sym e ∙ h))
 there_is (Some s) b row h e = (s, refl, h.0 e)
 
-is_other : (o : Option Source) (b : Bool) (row : Row) (s : Source) → Says o b row → b ≡ false → o ≡ Some s → AreEqualRows s.row row → ⊥
+is_other : (o : Option HeldRow) (b : Bool) (row : Row) (s : HeldRow) → Says o b row → b ≡ false → o ≡ Some s → AreEqualRows s.row row → ⊥
 is_other o b row s h e is equal = let t : Says (Some s) b row = subst (λ x. Says x b row) is h in true≢false (sym (t.1 equal) ∙ e)
 
 -- none of the rows under the first so many keys is equal
 abbrev pub HasNoneBefore : HeldRows → List ℕ → Row → ℕ → Type 0
-HasNoneBefore rows keys row place = (i k : ℕ) (other : Source) → i < place → slice_get keys i ≡ Some k → get rows.sources k ≡ Some other → AreEqualRows other.row row → ⊥
+HasNoneBefore rows keys row place = (i k : ℕ) (other : HeldRow) → i < place → slice_get keys i ≡ Some k → get rows.sources k ≡ Some other → AreEqualRows other.row row → ⊥
 
 -- the keys of a relation
 pub keys_are : (relations : List HeldRelation) (n : ℕ) (r : HeldRelation) → n < length relations → r ≡ get_or relations n r → keys_at relations n ≡ r.keys.items
@@ -75,16 +73,16 @@ none_equal rows relation row keys place are past before = record {
 
 -- ---- a row more, and a row less
 
-pub held_behind : (source : Source) (key : ℕ) (old new : HeldRows) → get old.sources key ≡ None → Updates old.sources new.sources key (Some source)
+pub held_behind : (source : HeldRow) (key : ℕ) (old new : HeldRows) → get old.sources key ≡ None → Updates old.sources new.sources key (Some source)
     → AreRelisted source.relation (keys_at old.relations.items source.relation ++ key ∷ []) old.relations.items new.relations.items → IsHeldBehind source key old new
 held_behind source key old new free put listed = record { free = free; there = put.changed; others = put.others; listed = listed }
 
 -- nothing was held
-pub same_slots : (old : HeldRows) (sources : Slab Source) (relation : ℕ) → sources ≡ record old.sources { capacity = sources.capacity } → AreSameRows old (record { relations = old.relations; sources = sources })
+pub same_slots : (old : HeldRows) (sources : Slab HeldRow) (relation : ℕ) → sources ≡ record old.sources { capacity = sources.capacity } → AreSameRows old (record { relations = old.relations; sources = sources })
 same_slots old sources relation same = record { sources = λ k. ap (λ s. get s k) same; relation = relation; listed = same_listed old.relations.items relation }
 
 -- what was held is gone again
-pub gone_again : (source : Source) (key : ℕ) (old between new : HeldRows) → get old.sources key ≡ None → Updates old.sources between.sources key (Some source) → Updates between.sources new.sources key None
+pub gone_again : (source : HeldRow) (key : ℕ) (old between new : HeldRows) → get old.sources key ≡ None → Updates old.sources between.sources key (Some source) → Updates between.sources new.sources key None
     → AreRelisted source.relation (keys_at old.relations.items source.relation) old.relations.items new.relations.items → AreSameRows old new
 gone_again source key old between new free put gone listed = record {
   sources = λ k. elim (eq_or k key) [ inl e ↦ ap (get new.sources) e ∙ gone.changed ∙ sym free ∙ ap (get old.sources) (sym e) | inr d ↦ gone.others k d ∙ put.others k d ];

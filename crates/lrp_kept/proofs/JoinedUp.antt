@@ -15,10 +15,10 @@ use Rattle.lrp_plan_laws.specs.Atoms.{Atom}
 use Rattle.lrp_tables.specs.declared.table.Vars.{Vars}
 use Rattle.lrp_tables.specs.Columns.{joint, scan_texts, scan_times}
 use Rattle.lrp_kept.specs.Choices.{as_list, listed_disjuncts}
-use Rattle.lrp_kept.specs.Disjuncts.{AreDisjunctsOf, AreJoined, IsAtomOf, IsDisjunctOf, is_covered}
-use Rattle.lrp_kept.specs.Drafts.{AreAllJoined, AreDisjuncts, AreNamed, CanBeJoinedUp, IsDraftOf, IsJoined, IsMadeOf, IsOneMore, atom_in, texts_behind, times_behind}
+use Rattle.lrp_kept.specs.Disjuncts.{AreDisjunctsOf, AreJoined, IsAtomOf, IsDisjunctOf, is_test_covered}
+use Rattle.lrp_kept.specs.Drafts.{AreAllJoined, AreDisjuncts, AreOfRelations, CanBeJoinedUp, DraftsDisjunct, IsJoinedAtom, MakesDisjunct, IsOneMore, atom_in, texts_behind, times_behind}
 use Rattle.lrp_kept.specs.declared.disjuncts.Disjunct.{Disjunct}
-use Rattle.lrp_kept.specs.declared.disjuncts.Draft.{Draft}
+use Rattle.lrp_kept.specs.declared.disjuncts.DisjunctDraft.{DisjunctDraft}
 use Rattle.lrp_kept.specs.declared.disjuncts.JoinedAtom.{JoinedAtom}
 use Rattle.lrp_kept.specs.declared.disjuncts.NamedTerms.{NamedTerms}
 use Rattle.lrp_kept.proofs.Drafted.{kept_atoms}
@@ -28,7 +28,7 @@ use Rattle.lrp_kept.proofs.Zipped.{zip_push}
 
 -- one atom more, behind the variables so far
 push_joined : (tests : List Test) (ts xs : List Identifier) (js : List JoinedAtom) (j : JoinedAtom) → AreJoined tests ts xs js
-    → j.vars.times ≡ joint (times_behind ts js) (scan_times j.terms) → j.vars.texts ≡ joint (texts_behind xs js) (scan_texts j.terms) → j.tests ≡ filter (is_covered j.vars.times j.vars.texts) tests
+    → j.vars.times ≡ joint (times_behind ts js) (scan_times j.terms) → j.vars.texts ≡ joint (texts_behind xs js) (scan_texts j.terms) → j.tests ≡ filter (is_test_covered j.vars.times j.vars.texts) tests
     → AreJoined tests ts xs (js ++ j ∷ [])
 push_joined tests ts xs [] j h t x f = (t, x, f, tt)
 push_joined tests ts xs (k ∷ js) j h t x f = (h.0, h.1, h.2, push_joined tests k.vars.times k.vars.texts js j h.3 t x f)
@@ -51,7 +51,7 @@ pub none_joined : (names : List Identifier) (tests : List Test) (vars : Vars) (j
 none_joined names tests vars js e t x = subst (λ k. AreJoinedUp names [] tests vars k) (sym e) (record { joined = record { each = tt; joined = tt }; times = t; texts = x })
 
 push_up : (names : List Identifier) (all : List Atom) (tests : List Test) (old vars : Vars) (js : List JoinedAtom) (a : Atom) (j : JoinedAtom) → AreJoinedUp names all tests old js
-    → vars.times ≡ joint old.times (scan_times a.terms) → vars.texts ≡ joint old.texts (scan_texts a.terms) → IsJoined names a tests vars j
+    → vars.times ≡ joint old.times (scan_times a.terms) → vars.texts ≡ joint old.texts (scan_texts a.terms) → IsJoinedAtom names a tests vars j
     → AreJoinedUp names (all ++ a ∷ []) tests vars (js ++ j ∷ [])
 push_up names all tests old vars js a j h t x w = record {
   joined = record {
@@ -59,28 +59,28 @@ push_up names all tests old vars js a j h t x w = record {
     joined = push_joined tests [] [] js j h.joined.joined
         (w.times ∙ t ∙ ap (λ ns. joint ns (scan_times a.terms)) h.times ∙ ap (λ ts. joint (times_behind [] js) (scan_times ts)) (sym w.is.terms))
         (w.texts ∙ x ∙ ap (λ ns. joint ns (scan_texts a.terms)) h.texts ∙ ap (λ ts. joint (texts_behind [] js) (scan_texts ts)) (sym w.is.terms))
-        (w.covered ∙ ap (λ ns. filter (is_covered ns vars.texts) tests) (sym w.times) ∙ ap (λ ns. filter (is_covered j.vars.times ns) tests) (sym w.texts));
+        (w.covered ∙ ap (λ ns. filter (is_test_covered ns vars.texts) tests) (sym w.times) ∙ ap (λ ns. filter (is_test_covered j.vars.times ns) tests) (sym w.texts));
   };
   times = sym w.times ∙ sym (times_pushed [] js j);
   texts = sym w.texts ∙ sym (texts_pushed [] js j);
 }
 
 pub one_joined : (names : List Identifier) (named : List NamedTerms) (i : ℕ) (n : NamedTerms) (tests : List Test) (old vars : Vars) (js ks : List JoinedAtom) (j : JoinedAtom) → i < length named → n ≡ get_or named i n
-    → AreJoinedUp names (map atom_in (take i named)) tests old js → vars.times ≡ joint old.times (scan_times n.terms) → vars.texts ≡ joint old.texts (scan_texts n.terms) → IsJoined names (atom_in n) tests vars j → ks ≡ js ++ j ∷ []
+    → AreJoinedUp names (map atom_in (take i named)) tests old js → vars.times ≡ joint old.times (scan_times n.terms) → vars.texts ≡ joint old.texts (scan_texts n.terms) → IsJoinedAtom names (atom_in n) tests vars j → ks ≡ js ++ j ∷ []
     → AreJoinedUp names (map atom_in (take (i + 1) named)) tests vars ks
 one_joined names named i n tests old vars js ks j lt is h t x w e =
     subst (λ atoms_so. AreJoinedUp names atoms_so tests vars ks) (sym (ap (map atom_in) (take_more named i n lt ∙ ap (λ m. take i named ++ m ∷ []) (sym is)) ∙ map-append atom_in (take i named) (n ∷ [])))
     (subst (λ k. AreJoinedUp names (map atom_in (take i named) ++ atom_in n ∷ []) tests vars k) (sym e) (push_up names (map atom_in (take i named)) tests old vars js (atom_in n) j h t x w))
 
 -- each name is one of the relations'
-pub name_at : (names : List Identifier) (named : List NamedTerms) (i : ℕ) (n : NamedTerms) → i < length named → n ≡ get_or named i n → AreNamed names (map atom_in named) → Contains names n.name
+pub name_at : (names : List Identifier) (named : List NamedTerms) (i : ℕ) (n : NamedTerms) → i < length named → n ≡ get_or named i n → AreOfRelations names (map atom_in named) → Contains names n.name
 name_at names [] i n lt is h = absurd (omega (arith, lt))
 name_at names (m ∷ named) zero n lt is h = subst (λ k. Contains names k) (sym (ap (λ (k : NamedTerms). k.name) is)) h.0
 name_at names (m ∷ named) (suc i) n lt is h = name_at names named i n (omega (arith, lt)) is h.1
 
 -- ---- a disjunct
 
-pub made_is : (names : List Identifier) (f : Form) (draft : Draft) (d : Disjunct) → CanBeJoinedUp names f → IsDraftOf f draft → IsMadeOf names draft d → IsDisjunctOf names f d
+pub made_is : (names : List Identifier) (f : Form) (draft : DisjunctDraft) (d : Disjunct) → CanBeJoinedUp names f → DraftsDisjunct f draft → MakesDisjunct names draft d → IsDisjunctOf names f d
 made_is names f draft d can h m = record {
   atoms_are = subst (λ atoms_so. AllZip (IsAtomOf names) atoms_so d.atoms.items) (h.atoms ∙ sym (kept_atoms f can.conjunctive)) m.atoms;
   tests_are = m.tests ∙ h.tests;
@@ -88,12 +88,12 @@ made_is names f draft d can h m = record {
   joined = m.joined;
 }
 
-pub draft_named : (names : List Identifier) (f : Form) (draft : Draft) → CanBeJoinedUp names f → IsDraftOf f draft → AreNamed names (map atom_in draft.atoms.items)
-draft_named names f draft can h = subst (λ atoms_so. AreNamed names atoms_so) (kept_atoms f can.conjunctive ∙ sym h.atoms) can.named
+pub draft_named : (names : List Identifier) (f : Form) (draft : DisjunctDraft) → CanBeJoinedUp names f → DraftsDisjunct f draft → AreOfRelations names (map atom_in draft.atoms.items)
+draft_named names f draft can h = subst (λ atoms_so. AreOfRelations names atoms_so) (kept_atoms f can.conjunctive ∙ sym h.atoms) can.named
 
 -- ---- the disjuncts of a query
 
-same_some : {X : Type 0} (a b : X) → Some a ≡ Some b → a ≡ b
+pub same_some : {X : Type 0} (a b : X) → Some a ≡ Some b → a ≡ b
 same_some a b e = cc
 
 -- numbered from k on

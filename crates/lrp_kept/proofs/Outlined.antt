@@ -6,7 +6,7 @@ use Rattle.std.proofs.lemmas.Bool.{cases_lt}
 use Rattle.std.proofs.lemmas.List.{get_or-set_other, get_or-set_same, get_or_past, length-replicate, length-set, take_more, map-append}
 use Rattle.std.proofs.lemmas.Option.{slice_get-get_or, slice_get_within}
 use Rattle.lrp_theory.specs.Bounds.{Within}
-use Rattle.lrp_theory.specs.Divides.{Divides, IsMember as IsMemberOf}
+use Rattle.lrp_theory.specs.Divides.{Divides, IsPointMember as IsMemberOf}
 use Rattle.lrp_point.specs.Points.{IsIn, PointView}
 use Rattle.lrp_theory.specs.Entries.{node}
 use Rattle.lrp_zone.specs.Zones.{ZoneView, IsMember, columns_of}
@@ -19,7 +19,8 @@ use Rattle.lrp_algebra.proofs.Found.{all_last, all_left}
 use Rattle.lrp_kept.specs.Outlines.{AreFirstKnown, AreNarrowed, IsOutlineOf}
 use Rattle.lrp_kept.specs.Spans.{AreInSpans, IsAtLeast, IsAtMost, IsInSpan, IsOfPoint}
 use Rattle.lrp_kept.specs.declared.outlines.Outline.{Outline}
-use Rattle.lrp_kept.specs.declared.spans.Span.{Span}
+use Rattle.lrp_kept.specs.declared.spans.ColumnSpan.{ColumnSpan}
+use Rattle.lrp_kept.proofs.JoinedUp.{same_some}
 
 pub within_most : (o : Option ℤ) (x y : ℤ) → x ≡ y → Within x o → IsAtMost o y
 within_most None x y e h = tt
@@ -43,10 +44,10 @@ above_zero (suc n) h = omega arith
 pub point_is : (z : ZoneView) (i : ℕ) (residue period : ℤ) (p : PointView) → i ≤ columns_of z → residue ≡ node z.residues i → period ≡ pos z.period → ((x : ℤ) → IsIn p x ↔ IsMemberOf residue period x) → (ys : List ℤ) → IsMember z ys → IsIn p (node ys i)
 point_is z i residue period p high r k members ys m = (members (node ys i)).1 (subst (λ c. Divides period (node ys i -ℤ c)) (sym r) (subst (λ n. Divides n (node ys i -ℤ node z.residues i)) (sym k) (m.cell.each i high)))
 
-pub not_narrowed : (spans : List Span) (placed : Placed) (count : ℕ) → length spans ≡ 8 → AreNarrowed spans placed count spans
+pub not_narrowed : (spans : List ColumnSpan) (placed : Placed) (count : ℕ) → length spans ≡ 8 → AreNarrowed spans placed count spans
 not_narrowed spans placed count size = record { size = size; is = λ xs more e h s. s }
 
-pub narrowed_twice : (a b c : List Span) (placed : Placed) (count : ℕ) → AreNarrowed a placed count b → AreNarrowed b placed count c → AreNarrowed a placed count c
+pub narrowed_twice : (a b c : List ColumnSpan) (placed : Placed) (count : ℕ) → AreNarrowed a placed count b → AreNarrowed b placed count c → AreNarrowed a placed count c
 narrowed_twice a b c placed count h k = record { size = k.size; is = λ xs more e i s. k.is xs more e i (h.is xs more e i s) }
 
 node_mapped : (xs : List ℤ) (ps : List ℕ) (i : ℕ) → i < length ps → node (map (node xs) ps) (suc i) ≡ node xs (get_or ps i 0)
@@ -65,14 +66,11 @@ mapped_length : (xs : List ℤ) (ps : List ℕ) → length (map (node xs) ps) �
 mapped_length xs [] = refl
 mapped_length xs (p ∷ ps) = ap suc (mapped_length xs ps)
 
-same_some : {X : Type 0} (a b : X) → Some a ≡ Some b → a ≡ b
-same_some a b e = cc
-
 next_is : (i : ℕ) → i + 1 ≡ suc i
 next_is i = omega arith
 
 -- one column has narrowed the span at its place
-pub narrowed_one : (spans new : List Span) (placed : Placed) (i place count : ℕ) (span old : Span) → length spans ≡ 8 → count ≤ 8 → i < columns_of placed.zone → place ≡ get_or placed.places i 0 → 0 < place → place ≤ count
+pub narrowed_one : (spans new : List ColumnSpan) (placed : Placed) (i place count : ℕ) (span old : ColumnSpan) → length spans ≡ 8 → count ≤ 8 → i < columns_of placed.zone → place ≡ get_or placed.places i 0 → 0 < place → place ≤ count
     → old ≡ get_or spans (place - 1) old → ((ys : List ℤ) → IsMember placed.zone ys → IsInSpan old (node ys (i + 1)) → IsInSpan span (node ys (i + 1))) → new ≡ slice_set spans (place - 1) span
     → AreNarrowed spans placed count new
 narrowed_one spans new placed i place count span old size few low at positive high was narrows e = subst (λ ss. AreNarrowed spans placed count ss) (sym e) (record {
@@ -83,7 +81,7 @@ narrowed_one spans new placed i place count span old size few low at positive hi
     stands : place - 1 < length spans
     stands = omega (arith, size, few, positive, high)
 
-    by : (xs : List ℤ) (more : ℕ → ℤ) → ((k : ℕ) → k < count → more k ≡ node xs (k + 1)) → InPart (part_of placed) xs → AreInSpans spans more → (k : ℕ) (s : Span) → slice_get (slice_set spans (place - 1) span) k ≡ Some s → (k ≡ place - 1) ⊎ (k ≢ place - 1) → IsInSpan s (more k)
+    by : (xs : List ℤ) (more : ℕ → ℤ) → ((k : ℕ) → k < count → more k ≡ node xs (k + 1)) → InPart (part_of placed) xs → AreInSpans spans more → (k : ℕ) (s : ColumnSpan) → slice_get (slice_set spans (place - 1) span) k ≡ Some s → (k ≡ place - 1) ⊎ (k ≢ place - 1) → IsInSpan s (more k)
     by xs more continues inside held k s is (inr other) =
         let in_new : k < length (slice_set spans (place - 1) span) = slice_get_within (slice_set spans (place - 1) span) k s is in
         let in_old : k < length spans = omega (arith, in_new, length-set spans (place - 1) span) in
@@ -103,11 +101,11 @@ narrowed_one spans new placed i place count span old size few low at positive hi
         subst (λ t. IsInSpan t (more k)) here (subst (λ x. IsInSpan span x) is_more (narrows ys inside before))
 
 -- what begins with a tuple of so many times that is of the first zones is in the spans
-pub record AreSpansOf (zones : List Placed) (count : ℕ) (spans : List Span) : Type 0 where
+pub record AreSpansOf (zones : List Placed) (count : ℕ) (spans : List ColumnSpan) : Type 0 where
   pub size : length spans ≡ 8
   pub is : (xs : List ℤ) (more : ℕ → ℤ) → ((i : ℕ) → i < count → more i ≡ node xs (i + 1)) → All (λ part. InPart part xs) (map part_of zones) → AreInSpans spans more
 
-pub one_zone_more : (zones : List Placed) (i : ℕ) (placed : Placed) (count : ℕ) (old new : List Span) → i < length zones → placed ≡ get_or zones i placed → AreSpansOf (take i zones) count old → AreNarrowed old placed count new → AreSpansOf (take (i + 1) zones) count new
+pub one_zone_more : (zones : List Placed) (i : ℕ) (placed : Placed) (count : ℕ) (old new : List ColumnSpan) → i < length zones → placed ≡ get_or zones i placed → AreSpansOf (take i zones) count old → AreNarrowed old placed count new → AreSpansOf (take (i + 1) zones) count new
 one_zone_more zones i placed count old new lt is h w = record {
   size = w.size;
   is = λ xs more continues inside.
@@ -116,23 +114,23 @@ one_zone_more zones i placed count old new lt is h w = record {
 }
 
 -- every integer is in a span of which nothing is known
-open_span : (s : Span) (x : ℤ) → s.least ≡ None → s.most ≡ None → s.point ≡ None → IsInSpan s x
+open_span : (s : ColumnSpan) (x : ℤ) → s.least ≡ None → s.most ≡ None → s.point ≡ None → IsInSpan s x
 open_span s x l m p = record {
   least = subst (λ o. IsAtLeast o x) (sym l) tt;
   most = subst (λ o. IsAtMost o x) (sym m) tt;
   point = subst (λ o. IsOfPoint o x) (sym p) tt;
 }
 
-repeated : (n i : ℕ) (s t : Span) → slice_get (replicate n s) i ≡ Some t → t ≡ s
+repeated : (n i : ℕ) (s t : ColumnSpan) → slice_get (replicate n s) i ≡ Some t → t ≡ s
 repeated zero i s t e = absurd (let l : i < 0 = slice_get_within [] i t e in omega (arith, l))
 repeated (suc n) zero s t e = sym (same_some s t e)
 repeated (suc n) (suc i) s t e = repeated n i s t e
 
-pub open_spans : (n : ℕ) (s : Span) (xs : ℕ → ℤ) → s.least ≡ None → s.most ≡ None → s.point ≡ None → AreInSpans (replicate n s) xs
+pub open_spans : (n : ℕ) (s : ColumnSpan) (xs : ℕ → ℤ) → s.least ≡ None → s.most ≡ None → s.point ≡ None → AreInSpans (replicate n s) xs
 open_spans n s xs l m p = record { each = λ i t e. subst (λ u. IsInSpan u (xs i)) (sym (repeated n i s t e)) (open_span s (xs i) l m p) }
 
-pub no_zones : (count n : ℕ) (s : Span) → n ≡ 8 → s.least ≡ None → s.most ≡ None → s.point ≡ None → AreSpansOf [] count (replicate n s)
-no_zones count n s e l m p = record { size = length-replicate {A = Span} n s ∙ e; is = λ xs more continues all. open_spans n s more l m p }
+pub no_zones : (count n : ℕ) (s : ColumnSpan) → n ≡ 8 → s.least ≡ None → s.most ≡ None → s.point ≡ None → AreSpansOf [] count (replicate n s)
+no_zones count n s e l m p = record { size = length-replicate {A = ColumnSpan} n s ∙ e; is = λ xs more continues all. open_spans n s more l m p }
 
 -- ---- texts
 

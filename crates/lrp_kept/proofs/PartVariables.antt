@@ -18,7 +18,9 @@ use Rattle.lrp_plan_laws.proofs.Members.{in_left, in_right, in_one}
 use Rattle.lrp_plan_laws.proofs.Names.{are_among_is, same_own}
 use Rattle.lrp_tables.specs.Columns.{names_of_data, names_of_time, texts_of_term, times_of_term}
 use Rattle.lrp_tables.specs.Tables.{named_variables}
-use Rattle.lrp_kept.specs.Disjuncts.{is_covered}
+use Rattle.lrp_kept.specs.Disjuncts.{is_test_covered}
+use Rattle.lrp_kept.proofs.DisjunctAtoms.{or_cases}
+use Rattle.lrp_theory.proofs.Members.{from_map, in_map}
 
 -- ---- variables by their names
 
@@ -27,28 +29,14 @@ abbrev pub IsNamed : List Identifier → List Identifier → Variable → Type 0
 IsNamed times texts (time_variable n) = Contains times n
 IsNamed times texts (data_variable n) = Contains texts n
 
-in_mapped : {X Y : Type 0} (f : X → Y) (xs : List X) (x : X) → Contains xs x → Contains (map f xs) (f x)
-in_mapped f [] x i = absurd (let l : i.0 < 0 = i.1 in omega (arith, l))
-in_mapped f (y ∷ xs) x i = elim (cons_cases y x xs i) [
-  | inl e ↦ subst (λ z. Contains (f y ∷ map f xs) (f z)) e (contains_first (f y) (map f xs))
-  | inr more ↦ contains_later (f y) (f x) (map f xs) (in_mapped f xs x more)
-]
-
-of_mapped : {X Y : Type 0} (f : X → Y) (xs : List X) (y : Y) → Contains (map f xs) y → (x : X) × Contains xs x × (f x ≡ y)
-of_mapped f [] y i = absurd (let l : i.0 < 0 = i.1 in omega (arith, l))
-of_mapped f (x ∷ xs) y i = elim (cons_cases (f x) y (map f xs) i) [
-  | inl e ↦ (x, contains_first x xs, e)
-  | inr more ↦ let r = of_mapped f xs y more in (r.0, contains_later x r.0 xs r.1, r.2)
-]
-
 pub named_in : (times texts : List Identifier) (v : Variable) → IsNamed times texts v → Contains (named_variables times texts) v
-named_in times texts (time_variable n) h = in_left (map time_variable times) (map data_variable texts) (time_variable n) (in_mapped time_variable times n h)
-named_in times texts (data_variable n) h = in_right (map time_variable times) (map data_variable texts) (data_variable n) (in_mapped data_variable texts n h)
+named_in times texts (time_variable n) h = in_left (map time_variable times) (map data_variable texts) (time_variable n) (in_map time_variable times n h)
+named_in times texts (data_variable n) h = in_right (map time_variable times) (map data_variable texts) (data_variable n) (in_map data_variable texts n h)
 
 pub in_named : (times texts : List Identifier) (v : Variable) → Contains (named_variables times texts) v → IsNamed times texts v
 in_named times texts v i = elim (in_one (map time_variable times) (map data_variable texts) v i) [
-  | inl t ↦ (let r = of_mapped time_variable times v t in subst (λ w. IsNamed times texts w) r.2 r.1)
-  | inr d ↦ (let r = of_mapped data_variable texts v d in subst (λ w. IsNamed times texts w) r.2 r.1)
+  | inl t ↦ (let r = from_map time_variable times v t in subst (λ w. IsNamed times texts w) r.2 r.1)
+  | inr d ↦ (let r = from_map data_variable texts v d in subst (λ w. IsNamed times texts w) r.2 r.1)
 ]
 
 -- ---- those of terms
@@ -99,10 +87,6 @@ both_true false b e f = cc
 each_true : (a b : Bool) → (a && b) ≡ true → (a ≡ true) × (b ≡ true)
 each_true true b e = (refl, e)
 each_true false b e = cc
-
-or_cases : (a b : Bool) → (a || b) ≡ true → (a ≡ true) ⊎ (b ≡ true)
-or_cases true b e = inl refl
-or_cases false b e = inr e
 
 or_right : (a b : Bool) → b ≡ true → (a || b) ≡ true
 or_right true b e = refl
@@ -168,7 +152,7 @@ module _ (vs : List Variable) (ts xs : List Identifier) (to : (v : Variable) →
   data_from (data_var v) e = both_true (is_among vs (data_variable v)) true (among_found vs (data_variable v) (from (data_variable v) (found_name xs v (each_true (in_texts v) true e).0))) refl
 
   -- a test of the variables is one of the names
-  pub covered_to : (t : Test) → are_among (variables_of_test t) vs ≡ true → is_covered ts xs t ≡ true
+  pub covered_to : (t : Test) → are_among (variables_of_test t) vs ≡ true → is_test_covered ts xs t ≡ true
   covered_to (Compare left op right) e =
       let r = all_both (is_among vs) (variables_of_time left) (variables_of_time right) e in
       both_true (list_all in_times (names_of_time left ++ names_of_time right)) true (all_joined in_times (names_of_time left) (names_of_time right) (time_to left r.0) (time_to right r.1)) refl
@@ -177,7 +161,7 @@ module _ (vs : List Variable) (ts xs : List Identifier) (to : (v : Variable) →
       let r = all_both (is_among vs) (variables_of_data left) (variables_of_data right) e in
       all_joined in_texts (names_of_data left) (names_of_data right) (data_to left r.0) (data_to right r.1)
 
-  pub covered_from : (t : Test) → is_covered ts xs t ≡ true → are_among (variables_of_test t) vs ≡ true
+  pub covered_from : (t : Test) → is_test_covered ts xs t ≡ true → are_among (variables_of_test t) vs ≡ true
   covered_from (Compare left op right) e =
       let r = all_both in_times (names_of_time left) (names_of_time right) (each_true (list_all in_times (names_of_time left ++ names_of_time right)) true e).0 in
       all_joined (is_among vs) (variables_of_time left) (variables_of_time right) (time_from left r.0) (time_from right r.1)

@@ -6,9 +6,7 @@ use Rattle.std.proofs.lemmas.Option.{slice_get-get_or, slice_get_within}
 use Rattle.lrp_kept.specs.Keys.{keys_at, keys_in}
 use Rattle.lrp_kept.specs.Keyed.{AreRelisted, IsUnlisted}
 use Rattle.lrp_kept.specs.declared.rows.HeldRelation.{HeldRelation}
-
-some_same : {X : Type 0} (x y : X) → Some x ≡ Some y → x ≡ y
-some_same x y e = cc
+use Rattle.lrp_kept.proofs.JoinedUp.{same_some}
 
 set_elsewhere : {X : Type 0} (xs : List X) (n i : ℕ) (x : X) → i ≢ n → slice_get (slice_set xs n x) i ≡ slice_get xs i
 set_elsewhere [] n i x d = refl
@@ -38,7 +36,7 @@ pub relisted : (old new : List HeldRelation) (n : ℕ) (r s : HeldRelation) (key
 relisted old new n r s keys there is name columns most keys_are = subst (λ l. AreRelisted n keys old l) (sym is) (record {
   count = length-set old n s;
   rest = λ i d. set_elsewhere old n i s d;
-  at = λ q e. let f : q ≡ r = some_same q r (sym e ∙ there) in (s, set_there old n s (slice_get_within old n r there), record { name = name ∙ ap (λ (x : HeldRelation). x.name) (sym f); columns = columns ∙ ap (λ (x : HeldRelation). x.columns) (sym f); most = most ∙ ap (λ (x : HeldRelation). x.most) (sym f); keys_are = keys_are });
+  at = λ q e. let f : q ≡ r = same_some q r (sym e ∙ there) in (s, set_there old n s (slice_get_within old n r there), record { name = name ∙ ap (λ (x : HeldRelation). x.name) (sym f); columns = columns ∙ ap (λ (x : HeldRelation). x.columns) (sym f); most = most ∙ ap (λ (x : HeldRelation). x.most) (sym f); keys_are = keys_are });
 })
 
 -- nothing is changed

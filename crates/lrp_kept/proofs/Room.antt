@@ -28,52 +28,60 @@ room t T x R l m = let a : 2 ^ t * x ≤ 2 ^ T * R = mul-le (2 ^ t) x (2 ^ T) R 
 at_least : (n x : ℕ) → x ≤ 2 ^ n * x
 at_least n x = let p : 0 < 2 ^ n = pow_pos n in let a : 1 * x ≤ 2 ^ n * x = mul-le 1 x (2 ^ n) x (omega (arith, p)) (omega arith) in omega (arith, a)
 
-module _ (bounds : List ℕ) (P : ℕ) (head : List Column) (ds : List Disjunct) (high : scaled_over bounds P head ds ≤ 2 ^ 62) (d : Disjunct) (listed : Contains ds d) (some : 0 < length d.atoms.items) where
-  abbrev most_of : (Disjunct → ℕ) → ℕ
-  most_of f = greatest (map f ds)
+-- the greatest reach of the disjuncts, with all their steps
+abbrev pub stepped_reach : List ℕ → ℕ → List Disjunct → ℕ
+stepped_reach bounds P ds = greatest (map (reach_in bounds P) ds) + (greatest (map (λ (e : Disjunct). length e.atoms.items) ds) + greatest (map (λ (e : Disjunct). length e.tests) ds)) * P
 
-  abbrev R : ℕ
-  R = most_of (reach_in bounds P)
+-- the most time variables that one of them binds
+abbrev pub most_bound : List Disjunct → ℕ
+most_bound ds = greatest (map (λ (e : Disjunct). time_count e.bound) ds)
 
-  abbrev steps : ℕ
-  steps = most_of (λ e. length e.atoms.items) + most_of (λ e. length e.tests)
+-- what of one disjunct is no higher
+module _ (bounds : List ℕ) (P : ℕ) (ds : List Disjunct) (d : Disjunct) (listed : Contains ds d) (some : 0 < length d.atoms.items) where
+  pub low_times : time_count d.bound ≤ most_bound ds
+  low_times = below_greatest (λ (e : Disjunct). time_count e.bound) ds d listed
 
-  abbrev T : ℕ
-  T = most_of (λ e. time_count e.bound)
-
-  low_reach : (R + steps * P) * 2 ^ T ≤ 2 ^ 62
-  low_reach =
-      let h : 2 ^ (time_count head + 1) * ((R + steps * P) * 2 ^ T) ≤ 2 ^ 62 = high in
-      let a : (R + steps * P) * 2 ^ T ≤ 2 ^ (time_count head + 1) * ((R + steps * P) * 2 ^ T) = at_least (time_count head + 1) ((R + steps * P) * 2 ^ T) in
-      omega (arith, h, a)
-
-  times_low : time_count d.bound ≤ T
-  times_low = below_greatest (λ (e : Disjunct). time_count e.bound) ds d listed
-
-  -- what is no higher than the greatest reach with all steps
-  within : (x : ℕ) → x ≤ R + steps * P → 2 ^ time_count d.bound * x ≤ 2 ^ 62
-  within x l = let a : 2 ^ time_count d.bound * x ≤ (R + steps * P) * 2 ^ T = room (time_count d.bound) T x (R + steps * P) times_low l in let b : (R + steps * P) * 2 ^ T ≤ 2 ^ 62 = low_reach in omega (arith, a, b)
-
-  own_reach : reach_in bounds P d ≤ R
+  own_reach : reach_in bounds P d ≤ greatest (map (reach_in bounds P) ds)
   own_reach = below_greatest (reach_in bounds P) ds d listed
 
   parts : reach_in bounds P d ≡ max (greatest (map (joined_reach bounds P) d.atoms.items)) (tests_reach d.tests)
   parts = greatest-append (map (joined_reach bounds P) d.atoms.items) (map test_reach d.tests)
 
-  pub atom_room : (a : JoinedAtom) → Contains d.atoms.items a → 2 ^ time_count d.bound * joined_reach bounds P a ≤ 2 ^ 62
-  atom_room a i =
+  pub low_atom : (a : JoinedAtom) → Contains d.atoms.items a → joined_reach bounds P a ≤ stepped_reach bounds P ds
+  low_atom a i =
       let l : joined_reach bounds P a ≤ greatest (map (joined_reach bounds P) d.atoms.items) = below_greatest (joined_reach bounds P) d.atoms.items a i in
       let e = parts in
-      let o : reach_in bounds P d ≤ R = own_reach in
-      within (joined_reach bounds P a) (omega (arith, l, e, o))
+      let o : reach_in bounds P d ≤ greatest (map (reach_in bounds P) ds) = own_reach in
+      omega (arith, l, e, o)
+
+  pub low_tests : tests_reach d.tests + P ≤ stepped_reach bounds P ds
+  low_tests =
+      let steps : ℕ = greatest (map (λ (e : Disjunct). length e.atoms.items) ds) + greatest (map (λ (e : Disjunct). length e.tests) ds) in
+      let e = parts in
+      let o : reach_in bounds P d ≤ greatest (map (reach_in bounds P) ds) = own_reach in
+      let n : length d.atoms.items ≤ greatest (map (λ (e : Disjunct). length e.atoms.items) ds) = below_greatest (λ (e : Disjunct). length e.atoms.items) ds d listed in
+      let p : 1 * P ≤ steps * P = mul-le 1 P steps P (omega (arith, n, some)) (omega arith) in
+      omega (arith, e, o, p)
+
+module _ (bounds : List ℕ) (P : ℕ) (head : List Column) (ds : List Disjunct) (high : scaled_over bounds P head ds ≤ 2 ^ 62) (d : Disjunct) (listed : Contains ds d) (some : 0 < length d.atoms.items) where
+  low_reach : stepped_reach bounds P ds * 2 ^ most_bound ds ≤ 2 ^ 62
+  low_reach =
+      let h : 2 ^ (time_count head + 1) * (stepped_reach bounds P ds * 2 ^ most_bound ds) ≤ 2 ^ 62 = high in
+      let a : stepped_reach bounds P ds * 2 ^ most_bound ds ≤ 2 ^ (time_count head + 1) * (stepped_reach bounds P ds * 2 ^ most_bound ds) = at_least (time_count head + 1) (stepped_reach bounds P ds * 2 ^ most_bound ds) in
+      omega (arith, h, a)
+
+  -- what is no higher than the greatest reach with all steps
+  within : (x : ℕ) → x ≤ stepped_reach bounds P ds → 2 ^ time_count d.bound * x ≤ 2 ^ 62
+  within x l =
+      let a : 2 ^ time_count d.bound * x ≤ stepped_reach bounds P ds * 2 ^ most_bound ds = room (time_count d.bound) (most_bound ds) x (stepped_reach bounds P ds) (low_times bounds P ds d listed some) l in
+      let b : stepped_reach bounds P ds * 2 ^ most_bound ds ≤ 2 ^ 62 = low_reach in
+      omega (arith, a, b)
+
+  pub atom_room : (a : JoinedAtom) → Contains d.atoms.items a → 2 ^ time_count d.bound * joined_reach bounds P a ≤ 2 ^ 62
+  atom_room a i = within (joined_reach bounds P a) (low_atom bounds P ds d listed some a i)
 
   pub tests_room : 2 ^ time_count d.bound * (tests_reach d.tests + P) ≤ 2 ^ 62
-  tests_room =
-      let e = parts in
-      let o : reach_in bounds P d ≤ R = own_reach in
-      let n : length d.atoms.items ≤ most_of (λ e. length e.atoms.items) = below_greatest (λ (e : Disjunct). length e.atoms.items) ds d listed in
-      let p : 1 * P ≤ steps * P = mul-le 1 P steps P (omega (arith, n, some)) (omega arith) in
-      within (tests_reach d.tests + P) (omega (arith, e, o, p))
+  tests_room = within (tests_reach d.tests + P) (low_tests bounds P ds d listed some)
 
   pub at_most : (x : ℕ) → 2 ^ time_count d.bound * x ≤ 2 ^ 62 → x ≤ 2 ^ 62
   at_most x h = let a : x ≤ 2 ^ time_count d.bound * x = at_least (time_count d.bound) x in omega (arith, h, a)

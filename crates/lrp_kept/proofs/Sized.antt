@@ -7,7 +7,7 @@ use Rattle.lrp_model.specs.Reach.{greatest}
 use Rattle.lrp_model.specs.declared.relations.Column.{Column}
 use Rattle.lrp_limits.specs.Capped.{capped}
 use Rattle.lrp_limits.proofs.Greatest.{greatest_map_step}
-use Rattle.lrp_kept.specs.Held.{bounds_of}
+use Rattle.lrp_kept.specs.Held.{greatest_bounds}
 use Rattle.lrp_kept.specs.Sizes.{AreSizes, atom_count, reach_in, scaled_over, test_count, bound_times}
 use Rattle.lrp_kept.specs.declared.disjuncts.Disjunct.{Disjunct}
 use Rattle.lrp_kept.specs.declared.limits.Sizes.{Sizes}
@@ -15,13 +15,13 @@ use Rattle.lrp_kept.specs.declared.rows.HeldRelation.{HeldRelation}
 
 -- ---- the greatest bound of a relation
 
-pub most_at : (rs : List HeldRelation) (n : ℕ) (r : HeldRelation) → n < length rs → (get_or rs n r).most ≡ slice_index_or (bounds_of rs) n 0
+pub most_at : (rs : List HeldRelation) (n : ℕ) (r : HeldRelation) → n < length rs → (get_or rs n r).most ≡ slice_index_or (greatest_bounds rs) n 0
 most_at [] n r low = absurd (omega (arith, low))
 most_at (s ∷ rs) zero r low = refl
 most_at (s ∷ rs) (suc n) r low = most_at rs n r (omega (arith, low))
 
-pub most_past : (rs : List HeldRelation) (n : ℕ) → length rs ≤ n → 0 ≡ slice_index_or (bounds_of rs) n 0
-most_past rs n past = sym (get_or_past (bounds_of rs) n 0 (omega (arith, past, length-map rs (λ (r : HeldRelation). r.most))))
+pub most_past : (rs : List HeldRelation) (n : ℕ) → length rs ≤ n → 0 ≡ slice_index_or (greatest_bounds rs) n 0
+most_past rs n past = sym (get_or_past (greatest_bounds rs) n 0 (omega (arith, past, length-map rs (λ (r : HeldRelation). r.most))))
 
 -- ---- one disjunct more
 

@@ -1,10 +1,9 @@
 -- A well-sorted query, its core form and its disjuncts: each binder has a name of its own, and each text variable of an atom the sort of its column.
-use Rattle.std.proofs.Common.{◌≡◌, ◌≢◌, ◌<◌, zero, suc, Bool, true, false, not, List, [], ◌∷◌, length, Option, Some, None, map, flat_map, Contains, refl, sym, ap, subst, ◌∙◌, bytes_eq, append-nil, arith}
+use Rattle.std.proofs.Common.{◌≡◌, ◌≢◌, ◌<◌, zero, suc, Bool, true, false, not, List, [], ◌∷◌, length, Option, Some, None, map, flat_map, Contains, refl, sym, subst, ◌∙◌, bytes_eq, append-nil, arith}
 use Rattle.std.specs.Prelude.{◌==◌, if◌then◌else◌, reverse, MatchOption}
 use Rattle.std.proofs.lemmas.Bool.{eqb-true}
 use Rattle.std.proofs.lemmas.List.{length-map}
 use Rattle.std.specs.List.{AllByRecursion}
-use Rattle.std.specs.Cmp.Lexicographic.{bytes_decides}
 use Rattle.lrp_model.specs.Texts.{Identifier}
 use Rattle.lrp_model.specs.Core.{positive, negative, positives, negatives, positive_test, negative_test, conjuncts, disjuncts, all_conjuncts, all_disjuncts, with_sort}
 use Rattle.lrp_model.specs.DatabaseMeaning.{column_of}
@@ -31,23 +30,13 @@ use Rattle.lrp_model.specs.declared.relations.Sort.{Sort}
 use Rattle.lrp_model.specs.declared.relations.Sort.TheVariants.{Time, Data, Named}
 use Rattle.lrp_model.specs.declared.tokens.Place.{Place}
 use Rattle.lrp_model.proofs.Decided.{contains_first, contains_later}
-use Rattle.lrp_plan_laws.proofs.SortedNames.{both_none, bound_here, bound_further, none_if, not_false, not_wide, not_wide_inside, same_name}
+use Rattle.lrp_model.proofs.NoFaults.{same_sorts, both_none, none_if, not_false, not_wide, not_wide_inside}
+use Rattle.lrp_plan_laws.proofs.SortedNames.{bound_here, bound_further, same_name}
 use Rattle.lrp_plan_laws.proofs.SortedScopes.{head_first, names_in, parts_sorted}
 use Rattle.lrp_kept.specs.Choices.{as_list, listed_disjuncts}
 use Rattle.lrp_kept.specs.SortedForms.{AreSortedForms, AreSortedTerms, IsSortedAtom, IsSortedForm, IsSortedTerm}
 
 -- ---- terms
-
-pub same_sorts : (s t : Sort) → same_sort s t ≡ true → s ≡ t
-same_sorts Time Time e = refl
-same_sorts Time Data e = cc
-same_sorts Time (Named n) e = cc
-same_sorts Data Time e = cc
-same_sorts Data Data e = refl
-same_sorts Data (Named n) e = cc
-same_sorts (Named m) Time e = cc
-same_sorts (Named m) Data e = cc
-same_sorts (Named m) (Named n) e = ap Named ((bytes_decides m n).0 e)
 
 -- the binder from which a name has its sort
 found : (bs : Binders) (n : Identifier) (s : Sort) → binder_sort bs n ≡ Some s → (b : Column) × Contains (map column_of bs) b × (b.name ≡ n) × (b.sort ≡ s)

@@ -4,7 +4,7 @@ use Rattle.lrp_model.specs.Formulas.{Form, Forms, form_of}
 use Rattle.lrp_model.specs.Variables.{bound_by}
 use Rattle.lrp_model.specs.Core.{conjuncts}
 use Rattle.lrp_kept.specs.KeptForm.{all_occur, all_pass, tested_variables, is_atom, is_atom_with, is_neither}
-use Rattle.lrp_kept.specs.Signs.{signed}
+use Rattle.lrp_kept.specs.Signs.{kept_signed}
 use Rattle.lrp_kept.specs.declared.signs.Signed.{Signed}
 use Rattle.lrp_kept.specs.declared.looking.Sought.{Sought}
 use Rattle.lrp_kept.specs.declared.looking.Sought.TheVariants.{Neither, Atom, AtomWith}
@@ -17,7 +17,7 @@ is_sought (AtomWith sort name) f = is_atom_with (bound_by sort.now name.now) f
 
 -- the core form of a formula by its sign
 abbrev pub core_of : Signed → Form
-core_of s = signed s.holds (form_of s.formula.now)
+core_of s = kept_signed s.holds (form_of s.formula.now)
 
 -- the elements of the conjunction that it is
 abbrev pub conjuncts_of : Signed → Forms

@@ -13,7 +13,7 @@ use Rattle.lrp_model.specs.declared.relations.Row.{Row}
 use Rattle.lrp_model.specs.declared.relations.Relation.{Relation}
 use Rattle.lrp_plan_laws.specs.Atoms.{Atom, atoms, atoms_each}
 use Rattle.lrp_tables.specs.Caps.{Inhabits}
-use Rattle.lrp_kept.specs.KeptForm.{elements, query_disjuncts}
+use Rattle.lrp_kept.specs.KeptForm.{kept_elements, query_disjuncts}
 
 -- formulas as a list
 abbrev pub as_list : Forms → List Form
@@ -32,7 +32,7 @@ tests_among (form f fs) = tests_among fs
 
 -- the tests of a disjunct
 abbrev pub disjunct_tests : Form → List Test
-disjunct_tests f = tests_among (elements f)
+disjunct_tests f = tests_among (kept_elements f)
 
 -- the variables of atoms
 abbrev pub atom_variables : List Atom → List Variable
@@ -72,7 +72,7 @@ HasManyCells domain period cap f rows count =
     Many (Differ variables) (Inhabits domain period variables (IsInPart f rows count)) cap
 
 -- some part of some choice inhabits more than cap cells
-pub record HasLargePart (db : List Relation) (q : Question) (domain : List Text) (period cap : ℕ) : Type 0 where
+pub record HasLargeChoicePart (db : List Relation) (q : Question) (domain : List Text) (period cap : ℕ) : Type 0 where
   pub disjunct : Form
   pub listed : Contains (listed_disjuncts q) disjunct
   pub rows : List Row

@@ -18,8 +18,8 @@ bound_columns (exists v s f) = bound_columns f ++ record { name = v; sort = s } 
 bound_columns f = []
 
 -- the test has variables of these names alone
-abbrev pub is_covered : List Identifier → List Identifier → Test → Bool
-is_covered times texts t = list_all (λ v. list_any (bytes_eq v) times) (times_of_test t) && list_all (λ v. list_any (bytes_eq v) texts) (texts_of_test t)
+abbrev pub is_test_covered : List Identifier → List Identifier → Test → Bool
+is_test_covered times texts t = list_all (λ v. list_any (bytes_eq v) times) (times_of_test t) && list_all (λ v. list_any (bytes_eq v) texts) (texts_of_test t)
 
 -- the atom has these terms, and its relation the number of the name
 pub record IsAtomOf (names : List Identifier) (a : Atom) (j : JoinedAtom) : Type 0 where
@@ -30,7 +30,7 @@ pub record IsAtomOf (names : List Identifier) (a : Atom) (j : JoinedAtom) : Type
 abbrev pub AreJoined : List Test → List Identifier → List Identifier → List JoinedAtom → Type 0
 AreJoined tests times texts [] = Unit {0}
 AreJoined tests times texts (a ∷ more) =
-    (a.vars.times ≡ joint times (scan_times a.terms)) × (a.vars.texts ≡ joint texts (scan_texts a.terms)) × (a.tests ≡ filter (is_covered a.vars.times a.vars.texts) tests) × AreJoined tests a.vars.times a.vars.texts more
+    (a.vars.times ≡ joint times (scan_times a.terms)) × (a.vars.texts ≡ joint texts (scan_texts a.terms)) × (a.tests ≡ filter (is_test_covered a.vars.times a.vars.texts) tests) × AreJoined tests a.vars.times a.vars.texts more
 
 -- the disjunct is that of the formula, over relations of these names
 pub record IsDisjunctOf (names : List Identifier) (f : Form) (d : Disjunct) : Type 0 where

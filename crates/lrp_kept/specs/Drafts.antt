@@ -7,10 +7,10 @@ use Rattle.lrp_model.specs.declared.formulas.Test.{Test}
 use Rattle.lrp_plan_laws.specs.Atoms.{Atom, atoms}
 use Rattle.lrp_tables.specs.declared.table.Vars.{Vars}
 use Rattle.lrp_kept.specs.Choices.{disjunct_tests, tests_among}
-use Rattle.lrp_kept.specs.Disjuncts.{AreJoined, IsAtomOf, IsDisjunctOf, bound_columns, is_covered}
-use Rattle.lrp_kept.specs.KeptForm.{elements, is_conjunctive}
+use Rattle.lrp_kept.specs.Disjuncts.{AreJoined, IsAtomOf, IsDisjunctOf, bound_columns, is_test_covered}
+use Rattle.lrp_kept.specs.KeptForm.{kept_elements, is_conjunctive}
 use Rattle.lrp_kept.specs.declared.disjuncts.Disjunct.{Disjunct}
-use Rattle.lrp_kept.specs.declared.disjuncts.Draft.{Draft}
+use Rattle.lrp_kept.specs.declared.disjuncts.DisjunctDraft.{DisjunctDraft}
 use Rattle.lrp_kept.specs.declared.disjuncts.JoinedAtom.{JoinedAtom}
 use Rattle.lrp_kept.specs.declared.disjuncts.NamedTerms.{NamedTerms}
 
@@ -26,34 +26,34 @@ atoms_among (form (atom name terms) fs) = record { name = name; terms = terms } 
 atoms_among (form f fs) = atoms_among fs
 
 -- the atoms and the tests among the formulas are added
-pub record AreAdded (fs : Forms) (old new : Draft) : Type 0 where
+pub record AreAdded (fs : Forms) (old new : DisjunctDraft) : Type 0 where
   pub atoms : map atom_in new.atoms.items ≡ map atom_in old.atoms.items ++ atoms_among fs
   pub tests : new.tests ≡ old.tests ++ tests_among fs
   pub bound : new.bound ≡ old.bound
 
 -- those of a disjunct are added, and the variables that it binds
-pub record IsAdded (f : Form) (old new : Draft) : Type 0 where
-  pub atoms : map atom_in new.atoms.items ≡ map atom_in old.atoms.items ++ atoms_among (elements f)
+pub record IsDisjunctAdded (f : Form) (old new : DisjunctDraft) : Type 0 where
+  pub atoms : map atom_in new.atoms.items ≡ map atom_in old.atoms.items ++ atoms_among (kept_elements f)
   pub tests : new.tests ≡ old.tests ++ disjunct_tests f
   pub bound : new.bound ≡ old.bound ++ bound_columns f
 
-pub record IsDraftOf (f : Form) (draft : Draft) : Type 0 where
-  pub atoms : map atom_in draft.atoms.items ≡ atoms_among (elements f)
+pub record DraftsDisjunct (f : Form) (draft : DisjunctDraft) : Type 0 where
+  pub atoms : map atom_in draft.atoms.items ≡ atoms_among (kept_elements f)
   pub tests : draft.tests ≡ disjunct_tests f
   pub bound : draft.bound ≡ bound_columns f
 
 -- ---- atoms as they are joined
 
 -- the relation of each atom has one of the names
-abbrev pub AreNamed : List Identifier → List Atom → Type 0
-AreNamed names all = AllByRecursion (λ a. Contains names a.name) all
+abbrev pub AreOfRelations : List Identifier → List Atom → Type 0
+AreOfRelations names all = AllByRecursion (λ a. Contains names a.name) all
 
 -- the atom as it is joined over these variables, with the tests that have no others
-pub record IsJoined (names : List Identifier) (a : Atom) (tests : List Test) (vars : Vars) (j : JoinedAtom) : Type 0 where
+pub record IsJoinedAtom (names : List Identifier) (a : Atom) (tests : List Test) (vars : Vars) (j : JoinedAtom) : Type 0 where
   pub is : IsAtomOf names a j
   pub times : j.vars.times ≡ vars.times
   pub texts : j.vars.texts ≡ vars.texts
-  pub covered : j.tests ≡ filter (is_covered vars.times vars.texts) tests
+  pub covered : j.tests ≡ filter (is_test_covered vars.times vars.texts) tests
 
 -- the variables behind atoms
 abbrev pub times_behind : List Identifier → List JoinedAtom → List Identifier
@@ -70,7 +70,7 @@ pub record AreAllJoined (names : List Identifier) (all : List Atom) (tests : Lis
   pub joined : AreJoined tests [] [] js
 
 -- the disjunct that a draft makes
-pub record IsMadeOf (names : List Identifier) (draft : Draft) (d : Disjunct) : Type 0 where
+pub record MakesDisjunct (names : List Identifier) (draft : DisjunctDraft) (d : Disjunct) : Type 0 where
   pub atoms : AllZip (IsAtomOf names) (map atom_in draft.atoms.items) d.atoms.items
   pub tests : d.tests ≡ draft.tests
   pub bound : d.bound ≡ draft.bound
@@ -80,17 +80,17 @@ pub record IsMadeOf (names : List Identifier) (draft : Draft) (d : Disjunct) : T
 
 -- only atoms and tests stand behind the quantifiers, and the relation of each atom has one of the names
 pub record CanBeJoinedUp (names : List Identifier) (f : Form) : Type 0 where
-  pub conjunctive : is_conjunctive (elements f) ≡ true
-  pub named : AreNamed names (atoms f)
+  pub conjunctive : is_conjunctive (kept_elements f) ≡ true
+  pub named : AreOfRelations names (atoms f)
 
 -- each disjunct has its number
-abbrev pub AreNumbered : List Disjunct → Type 0
-AreNumbered ds = (i : ℕ) (d : Disjunct) → slice_get ds i ≡ Some d → d.number ≡ i
+abbrev pub HaveTheirNumbers : List Disjunct → Type 0
+HaveTheirNumbers ds = (i : ℕ) (d : Disjunct) → slice_get ds i ≡ Some d → d.number ≡ i
 
 -- the disjuncts are those of the formulas, numbered
 pub record AreDisjuncts (names : List Identifier) (fs : List Form) (ds : List Disjunct) : Type 0 where
   pub each : AllZip (IsDisjunctOf names) fs ds
-  pub numbered : AreNumbered ds
+  pub numbered : HaveTheirNumbers ds
 
 -- the disjunct of one formula more
 pub record IsOneMore (names : List Identifier) (f : Form) (old new : List Disjunct) : Type 0 where

@@ -48,8 +48,8 @@ bound_variables (exists v s f) = bound_by s v ∷ bound_variables f
 bound_variables f = []
 
 -- the elements of the `and` behind the `exists`, or what stands there in place of an `and`
-abbrev pub elements : Form → Forms
-elements f = conjuncts (matrix f)
+abbrev pub kept_elements : Form → Forms
+kept_elements f = conjuncts (matrix f)
 
 -- each of the variables occurs in an atom among these
 abbrev pub all_occur : Forms → List Variable → Bool
@@ -61,7 +61,7 @@ is_conjunctive fs = not (some_passes is_neither fs) && some_passes is_atom fs &&
 
 -- `exists` before atoms and tests, in whose atoms the variables of the head and all of its own occur
 abbrev pub is_disjunct : List Column → Form → Bool
-is_disjunct columns f = is_conjunctive (elements f) && all_occur (elements f) (head_variables columns) && all_occur (elements f) (bound_variables f)
+is_disjunct columns f = is_conjunctive (kept_elements f) && all_occur (kept_elements f) (head_variables columns) && all_occur (kept_elements f) (bound_variables f)
 
 -- the disjuncts of a query: its core form, without sort elements, or the elements of the `or` that it is
 abbrev pub query_disjuncts : Question → Forms

@@ -7,23 +7,23 @@ use Rattle.lrp_kept.specs.Keys.{keys_at, keys_of}
 use Rattle.lrp_kept.specs.EqualRows.{AreEqualRows}
 use Rattle.lrp_kept.specs.declared.rows.HeldRelation.{HeldRelation}
 use Rattle.lrp_kept.specs.declared.rows.HeldRows.{HeldRows}
-use Rattle.lrp_kept.specs.declared.rows.Source.{Source}
+use Rattle.lrp_kept.specs.declared.rows.HeldRow.{HeldRow}
 
 -- the key has a row of the relation
 pub record HasSource (rows : HeldRows) (relation key : ℕ) : Type 0 where
-  pub source : Source
+  pub source : HeldRow
   pub held : get rows.sources key ≡ Some source
   pub relation_is : source.relation ≡ relation
 
 -- no key stands twice in the list
-abbrev pub StandOnce : List ℕ → Type 0
-StandOnce [] = Unit {0}
-StandOnce (key ∷ keys) = (Contains keys key → ⊥) × StandOnce keys
+abbrev pub HaveOwnKeys : List ℕ → Type 0
+HaveOwnKeys [] = Unit {0}
+HaveOwnKeys (key ∷ keys) = (Contains keys key → ⊥) × HaveOwnKeys keys
 
 -- each key that is listed has a row of its relation, and no key is listed twice
 pub record AreHeldRows (rows : HeldRows) : Type 0 where
   pub there : (relation key : ℕ) → Contains (keys_of rows relation) key → HasSource rows relation key
-  pub once : (relation : ℕ) → StandOnce (keys_of rows relation)
+  pub once : (relation : ℕ) → HaveOwnKeys (keys_of rows relation)
 
 -- the same relation with these keys
 pub record IsWithKeys (keys : List ℕ) (old new : HeldRelation) : Type 0 where
@@ -47,7 +47,7 @@ pub record IsUnlisted (relation place key : ℕ) (old new : List HeldRelation) :
   pub listed : AreRelisted relation (front ++ back) old new
 
 -- a row stands under a new key behind the others of its relation
-pub record IsHeldBehind (source : Source) (key : ℕ) (old new : HeldRows) : Type 0 where
+pub record IsHeldBehind (source : HeldRow) (key : ℕ) (old new : HeldRows) : Type 0 where
   pub free : get old.sources key ≡ None
   pub there : get new.sources key ≡ Some source
   pub others : (k : ℕ) → k ≢ key → get new.sources k ≡ get old.sources k
@@ -73,14 +73,14 @@ pub record AreSameRows (old new : HeldRows) : Type 0 where
 pub record IsFirstEqual (rows : HeldRows) (relation : ℕ) (row : Row) (place : ℕ) : Type 0 where
   pub key : ℕ
   pub at : slice_get (keys_of rows relation) place ≡ Some key
-  pub source : Source
+  pub source : HeldRow
   pub held : get rows.sources key ≡ Some source
   pub equal : AreEqualRows source.row row
-  pub before : (i k : ℕ) (other : Source) → i < place → slice_get (keys_of rows relation) i ≡ Some k → get rows.sources k ≡ Some other → AreEqualRows other.row row → ⊥
+  pub before : (i k : ℕ) (other : HeldRow) → i < place → slice_get (keys_of rows relation) i ≡ Some k → get rows.sources k ≡ Some other → AreEqualRows other.row row → ⊥
 
 -- no row of the relation is equal to it
 pub record HasNoEqualRow (rows : HeldRows) (relation : ℕ) (row : Row) : Type 0 where
-  pub none : (key : ℕ) (source : Source) → Contains (keys_of rows relation) key → get rows.sources key ≡ Some source → AreEqualRows source.row row → ⊥
+  pub none : (key : ℕ) (source : HeldRow) → Contains (keys_of rows relation) key → get rows.sources key ≡ Some source → AreEqualRows source.row row → ⊥
 
 -- the relation, of which no row is held
 pub record IsEmptyRelation (relation : Relation) (r : HeldRelation) : Type 0 where

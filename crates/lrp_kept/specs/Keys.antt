@@ -4,7 +4,7 @@ use Rattle.lrp_kept.specs.declared.outlines.Outline.{Outline}
 use Rattle.lrp_kept.specs.declared.rows.HeldRelation.{HeldRelation}
 use Rattle.lrp_kept.specs.declared.rows.HeldRows.{HeldRows}
 use Rattle.lrp_kept.specs.declared.rows.Sketch.{Sketch}
-use Rattle.lrp_kept.specs.declared.rows.Source.{Source}
+use Rattle.lrp_kept.specs.declared.rows.HeldRow.{HeldRow}
 
 abbrev pub keys_in : Option HeldRelation → List ℕ
 keys_in None = []
@@ -18,7 +18,7 @@ abbrev pub keys_of : HeldRows → ℕ → List ℕ
 keys_of rows number = keys_at rows.relations.items number
 
 -- the outline is that of a sketch for the atom
-pub record IsSketchOf (source : Source) (disjunct atom : ℕ) (o : Outline) : Type 0 where
+pub record IsSketchOf (source : HeldRow) (disjunct atom : ℕ) (o : Outline) : Type 0 where
   pub sketch : Sketch
   pub listed : Contains source.sketches.items sketch
   pub disjunct_is : sketch.disjunct ≡ disjunct

@@ -13,7 +13,7 @@ use Rattle.lrp_algebra.specs.Patterns.{part_of, AreKnown, Suits}
 use Rattle.lrp_algebra.specs.declared.pattern.Placed.{Placed}
 use Rattle.lrp_algebra.specs.declared.pattern.Pattern.{Pattern}
 use Rattle.lrp_kept.specs.Spans.{AreInSpans}
-use Rattle.lrp_kept.specs.declared.spans.Span.{Span}
+use Rattle.lrp_kept.specs.declared.spans.ColumnSpan.{ColumnSpan}
 use Rattle.lrp_kept.specs.declared.outlines.Outline.{Outline}
 
 -- the integers are in the spans, and the texts are as known, each by its place
@@ -42,7 +42,7 @@ pub record IsOutlineFor (domain : List Text) (vars : Vars) (terms : List Term) (
   pub is : (env : Assignment) (ns : List ℕ) (more : ℕ → ℤ) (further : List ℕ) → AreTexts domain ns (map env.texts vars.texts) → IsInRow row (map (term_value env) terms) → Continues (map env.times vars.times) ns (length vars.times) (length vars.texts) more further → IsInOutline o more further
 
 -- what is in the spans, and in the zone at its places among the first ones, is in the new spans
-pub record AreNarrowed (old : List Span) (placed : Placed) (count : ℕ) (new : List Span) : Type 0 where
+pub record AreNarrowed (old : List ColumnSpan) (placed : Placed) (count : ℕ) (new : List ColumnSpan) : Type 0 where
   pub size : length new ≡ 8
   pub is : (xs : List ℤ) (more : ℕ → ℤ) → ((i : ℕ) → i < count → more i ≡ node xs (i + 1)) → InPart (part_of placed) xs → AreInSpans old more → AreInSpans new more
 

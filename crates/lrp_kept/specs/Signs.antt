@@ -4,6 +4,6 @@ use Rattle.lrp_model.specs.Formulas.{Form}
 use Rattle.lrp_model.specs.Core.{positive, negative}
 
 -- the core form of the formula where it is to hold, else that of its negation
-abbrev pub signed : Bool → Form → Form
-signed true f = positive f false
-signed false f = negative f false
+abbrev pub kept_signed : Bool → Form → Form
+kept_signed true f = positive f false
+kept_signed false f = negative f false

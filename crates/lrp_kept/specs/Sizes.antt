@@ -13,8 +13,8 @@ use Rattle.lrp_kept.specs.declared.disjuncts.Disjunct.{Disjunct}
 use Rattle.lrp_kept.specs.declared.limits.Sizes.{Sizes}
 
 -- the number of a period, if there is one
-abbrev pub number_in : Option Period → Option ℕ
-number_in o = option_map (λ p. p.number) o
+abbrev pub period_number : Option Period → Option ℕ
+period_number o = option_map (λ p. p.number) o
 
 -- some atom of the disjunct reads the relation of this number
 abbrev pub is_reader : ℕ → Disjunct → Bool

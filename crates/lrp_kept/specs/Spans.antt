@@ -1,7 +1,7 @@
 -- What is known of the integers of one variable.
 use Rattle.std.specs.Prelude.{◌≡◌, ◌≤ℤ◌, ℕ, ℤ, List, Option, Some, None, slice_get}
 use Rattle.lrp_point.specs.Points.{PointView, IsIn}
-use Rattle.lrp_kept.specs.declared.spans.Span.{Span}
+use Rattle.lrp_kept.specs.declared.spans.ColumnSpan.{ColumnSpan}
 
 -- the integer is at least the known least one
 abbrev pub IsAtLeast : Option ℤ → ℤ → Type 0
@@ -19,11 +19,11 @@ IsOfPoint None x = Unit {0}
 IsOfPoint (Some point) x = IsIn point x
 
 -- the integer is as is known
-pub record IsInSpan (s : Span) (x : ℤ) : Type 0 where
+pub record IsInSpan (s : ColumnSpan) (x : ℤ) : Type 0 where
   pub least : IsAtLeast s.least x
   pub most : IsAtMost s.most x
   pub point : IsOfPoint s.point x
 
 -- each integer is in the span at its place
-pub record AreInSpans (spans : List Span) (xs : ℕ → ℤ) : Type 0 where
-  pub each : (i : ℕ) (s : Span) → slice_get spans i ≡ Some s → IsInSpan s (xs i)
+pub record AreInSpans (spans : List ColumnSpan) (xs : ℕ → ℤ) : Type 0 where
+  pub each : (i : ℕ) (s : ColumnSpan) → slice_get spans i ≡ Some s → IsInSpan s (xs i)

@@ -6,8 +6,8 @@ ghost use Rattle.lrp_core.specs.Cores.{core_of, cores_of};
 ghost use Rattle.lrp_model.specs.Formulas.{form, no_forms, question_of};
 ghost use Rattle.lrp_tables.specs.Columns.{joint, names_of_data, names_of_time, scan_texts, scan_times};
 ghost use Rattle.lrp_kept.specs.Choices.{as_list, listed_disjuncts};
-ghost use Rattle.lrp_kept.specs.Disjuncts.{AreDisjunctsOf, is_covered as is_covered_by};
-ghost use Rattle.lrp_kept.specs.Drafts.{AreAdded, AreAllJoined, AreDisjuncts, AreNamed, CanBeJoinedUp, IsAdded, IsDraftOf, IsJoined, IsMadeOf, IsOneMore, atom_in};
+ghost use Rattle.lrp_kept.specs.Disjuncts.{AreDisjunctsOf, is_test_covered as is_covered_by};
+ghost use Rattle.lrp_kept.specs.Drafts.{AreAdded, AreAllJoined, AreDisjuncts, AreOfRelations, CanBeJoinedUp, IsDisjunctAdded, DraftsDisjunct, IsJoinedAtom, MakesDisjunct, IsOneMore, atom_in};
 ghost use Rattle.lrp_kept.specs.Held.{names_of};
 ghost use Rattle.lrp_kept.specs.Sizes.{is_reader};
 
@@ -60,7 +60,7 @@ struct NamedTerms {
 
 // What a disjunct is made of.
 #[derive(Drop)]
-struct Draft {
+struct DisjunctDraft {
     atoms: Vec<NamedTerms>,
     tests: List<Test>,
     bound: List<Column>,
@@ -128,15 +128,15 @@ fn push_one(
 // The disjunct of this number.
 fn disjunct_of(
     alloc: Global,
-    draft: Draft,
+    draft: DisjunctDraft,
     number: usize,
     rows: &HeldRows,
 ) -> Result<Disjunct, Memory>
-    requires { AreNamed (names_of rows.now) (map atom_in draft.atoms.items) }
+    requires { AreOfRelations (names_of rows.now) (map atom_in draft.atoms.items) }
     ensures number { IfOk result (λ made. made.number ≡ number) }
-    ensures made { IfOk result (IsMadeOf (names_of rows.now) draft) }
+    ensures made { IfOk result (MakesDisjunct (names_of rows.now) draft) }
 {
-    let Draft {
+    let DisjunctDraft {
         atoms,
         tests,
         bound,
@@ -156,7 +156,7 @@ fn joined_atoms(
     tests: &List<Test>,
     rows: &HeldRows,
 ) -> Result<Vec<JoinedAtom>, Memory>
-    requires { AreNamed (names_of rows.now) (map atom_in named.now.items) }
+    requires { AreOfRelations (names_of rows.now) (map atom_in named.now.items) }
     ensures { IfOk result (λ made. AreAllJoined (names_of rows.now)
         (map atom_in named.now.items) tests.now made.items) }
 {
@@ -182,7 +182,7 @@ fn joined_atom(
     rows: &HeldRows,
 ) -> Result<JoinedAtom, Memory>
     requires { Contains (names_of rows.now) atom.now.name }
-    ensures { IfOk result (IsJoined (names_of rows.now) (atom_in atom.now) tests.now vars.now) }
+    ensures { IfOk result (IsJoinedAtom (names_of rows.now) (atom_in atom.now) tests.now vars.now) }
 {
     let relation = number_of(&atom.name, rows);
     let terms = copy_terms(alloc, atom.terms.as_slice())?;
@@ -220,10 +220,10 @@ fn number_of(name: &Name, rows: &HeldRows) -> usize
 }
 
 // The atoms, the tests and the bound variables of a disjunct.
-fn draft_of(alloc: Global, core: &Core<'_>) -> Result<Draft, Memory>
-    ensures { IfOk result (IsDraftOf (core_of core.now)) }
+fn draft_of(alloc: Global, core: &Core<'_>) -> Result<DisjunctDraft, Memory>
+    ensures { IfOk result (DraftsDisjunct (core_of core.now)) }
 {
-    let mut draft = Draft {
+    let mut draft = DisjunctDraft {
         atoms: Vec::new(alloc),
         tests: List::new(alloc),
         bound: List::new(alloc),
@@ -232,8 +232,8 @@ fn draft_of(alloc: Global, core: &Core<'_>) -> Result<Draft, Memory>
     Ok(draft)
 }
 
-fn add_core(alloc: Global, core: &Core<'_>, draft: &mut Draft) -> Result<(), Memory>
-    ensures { OnOk result (IsAdded (core_of core.now) draft.old draft.new) }
+fn add_core(alloc: Global, core: &Core<'_>, draft: &mut DisjunctDraft) -> Result<(), Memory>
+    ensures { OnOk result (IsDisjunctAdded (core_of core.now) draft.old draft.new) }
 {
     match core {
         Core::Exists { name, sort, of } => {
@@ -252,7 +252,7 @@ fn add_core(alloc: Global, core: &Core<'_>, draft: &mut Draft) -> Result<(), Mem
     }
 }
 
-fn add_each(alloc: Global, cores: &[Core<'_>], draft: &mut Draft) -> Result<(), Memory>
+fn add_each(alloc: Global, cores: &[Core<'_>], draft: &mut DisjunctDraft) -> Result<(), Memory>
     ensures { OnOk result (AreAdded (cores_of cores.now) draft.old draft.new) }
 {
     for core in cores {
@@ -262,7 +262,7 @@ fn add_each(alloc: Global, cores: &[Core<'_>], draft: &mut Draft) -> Result<(), 
 }
 
 // Adds an atom or a test; nothing else is kept.
-fn add_element(alloc: Global, element: &Core<'_>, draft: &mut Draft) -> Result<(), Memory>
+fn add_element(alloc: Global, element: &Core<'_>, draft: &mut DisjunctDraft) -> Result<(), Memory>
     ensures { OnOk result (AreAdded (form (core_of element.now) no_forms) draft.old draft.new) }
 {
     match element {

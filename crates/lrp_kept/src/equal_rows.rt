@@ -1,7 +1,7 @@
 // Rows that are equal.
 ghost use Rattle.std.specs.Prelude.{◌≡◌, ◌↔◌, IsTrue};
 ghost use Rattle.std.specs.List.{AllZip};
-ghost use Rattle.lrp_theory.specs.Divides.{IsMember};
+ghost use Rattle.lrp_theory.specs.Divides.{IsPointMember};
 ghost use Rattle.lrp_kept.specs.EqualRows.{AreEqualPoints, AreEqualRows, AreEqualValues};
 
 use lrp_model::{Bound, Row, RowPoint, Value};
@@ -53,7 +53,7 @@ fn are_equal_points(left: RowPoint, right: RowPoint) -> bool
 
 // Whether the period divides the difference; a period of 0 divides 0 alone.
 fn is_in_step(left: i64, right: i64, period: i64) -> bool
-    ensures { IsTrue result ↔ IsMember left period right }
+    ensures { IsTrue result ↔ IsPointMember left period right }
 {
     let step = period.unsigned_abs();
     if step == 0 {

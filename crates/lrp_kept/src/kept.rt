@@ -6,7 +6,7 @@ ghost use Rattle.lrp_model.specs.Formulas.{question_of, form_of};
 ghost use Rattle.lrp_model.specs.Variables.{head_variables, variables_of_data, variables_of_test, variables_of_time};
 ghost use Rattle.lrp_kept.specs.Asked.{conjuncts_of, tests_in_atoms};
 ghost use Rattle.lrp_kept.specs.KeptForm.{all_occur, all_pass, bound_variables, is_conjunctive as is_conjunctive_form, is_disjunct as is_disjunct_form, is_kept as is_kept_query};
-ghost use Rattle.lrp_kept.specs.Signs.{signed};
+ghost use Rattle.lrp_kept.specs.Signs.{kept_signed};
 
 use crate::looking::{Sought, has_element, is_test, occurs};
 use crate::signs::{Signed, matrix_of};
@@ -25,7 +25,7 @@ pub fn is_kept(query: &Query) -> bool
 #[cycle(disjuncts)]
 fn are_disjuncts(columns: &[Column], f: &Formula, holds: bool) -> bool
     ensures { result ≡ all_pass (is_disjunct_form columns.now)
-        (disjuncts (signed holds (form_of f.now))) }
+        (disjuncts (kept_signed holds (form_of f.now))) }
 {
     match f {
         Formula::Not { of } => are_disjuncts(columns, of, !holds),
@@ -40,7 +40,7 @@ fn are_disjuncts(columns: &[Column], f: &Formula, holds: bool) -> bool
 #[cycle(disjuncts)]
 fn each_are_disjuncts(columns: &[Column], fs: &[Formula]) -> bool
     ensures { result ≡ list_all (λ f. all_pass (is_disjunct_form columns.now)
-        (disjuncts (signed true (form_of f)))) fs.now }
+        (disjuncts (kept_signed true (form_of f)))) fs.now }
 {
     for f in fs {
         if !are_disjuncts(columns, f, true) {
@@ -52,7 +52,7 @@ fn each_are_disjuncts(columns: &[Column], fs: &[Formula]) -> bool
 
 // Whether the core form is a disjunct of a query with this head.
 fn is_disjunct(columns: &[Column], f: &Formula, holds: bool) -> bool
-    ensures { result ≡ is_disjunct_form columns.now (signed holds (form_of f.now)) }
+    ensures { result ≡ is_disjunct_form columns.now (kept_signed holds (form_of f.now)) }
 {
     let whole = matrix_of(f, holds);
     is_conjunctive(whole) && columns_occur(columns, whole) && bound_occur(f, holds, whole)
@@ -82,7 +82,7 @@ fn columns_occur(columns: &[Column], whole: Signed) -> bool
 // Whether the variables of the `exists` with which a core form begins occur in atoms.
 fn bound_occur(f: &Formula, holds: bool, whole: Signed) -> bool
     ensures { result ≡ all_occur (conjuncts_of whole.entry)
-        (bound_variables (signed holds (form_of f.now))) }
+        (bound_variables (kept_signed holds (form_of f.now))) }
 {
     match f {
         Formula::Not { of } => bound_occur(of, !holds, whole),
@@ -99,7 +99,7 @@ fn bound_occur(f: &Formula, holds: bool, whole: Signed) -> bool
 // Whether the variables of the tests among the elements of a core form occur in atoms of the whole.
 #[cycle(tests)]
 fn tests_occur(f: &Formula, holds: bool, whole: Signed) -> bool
-    ensures { result ≡ tests_in_atoms whole.entry (conjuncts (signed holds (form_of f.now))) }
+    ensures { result ≡ tests_in_atoms whole.entry (conjuncts (kept_signed holds (form_of f.now))) }
 {
     match f {
         Formula::Not { of } => tests_occur(of, !holds, whole),
@@ -116,7 +116,7 @@ fn tests_occur(f: &Formula, holds: bool, whole: Signed) -> bool
 #[cycle(tests)]
 fn tests_of_each_occur(fs: &[Formula], holds: bool, whole: Signed) -> bool
     ensures { result ≡ list_all (λ f. tests_in_atoms whole.entry
-        (conjuncts (signed holds (form_of f)))) fs.now }
+        (conjuncts (kept_signed holds (form_of f)))) fs.now }
 {
     for f in fs {
         if !tests_occur(f, holds, whole) {

@@ -5,11 +5,11 @@ ghost use Rattle.lrp_model.specs.Periods.{test_periods, row_periods};
 ghost use Rattle.lrp_model.specs.Reach.{greatest};
 ghost use Rattle.lrp_model.specs.Sorts.{time_count};
 ghost use Rattle.lrp_limits.specs.Capped.{capped as capped_at};
-ghost use Rattle.lrp_limits.specs.Facts.{KeepsPeriod};
+ghost use Rattle.lrp_limits.specs.Facts.{KeepsMultiples};
 ghost use Rattle.lrp_limits.specs.Multiples.{IsPeriodOf};
-ghost use Rattle.lrp_kept.specs.Held.{bounds_of};
+ghost use Rattle.lrp_kept.specs.Held.{greatest_bounds};
 ghost use Rattle.lrp_kept.specs.Limits.{row_bound};
-ghost use Rattle.lrp_kept.specs.Sizes.{AreSizes, is_reader, joined_reach, number_in, reach_in, scaled_over, tested_periods};
+ghost use Rattle.lrp_kept.specs.Sizes.{AreSizes, is_reader, joined_reach, period_number, reach_in, scaled_over, tested_periods};
 
 use crate::disjuncts::{Disjunct, JoinedAtom};
 use crate::rows::HeldRelation;
@@ -33,7 +33,7 @@ pub fn is_read(disjuncts: &[Disjunct], relation: usize) -> bool
 
 /// The least common multiple of the periods of the `in` points; `None` where it is above 2^62.
 pub fn tested_period(disjuncts: &[Disjunct]) -> Option<Period>
-    ensures { IsPeriodOf (flat_map tested_periods disjuncts.now) (number_in result) }
+    ensures { IsPeriodOf (flat_map tested_periods disjuncts.now) (period_number result) }
 {
     let mut period = Some(one());
     for disjunct in disjuncts {
@@ -43,7 +43,8 @@ pub fn tested_period(disjuncts: &[Disjunct]) -> Option<Period>
 }
 
 fn with_tests(period: Option<Period>, tests: &[Test]) -> Option<Period>
-    ensures { KeepsPeriod (flat_map test_periods tests.now) (number_in period) (number_in result) }
+    ensures { KeepsMultiples (flat_map test_periods tests.now) (period_number period)
+        (period_number result) }
 {
     let mut all = period;
     for test in tests {
@@ -54,7 +55,7 @@ fn with_tests(period: Option<Period>, tests: &[Test]) -> Option<Period>
 
 // The period with that of a test's point.
 fn with_test(period: Option<Period>, test: &Test) -> Option<Period>
-    ensures { KeepsPeriod (test_periods test.now) (number_in period) (number_in result) }
+    ensures { KeepsMultiples (test_periods test.now) (period_number period) (period_number result) }
 {
     match test {
         Test::Member { point, .. } => with_point(period, point),
@@ -65,7 +66,7 @@ fn with_test(period: Option<Period>, test: &Test) -> Option<Period>
 
 /// The least common multiple of a period and those of a row's points; `None` where it is above 2^62.
 pub fn with_periods(period: Period, row: &Row) -> Option<Period>
-    ensures { IsPeriodOf (period.number ∷ row_periods row.now) (number_in result) }
+    ensures { IsPeriodOf (period.number ∷ row_periods row.now) (period_number result) }
 {
     with_row(Some(period), row)
 }
@@ -85,7 +86,7 @@ pub fn scaled_reach(
     period: Period,
 ) -> u64
     ensures { result ≡ capped_at (scaled_over
-        (bounds_of relations.now) period.number head.now disjuncts.now) }
+        (greatest_bounds relations.now) period.number head.now disjuncts.now) }
 {
     let most = sizes_of(disjuncts, relations, period);
     scaled(doubled_times(stepped(most, period), most.times), head)
@@ -110,7 +111,7 @@ fn stepped(most: Sizes, period: Period) -> u64
 }
 
 fn sizes_of(disjuncts: &[Disjunct], relations: &[HeldRelation], period: Period) -> Sizes
-    ensures { AreSizes (bounds_of relations.now) period.number disjuncts.now result }
+    ensures { AreSizes (greatest_bounds relations.now) period.number disjuncts.now result }
 {
     let mut most = Sizes {
         reach: 0,
@@ -143,14 +144,15 @@ fn times_of(columns: &[Column]) -> u64
 }
 
 fn disjunct_reach(disjunct: &Disjunct, relations: &[HeldRelation], period: Period) -> u64
-    ensures { result ≡ capped_at (reach_in (bounds_of relations.now) period.number disjunct.now) }
+    ensures { result ≡ capped_at (reach_in (greatest_bounds relations.now) period.number
+        disjunct.now) }
 {
     atoms_reach(&disjunct.atoms, relations, period).max(tests_reach(disjunct.tests.as_slice()))
 }
 
 fn atoms_reach(atoms: &Vec<JoinedAtom>, relations: &[HeldRelation], period: Period) -> u64
     ensures { result ≡ capped_at (greatest (map
-        (joined_reach (bounds_of relations.now) period.number) atoms.now.items)) }
+        (joined_reach (greatest_bounds relations.now) period.number) atoms.now.items)) }
 {
     let mut reach = 0;
     for atom in atoms {
@@ -161,7 +163,8 @@ fn atoms_reach(atoms: &Vec<JoinedAtom>, relations: &[HeldRelation], period: Peri
 
 // The reach of an atom as a step of its own.
 fn atom_reach(atom: &JoinedAtom, relations: &[HeldRelation], period: Period) -> u64
-    ensures { result ≡ capped_at (joined_reach (bounds_of relations.now) period.number atom.now) }
+    ensures { result ≡ capped_at (joined_reach
+        (greatest_bounds relations.now) period.number atom.now) }
 {
     let most = bound_at(relations, atom.relation);
     capped(scan_reach(most, greatest_offset(atom.terms.as_slice()), period))
@@ -169,7 +172,7 @@ fn atom_reach(atom: &JoinedAtom, relations: &[HeldRelation], period: Period) -> 
 
 // The greatest bound that a relation ever had.
 fn bound_at(relations: &[HeldRelation], number: usize) -> u64
-    ensures { result ≡ slice_index_or (bounds_of relations.now) number 0 }
+    ensures { result ≡ slice_index_or (greatest_bounds relations.now) number 0 }
 {
     if number < relations.len() {
         relations[number].most

@@ -7,7 +7,7 @@ ghost use Rattle.lrp_model.specs.Variables.{bound_by, is_among, variables_of_ter
 ghost use Rattle.lrp_model.specs.Core.{conjuncts};
 ghost use Rattle.lrp_kept.specs.Asked.{is_sought, conjuncts_of};
 ghost use Rattle.lrp_kept.specs.KeptForm.{some_passes, is_neither, is_atom_with};
-ghost use Rattle.lrp_kept.specs.Signs.{signed};
+ghost use Rattle.lrp_kept.specs.Signs.{kept_signed};
 
 use crate::signs::Signed;
 use lrp_model::{DataTerm, Formula, Name, Op, Sort, Term, Test, TimeTerm};
@@ -39,7 +39,7 @@ pub(crate) fn occurs(whole: Signed, sort: &Sort, name: &Name) -> bool
 #[cycle(looking)]
 fn some_element(f: &Formula, holds: bool, sought: Sought) -> bool
     ensures { result ≡ some_passes (is_sought sought.entry)
-        (conjuncts (signed holds (form_of f.now))) }
+        (conjuncts (kept_signed holds (form_of f.now))) }
 {
     match f {
         Formula::Not { of } => some_element(of, !holds, sought),
@@ -57,7 +57,7 @@ fn some_element(f: &Formula, holds: bool, sought: Sought) -> bool
 #[cycle(looking)]
 fn some_of(fs: &[Formula], holds: bool, sought: Sought) -> bool
     ensures { result ≡ list_any (λ f. some_passes (is_sought sought.entry)
-        (conjuncts (signed holds (form_of f)))) fs.now }
+        (conjuncts (kept_signed holds (form_of f)))) fs.now }
 {
     for f in fs {
         if some_element(f, holds, sought) {
@@ -69,7 +69,7 @@ fn some_of(fs: &[Formula], holds: bool, sought: Sought) -> bool
 
 /// Whether the core form of a test, or of its negation, is a test.
 pub(crate) fn is_test(test: &Test, holds: bool) -> bool
-    ensures { is_neither (signed holds (test_form test.now)) ≡ not result }
+    ensures { is_neither (kept_signed holds (test_form test.now)) ≡ not result }
 {
     match test {
         Test::Compare { op, .. } => holds || *op != Op::Eq,

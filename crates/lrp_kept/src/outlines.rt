@@ -8,7 +8,7 @@ ghost use Rattle.lrp_zone.specs.Zones.{columns_of, IsMember};
 ghost use Rattle.lrp_kept.specs.Outlines.{AreFirstKnown, AreNarrowed, IsFull, IsInOutline, IsOutlineFor, IsOutlineOf};
 ghost use Rattle.lrp_kept.specs.Spans.{IsAtLeast, IsAtMost, IsInSpan, IsOfPoint};
 
-use crate::spans::{Span, are_apart_somewhere, differ_somewhere};
+use crate::spans::{ColumnSpan, are_apart_somewhere, differ_somewhere};
 use lrp_algebra::{Known, Pattern, Placed, row_pattern};
 use lrp_model::{Domain, List, Memory, Row, Term};
 use lrp_point::Point;
@@ -20,11 +20,11 @@ use std::alloc::Global;
 #[derive(Clone, Copy)]
 pub struct Outline {
     texts: [Option<u32>; 8],
-    times: [Span; 8],
+    times: [ColumnSpan; 8],
 }
 
 // Nothing is known.
-const OPEN: Span = Span {
+const OPEN: ColumnSpan = ColumnSpan {
     least: None,
     most: None,
     point: None,
@@ -106,7 +106,7 @@ fn first_known(known: &Known, count: usize) -> Known
 }
 
 // Narrows so many spans by a zone at its places.
-fn narrow(times: &mut [Span; 8], placed: &Placed, count: usize)
+fn narrow(times: &mut [ColumnSpan; 8], placed: &Placed, count: usize)
     requires size { length times.old ≡ 8 }
     requires few { count ≤ 8 }
     ensures { AreNarrowed times.old placed.now count times.new }
@@ -117,7 +117,7 @@ fn narrow(times: &mut [Span; 8], placed: &Placed, count: usize)
 }
 
 // Narrows the span at the place of a column of a zone.
-fn narrow_at(times: &mut [Span; 8], placed: &Placed, i: usize, count: usize)
+fn narrow_at(times: &mut [ColumnSpan; 8], placed: &Placed, i: usize, count: usize)
     requires size { length times.old ≡ 8 }
     requires few { count ≤ 8 }
     requires column { i < columns_of placed.now.zone }
@@ -132,13 +132,13 @@ fn narrow_at(times: &mut [Span; 8], placed: &Placed, i: usize, count: usize)
 }
 
 // What a column of a zone leaves of a span.
-fn narrowed_by(span: &Span, zone: &Zone, i: usize) -> Span
+fn narrowed_by(span: &ColumnSpan, zone: &Zone, i: usize) -> ColumnSpan
     requires low { 0 < i }
     requires high { i ≤ columns_of zone.now }
     ensures { (ys : List ℤ) → IsMember zone.now ys → IsInSpan span.now (node ys i)
         → IsInSpan result (node ys i) }
 {
-    Span {
+    ColumnSpan {
         least: later(span.least, zone.bound(0, i)),
         most: sooner(span.most, zone.bound(i, 0)),
         point: known(&span.point, zone, i),

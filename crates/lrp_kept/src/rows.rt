@@ -22,16 +22,16 @@ pub struct Sketch {
 }
 
 /// A row that is held: the number of its relation, and a sketch for each atom that reads the relation.
-pub struct Source {
+pub struct HeldRow {
     pub relation: usize,
     pub row: Row,
     pub sketches: Vec<Sketch>,
 }
 
 // A derived drop would be proved anew, type by type, in each crate that lets one go.
-impl Drop for Source {
+impl Drop for HeldRow {
     fn drop(self) {
-        let Source {
+        let HeldRow {
             relation: _relation,
             row: _row,
             sketches: _sketches,
@@ -39,7 +39,7 @@ impl Drop for Source {
     }
 }
 
-impl Source {
+impl HeldRow {
     /// What the row leaves to the variables of an atom, if it is known.
     pub fn outline(&self, disjunct: usize, atom: usize) -> Option<&Outline>
         ensures { IfSome result (λ o. IsSketchOf self.now disjunct atom o.now) }
@@ -65,7 +65,7 @@ pub struct HeldRelation {
 /// The relations of a database, and the rows that they now hold by their keys.
 pub struct HeldRows {
     pub relations: Vec<HeldRelation>,
-    pub sources: Slab<Source>,
+    pub sources: Slab<HeldRow>,
 }
 
 // A derived drop would be proved anew, type by type, in each crate that lets one go.
@@ -135,7 +135,7 @@ impl HeldRows {
     }
 
     /// Puts a row behind the others of its relation, and gives its key.
-    pub fn hold(&mut self, source: Source) -> Result<usize, Memory>
+    pub fn hold(&mut self, source: HeldRow) -> Result<usize, Memory>
         requires { source.relation < length self.old.relations.items }
         ensures held { IfOk result (λ key. IsHeldBehind source key self.old self.new) }
         ensures same { OnErr result (AreSameRows self.old self.new) }

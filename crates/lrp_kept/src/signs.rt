@@ -3,7 +3,7 @@ ghost use Rattle.std.specs.Prelude.{◌≡◌};
 ghost use Rattle.lrp_model.specs.Formulas.{form_of};
 ghost use Rattle.lrp_kept.specs.Asked.{core_of};
 ghost use Rattle.lrp_kept.specs.KeptForm.{matrix};
-ghost use Rattle.lrp_kept.specs.Signs.{signed};
+ghost use Rattle.lrp_kept.specs.Signs.{kept_signed};
 
 use lrp_model::Formula;
 
@@ -16,7 +16,7 @@ pub(crate) struct Signed<'a> {
 
 /// What stands behind the `exists` with which the core form of a formula, or that of its negation, begins.
 pub(crate) fn matrix_of<'a>(formula: &'a Formula, holds: bool) -> Signed<'a>
-    ensures { core_of result ≡ matrix (signed holds (form_of formula.now)) }
+    ensures { core_of result ≡ matrix (kept_signed holds (form_of formula.now)) }
 {
     match formula {
         Formula::Not { of } => matrix_of(of, !holds),

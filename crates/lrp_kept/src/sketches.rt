@@ -5,13 +5,13 @@ ghost use Rattle.lrp_kept.specs.declared.disjuncts.JoinedAtom.{JoinedAtom as Joi
 
 use crate::disjuncts::Disjunct;
 use crate::outlines::Outline;
-use crate::rows::{Sketch, Source};
-use crate::spans::Span;
+use crate::rows::{HeldRow, Sketch};
+use crate::spans::ColumnSpan;
 use lrp_model::{Copies, Domain, Memory, Row};
 use lrp_point::Point;
 use std::alloc::Global;
 
-impl Source {
+impl HeldRow {
     /// A row as it is held in a relation, with a sketch for each atom of the disjuncts that reads the relation.
     pub fn of(
         alloc: Global,
@@ -19,7 +19,7 @@ impl Source {
         relation: usize,
         row: &Row,
         domain: &Domain,
-    ) -> Result<Source, Memory>
+    ) -> Result<HeldRow, Memory>
         requires { CanBeSketched disjuncts.now relation row.now }
         ensures relation { IfOk result (λ made. made.relation ≡ relation) }
         ensures row { IfOk result (λ made. made.row ≡ row.now) }
@@ -35,7 +35,7 @@ impl Source {
         };
         let sketches = sketching.all()?;
         let row = row.copy(alloc)?;
-        Ok(Source {
+        Ok(HeldRow {
             relation,
             row,
             sketches,
@@ -103,7 +103,7 @@ impl<'a> Sketching<'a> {
         };
         // The types inside a sketch are named, since the prover asks for them where one is pushed.
         let _outline: Option<Outline> = None;
-        let _span: Option<Span> = None;
+        let _span: Option<ColumnSpan> = None;
         let _point: Option<Point> = None;
         let mut all = before;
         all.push(sketch)?;

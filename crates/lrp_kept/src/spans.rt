@@ -8,15 +8,15 @@ use lrp_point::Point;
 
 /// The least and the greatest integer and a point of which the integers are members, as far as they are known.
 #[derive(Clone, Copy)]
-pub(crate) struct Span {
+pub(crate) struct ColumnSpan {
     pub(crate) least: Option<i64>,
     pub(crate) most: Option<i64>,
     pub(crate) point: Option<Point>,
 }
 
-impl Span {
+impl ColumnSpan {
     /// Whether no integer is in both.
-    pub(crate) fn is_apart(&self, other: &Span) -> bool
+    pub(crate) fn is_apart(&self, other: &ColumnSpan) -> bool
         ensures { result ≡ true → (x : ℤ) → IsInSpan self.now x → IsInSpan other.now x → ⊥ }
     {
         is_below(self.most, other.least)
@@ -73,7 +73,7 @@ fn have_nothing_common(left: &Point, right: &Point) -> bool
 }
 
 /// Whether some integer of the one list is in no span of both: each is looked at by its place.
-pub(crate) fn are_apart_somewhere(left: &[Span; 8], right: &[Span; 8]) -> bool
+pub(crate) fn are_apart_somewhere(left: &[ColumnSpan; 8], right: &[ColumnSpan; 8]) -> bool
     requires left { length left.now ≡ 8 }
     requires right { length right.now ≡ 8 }
     ensures { result ≡ true → (xs : ℕ → ℤ) → AreInSpans left.now xs → AreInSpans right.now xs → ⊥ }

@@ -13,23 +13,15 @@ use Rattle.lrp_model.specs.declared.relations.Sort.{Sort}
 use Rattle.lrp_model.specs.declared.relations.Sort.TheVariants.{Time, Data, Named}
 use Rattle.lrp_model.proofs.Decided.{contains_first, contains_later}
 use Rattle.lrp_plan_laws.proofs.CoreLaws.{own_name}
-use Rattle.lrp_plan_laws.proofs.HeadLaws.{other_name}
 use Rattle.lrp_plan_laws.proofs.Members.{all_of}
 use Rattle.lrp_parts.specs.Bound.{AreCompleted, CanBeValue, IsCompleted}
 use Rattle.lrp_kept.specs.Choices.{ChosenWithValues, IsChosenBy}
 use Rattle.lrp_kept.specs.Disjuncts.{bound_columns}
 use Rattle.lrp_kept.specs.KeptForm.{matrix}
 use Rattle.lrp_kept.specs.SortedForms.{IsSortedForm, binders_at}
+use Rattle.lrp_tables.proofs.TupleLaws.{other_text, other_time}
 
 -- ---- one value
-
-pub other_time : (v w : Identifier) (d : Datum) (env : Assignment) → w ≢ v → (with_value v d env).times w ≡ env.times w
-other_time v w (time x) env n = ap (λ b. cond b x (env.times w)) (other_name v w n)
-other_time v w (text t) env n = refl
-
-pub other_text : (v w : Identifier) (d : Datum) (env : Assignment) → w ≢ v → (with_value v d env).texts w ≡ env.texts w
-other_text v w (time x) env n = refl
-other_text v w (text t) env n = ap (λ b. cond b t (env.texts w)) (other_name v w n)
 
 pub own_text : (v : Identifier) (t : Text) (env : Assignment) → (with_value v (text t) env).texts v ≡ t
 own_text v t env = ap (λ b. cond b t (env.texts v)) (own_name v)

@@ -1,5 +1,5 @@
 -- A part of a choice by its keys is one by its rows: the same assignments, in as many cells.
-use Rattle.std.proofs.Common.{◌≡◌, ◌<◌, ◌≤◌, ◌-◌, ℕ, zero, suc, List, [], ◌∷◌, ◌++◌, length, map, flat_map, filter, take, Contains, Option, Some, None, inl, inr, refl, sym, ap, subst, ◌∙◌, arith}
+use Rattle.std.proofs.Common.{◌≡◌, ◌<◌, ◌≤◌, ◌-◌, ℕ, zero, suc, List, [], ◌∷◌, ◌++◌, length, map, flat_map, filter, take, Contains, Some, inl, inr, refl, sym, ap, subst, ◌∙◌, arith}
 use Rattle.std.specs.Prelude.{slice_get}
 use Rattle.std.specs.List.{AllByRecursion, AllZip}
 use Rattle.slab.specs.Slab.{get}
@@ -13,31 +13,24 @@ use Rattle.lrp_model.specs.declared.formulas.Test.{Test}
 use Rattle.lrp_model.specs.declared.relations.Row.{Row}
 use Rattle.lrp_model.proofs.Decided.{cons_cases, contains_first, contains_later}
 use Rattle.lrp_plan_laws.specs.Atoms.{Atom, atoms}
-use Rattle.lrp_plan_laws.proofs.Members.{all_by, all_of, in_left, in_one}
+use Rattle.lrp_plan_laws.proofs.Members.{all_by, all_of, in_left}
 use Rattle.lrp_tables.specs.Columns.{texts_of_term, times_of_term}
 use Rattle.lrp_tables.specs.Tables.{HasTexts, named_variables}
 use Rattle.lrp_tables.proofs.Pieced.{in_flat}
 use Rattle.lrp_kept.specs.Choices.{HasManyCells, IsInPart, Matches, atom_variables, covered_tests, disjunct_tests, part_tests}
-use Rattle.lrp_parts.specs.Derivations.{Ground, HasManyKeyedCells, IsOfPart, MatchKeys, last_of, tests_in, tests_of_part, texts_in, times_in}
-use Rattle.lrp_kept.specs.Disjuncts.{AreJoined, IsAtomOf, IsDisjunctOf, is_covered}
+use Rattle.lrp_parts.specs.Derivations.{Ground, HasManyKeyedCells, IsOfPart, MatchKeys, last_atom, atom_tests, tests_of_part, atom_texts, atom_times}
+use Rattle.lrp_kept.specs.Disjuncts.{AreJoined, IsAtomOf, IsDisjunctOf, is_test_covered}
 use Rattle.lrp_kept.specs.Held.{names_of}
 use Rattle.lrp_kept.specs.declared.disjuncts.Disjunct.{Disjunct}
 use Rattle.lrp_kept.specs.declared.disjuncts.JoinedAtom.{JoinedAtom}
 use Rattle.lrp_kept.specs.declared.rows.HeldRows.{HeldRows}
-use Rattle.lrp_kept.specs.declared.rows.Source.{Source}
+use Rattle.lrp_kept.specs.declared.rows.HeldRow.{HeldRow}
 use Rattle.lrp_parts.proofs.Behind.{in_kept, kept_test, own_tests, own_texts, own_times, rises, some_terms}
 use Rattle.lrp_parts.proofs.Narrow.{some_times}
 use Rattle.lrp_kept.proofs.PartVariables.{IsNamed, covered_from, covered_to, in_named, named_in, term_named, text_named, time_named}
 use Rattle.lrp_kept.proofs.SameCells.{many_there}
-
-some_same : {X : Type 0} (x y : X) → Some x ≡ Some y → x ≡ y
-some_same x y e = cc
-
-none_some : {X : Type 0} (x : X) → None ≡ Some x → ⊥
-none_some x e = cc
-
-one_source : (o : Option Source) (s t : Source) → o ≡ Some s → o ≡ Some t → s ≡ t
-one_source o s t e f = let x : Some s ≡ Some t = sym e ∙ f in cc
+use Rattle.lrp_parts.proofs.PartTables.{one_source}
+use Rattle.lrp_theory.proofs.Members.{from_flat}
 
 -- ---- first elements
 
@@ -59,13 +52,6 @@ at_take (suc n) i [] l = refl
 at_take (suc n) zero (x ∷ xs) l = refl
 at_take (suc n) (suc i) (x ∷ xs) l = at_take n i xs (let k : suc i < suc n = l in omega (arith, k))
 
-from_flat : {X Y : Type 0} (f : X → List Y) (xs : List X) (y : Y) → Contains (flat_map f xs) y → (x : X) × Contains xs x × Contains (f x) y
-from_flat f [] y i = absurd (let l : i.0 < 0 = i.1 in omega (arith, l))
-from_flat f (x ∷ xs) y i = elim (in_one (f x) (flat_map f xs) y i) [
-  | inl h ↦ (x, contains_first x xs, h)
-  | inr more ↦ let r = from_flat f xs y more in (r.0, contains_later x r.0 xs r.1, r.2)
-]
-
 zip_find : {X Y : Type 0} (R : X → Y → Type 0) (xs : List X) (ys : List Y) (x : X) → AllZip R xs ys → Contains xs x → (i : ℕ) × (y : Y) × (slice_get ys i ≡ Some y) × (i < length ys) × R x y
 zip_find R [] ys x z c = absurd (let l : c.0 < 0 = c.1 in omega (arith, l))
 zip_find R (w ∷ xs) [] x z c = absurd z
@@ -84,7 +70,7 @@ zip_left R (x ∷ xs) (w ∷ ys) y z c = elim (cons_cases w y ys c) [
 
 -- ---- a part's variables and tests
 
-module _ (names : List Identifier) (f : Form) (d : Disjunct) (is : IsDisjunctOf names f d) (count : ℕ) (low : 0 < count) (b : JoinedAtom) (at : last_of d count ≡ Some b) where
+module _ (names : List Identifier) (f : Form) (d : Disjunct) (is : IsDisjunctOf names f d) (count : ℕ) (low : 0 < count) (b : JoinedAtom) (at : last_atom d count ≡ Some b) where
   abbrev front : List Atom
   front = take count (atoms f)
 
@@ -133,18 +119,18 @@ module _ (names : List Identifier) (f : Form) (d : Disjunct) (is : IsDisjunctOf 
         in_flat (λ (x : Atom). flat_map variables_of_term x.terms) front a.0 (data_variable n) a.1 (text_named a.0.terms n (subst (λ ts. Contains (flat_map texts_of_term ts) n) a.2.terms r.2))
   ]
 
-  own : b.tests ≡ filter (is_covered b.vars.times b.vars.texts) d.tests
+  own : b.tests ≡ filter (is_test_covered b.vars.times b.vars.texts) d.tests
   own = own_tests d.tests [] [] joined up (count - 1) b last_at
 
   -- the tests of its variables are those of the last atom
   pub test_to : (t : Test) → Contains (covered_tests front (disjunct_tests f)) t → Contains b.tests t
   test_to t i =
       let k = in_kept (λ t. are_among (variables_of_test t) (atom_variables front)) (disjunct_tests f) t i in
-      subst (λ l. Contains l t) (sym own) (kept_test (is_covered b.vars.times b.vars.texts) d.tests t (subst (λ l. Contains l t) (sym is.tests_are) k.0) (covered_to (atom_variables front) b.vars.times b.vars.texts variable_to variable_from t k.1))
+      subst (λ l. Contains l t) (sym own) (kept_test (is_test_covered b.vars.times b.vars.texts) d.tests t (subst (λ l. Contains l t) (sym is.tests_are) k.0) (covered_to (atom_variables front) b.vars.times b.vars.texts variable_to variable_from t k.1))
 
   pub test_from : (t : Test) → Contains b.tests t → Contains (covered_tests front (disjunct_tests f)) t
   test_from t i =
-      let k = in_kept (is_covered b.vars.times b.vars.texts) d.tests t (subst (λ l. Contains l t) own i) in
+      let k = in_kept (is_test_covered b.vars.times b.vars.texts) d.tests t (subst (λ l. Contains l t) own i) in
       kept_test (λ t. are_among (variables_of_test t) (atom_variables front)) (disjunct_tests f) t (subst (λ l. Contains l t) is.tests_are k.0) (covered_from (atom_variables front) b.vars.times b.vars.texts variable_to variable_from t k.1)
 
   -- ---- the tests of the part
@@ -154,12 +140,12 @@ module _ (names : List Identifier) (f : Form) (d : Disjunct) (is : IsDisjunctOf 
   long (suc n) [] = omega arith
   long (suc n) (x ∷ xs) = let l : length (take n xs) ≤ n = long n xs in omega (arith, l)
 
-  tests_by : (n : ℕ) → 2 ≤ n → (t : Test) → Contains (tests_in (last_of d n)) t → Contains (tests_of_part d n) t
+  tests_by : (n : ℕ) → 2 ≤ n → (t : Test) → Contains (atom_tests (last_atom d n)) t → Contains (tests_of_part d n) t
   tests_by zero l t i = absurd (omega (arith, l))
   tests_by (suc zero) l t i = absurd (omega (arith, l))
   tests_by (suc (suc n)) l t i = i
 
-  tests_two : (n : ℕ) (t : Test) → Contains (tests_of_part d n) t → (2 ≤ n) × Contains (tests_in (last_of d n)) t
+  tests_two : (n : ℕ) (t : Test) → Contains (tests_of_part d n) t → (2 ≤ n) × Contains (atom_tests (last_atom d n)) t
   tests_two zero t i = absurd (let l : i.0 < 0 = i.1 in omega (arith, l))
   tests_two (suc zero) t i = absurd (let l : i.0 < 0 = i.1 in omega (arith, l))
   tests_two (suc (suc n)) t i = (omega arith, i)
@@ -170,12 +156,12 @@ module _ (names : List Identifier) (f : Form) (d : Disjunct) (is : IsDisjunctOf 
       by : (rest : List Atom) → length rest ≤ count → Contains (part_tests rest (disjunct_tests f)) t → (Contains (covered_tests rest (disjunct_tests f)) t → Contains b.tests t) → Contains (tests_of_part d count) t
       by [] l c g = absurd (let k : c.0 < 0 = c.1 in omega (arith, k))
       by (a ∷ []) l c g = absurd (let k : c.0 < 0 = c.1 in omega (arith, k))
-      by (a ∷ e ∷ rest) l c g = tests_by count (let k : suc (suc (length rest)) ≤ count = l in omega (arith, k)) t (subst (λ o. Contains (tests_in o) t) (sym at) (g c))
+      by (a ∷ e ∷ rest) l c g = tests_by count (let k : suc (suc (length rest)) ≤ count = l in omega (arith, k)) t (subst (λ o. Contains (atom_tests o) t) (sym at) (g c))
 
   pub part_test_from : length front ≡ count → (t : Test) → Contains (tests_of_part d count) t → Contains (part_tests front (disjunct_tests f)) t
   part_test_from size t i =
       let k = tests_two count t i in
-      by front size k.0 (test_from t (subst (λ o. Contains (tests_in o) t) at k.1))
+      by front size k.0 (test_from t (subst (λ o. Contains (atom_tests o) t) at k.1))
     where
       by : (rest : List Atom) → length rest ≡ count → 2 ≤ count → Contains (covered_tests rest (disjunct_tests f)) t → Contains (part_tests rest (disjunct_tests f)) t
       by [] e l c = absurd (let k : 0 ≡ count = e in omega (arith, k, l))
@@ -186,7 +172,7 @@ module _ (names : List Identifier) (f : Form) (d : Disjunct) (is : IsDisjunctOf 
 
 -- each row is the one under its key
 abbrev pub AreUnder : HeldRows → List ℕ → List Row → Type 0
-AreUnder rows keys all = AllZip (λ key row. (source : Source) × (get rows.sources key ≡ Some source) × (source.row ≡ row)) keys all
+AreUnder rows keys all = AllZip (λ key row. (source : HeldRow) × (get rows.sources key ≡ Some source) × (source.row ≡ row)) keys all
 
 module _ (held : HeldRows) (env : Assignment) where
   match_to : (all : List Atom) (js : List JoinedAtom) (keys : List ℕ) (rows : List Row) → AllZip (IsAtomOf (names_of held)) all js → AreUnder held keys rows → MatchKeys held env js keys → AllZip (Matches env) (take (length keys) all) rows
@@ -198,7 +184,7 @@ module _ (held : HeldRows) (env : Assignment) where
   match_to (a ∷ all) [] (key ∷ keys) (row ∷ rows) z u m = absurd z
   match_to (a ∷ all) (j ∷ js) (key ∷ keys) (row ∷ rows) z u m =
       let same : m.0.source ≡ u.0.0 = one_source (get held.sources key) m.0.source u.0.0 m.0.held u.0.1 in
-      let is : IsInRow row (map (term_value env) a.terms) = subst (λ ts. IsInRow row (map (term_value env) ts)) z.0.terms (subst (λ r. IsInRow r (map (term_value env) j.terms)) (ap (λ (s : Source). s.row) same ∙ u.0.2) m.0.is) in
+      let is : IsInRow row (map (term_value env) a.terms) = subst (λ ts. IsInRow row (map (term_value env) ts)) z.0.terms (subst (λ r. IsInRow r (map (term_value env) j.terms)) (ap (λ (s : HeldRow). s.row) same ∙ u.0.2) m.0.is) in
       (is, match_to all js keys rows z.1 u.1 m.1)
 
   match_from : (all : List Atom) (js : List JoinedAtom) (keys : List ℕ) (rows : List Row) → AllZip (IsAtomOf (names_of held)) all js → AreUnder held keys rows → AllZip (Matches env) (take (length keys) all) rows → MatchKeys held env js keys
@@ -213,7 +199,7 @@ module _ (held : HeldRows) (env : Assignment) where
 
 -- ---- the part
 
-module _ (g : Ground) (f : Form) (d : Disjunct) (is : IsDisjunctOf (names_of g.rows) f d) (keys : List ℕ) (rows : List Row) (low : 0 < length keys) (b : JoinedAtom) (at : last_of d (length keys) ≡ Some b) (under : AreUnder g.rows keys (take (length keys) rows)) (size : length (take (length keys) (atoms f)) ≡ length keys) where
+module _ (g : Ground) (f : Form) (d : Disjunct) (is : IsDisjunctOf (names_of g.rows) f d) (keys : List ℕ) (rows : List Row) (low : 0 < length keys) (b : JoinedAtom) (at : last_atom d (length keys) ≡ Some b) (under : AreUnder g.rows keys (take (length keys) rows)) (size : length (take (length keys) (atoms f)) ≡ length keys) where
   pub part_to : (env : Assignment) → IsOfPart g d keys env → IsInPart f rows (length keys) env
   part_to env h = record {
     rows_match = match_to g.rows env (atoms f) d.atoms.items keys (take (length keys) rows) is.atoms_are under h.rows;
@@ -229,19 +215,19 @@ module _ (g : Ground) (f : Form) (d : Disjunct) (is : IsDisjunctOf (names_of g.r
 
   pub part_from : (env : Assignment) (cell : FormCell) → AllByRecursion (LiesIn g.period g.domain env cell) (atom_variables (take (length keys) (atoms f))) → IsInPart f rows (length keys) env → IsOfPart g d keys env
   part_from env cell inside h = record {
-    known = subst (λ o. HasTexts g.domain (texts_in o) env) (sym at) (texts_there g.period cell env b.vars.texts (λ n i. all_of (LiesIn g.period g.domain env cell) (atom_variables (take (length keys) (atoms f))) (data_variable n) inside (variable_from (names_of g.rows) f d is (length keys) low b at (data_variable n) i)));
+    known = subst (λ o. HasTexts g.domain (atom_texts o) env) (sym at) (texts_there g.period cell env b.vars.texts (λ n i. all_of (LiesIn g.period g.domain env cell) (atom_variables (take (length keys) (atoms f))) (data_variable n) inside (variable_from (names_of g.rows) f d is (length keys) low b at (data_variable n) i)));
     rows = match_from g.rows env (atoms f) d.atoms.items keys (take (length keys) rows) is.atoms_are under h.rows_match;
     passes = all_by (Passes env) (tests_of_part d (length keys)) (λ t i. all_of (Passes env) (part_tests (take (length keys) (atoms f)) (disjunct_tests f)) t h.tests_pass (part_test_from (names_of g.rows) f d is (length keys) low b at size t i));
   }
 
   abbrev own_variables : List Variable
-  own_variables = named_variables (times_in (last_of d (length keys))) (texts_in (last_of d (length keys)))
+  own_variables = named_variables (atom_times (last_atom d (length keys))) (atom_texts (last_atom d (length keys)))
 
   to_own : (v : Variable) → Contains (atom_variables (take (length keys) (atoms f))) v → Contains own_variables v
-  to_own v i = subst (λ o. Contains (named_variables (times_in o) (texts_in o)) v) (sym at) (named_in b.vars.times b.vars.texts v (variable_to (names_of g.rows) f d is (length keys) low b at v i))
+  to_own v i = subst (λ o. Contains (named_variables (atom_times o) (atom_texts o)) v) (sym at) (named_in b.vars.times b.vars.texts v (variable_to (names_of g.rows) f d is (length keys) low b at v i))
 
   from_own : (v : Variable) → Contains own_variables v → Contains (atom_variables (take (length keys) (atoms f))) v
-  from_own v i = variable_from (names_of g.rows) f d is (length keys) low b at v (in_named b.vars.times b.vars.texts v (subst (λ o. Contains (named_variables (times_in o) (texts_in o)) v) at i))
+  from_own v i = variable_from (names_of g.rows) f d is (length keys) low b at v (in_named b.vars.times b.vars.texts v (subst (λ o. Contains (named_variables (atom_times o) (atom_texts o)) v) at i))
 
   -- so it has as many cells
   pub many_of_keys : HasManyKeyedCells g d keys → HasManyCells g.domain g.period g.cap f rows (length keys)

@@ -10,10 +10,6 @@ use Rattle.lrp_model.specs.Satisfaction.{HaveDistinctNames}
 use Rattle.lrp_model.specs.Sorts.{is_time, is_data}
 use Rattle.lrp_model.specs.Texts.{Identifier, AreDistinct}
 use Rattle.lrp_model.specs.Variables.{Variable, time_variable, data_variable, bound_by, free, free_each, head_variables, same_variable, variables_of_term, variables_of_test}
-use Rattle.lrp_model.specs.declared.formulas.DataTerm.TheVariants.{Var as data_var, Const as data_const}
-use Rattle.lrp_model.specs.declared.formulas.TimeTerm.TheVariants.{Var as time_var, Int as time_int}
-use Rattle.lrp_model.specs.declared.formulas.Term.{Term}
-use Rattle.lrp_model.specs.declared.formulas.Term.TheVariants.{Time as time_term, Data as data_term}
 use Rattle.lrp_model.specs.declared.formulas.Test.{Test}
 use Rattle.lrp_model.specs.declared.relations.Column.{Column}
 use Rattle.lrp_model.specs.declared.relations.Sort.{Sort}
@@ -28,19 +24,21 @@ use Rattle.lrp_tables.specs.Columns.{head_texts, head_times, joint, scan_texts, 
 use Rattle.lrp_tables.specs.Tables.{AreNamesAmong}
 use Rattle.lrp_tables.proofs.Joining.{joint_differs, of_joint}
 use Rattle.lrp_tables.proofs.Named.{pairs_tail}
-use Rattle.lrp_minus.proofs.Lists.{pairs_append, pairs_none}
+use Rattle.lrp_cutting.proofs.Lists.{pairs_append, pairs_none}
 use Rattle.lrp_parts.specs.Derivations.{CanBeJoinedAt, Ground, HasHeadOf}
-use Rattle.lrp_kept.specs.Disjuncts.{AreJoined, IsAtomOf, IsDisjunctOf, bound_columns, is_covered}
-use Rattle.lrp_kept.specs.KeptForm.{bound_variables, elements, is_neither, some_passes}
+use Rattle.lrp_kept.specs.Disjuncts.{AreJoined, IsAtomOf, IsDisjunctOf, bound_columns, is_test_covered}
+use Rattle.lrp_kept.specs.KeptForm.{bound_variables, kept_elements, is_neither, some_passes}
 use Rattle.lrp_kept.specs.declared.disjuncts.Disjunct.{Disjunct}
 use Rattle.lrp_kept.specs.declared.disjuncts.JoinedAtom.{JoinedAtom}
 use Rattle.lrp_parts.proofs.Behind.{each_true, in_kept, own_tests, own_texts, own_times, some_terms}
 use Rattle.lrp_kept.proofs.DisjunctAtoms.{atoms_are}
+use Rattle.lrp_kept.proofs.PartVariables.{text_named, time_named}
+use Rattle.lrp_holdings.proofs.Chained.{some_is}
 
 -- ---- the variables of elements
 
 -- what fits each part of a formula fits the variables of a disjunct's elements
-pub fits_elements : (fits : List Variable → Type 0) (f : Form) → EachScope fits f → some_passes is_neither (elements f) ≡ false → fits (free_each (elements f))
+pub fits_elements : (fits : List Variable → Type 0) (f : Form) → EachScope fits f → some_passes is_neither (kept_elements f) ≡ false → fits (free_each (kept_elements f))
 fits_elements fits (exists v s f) h l = fits_elements fits f h.1 l
 fits_elements fits (conjunction fs) h l = h.0
 fits_elements fits (atom name terms) h l = subst fits (sym (append-nil (flat_map variables_of_term terms))) h
@@ -50,26 +48,6 @@ fits_elements fits (negation f) h l = absurd (false≢true (sym l))
 fits_elements fits (disjunction fs) h l = absurd (false≢true (sym l))
 fits_elements fits (implication f g) h l = absurd (false≢true (sym l))
 fits_elements fits (forall v s f) h l = absurd (false≢true (sym l))
-
-times_free : (ts : List Term) (v : Identifier) → Contains (flat_map times_of_term ts) v → Contains (flat_map variables_of_term ts) (time_variable v)
-times_free [] v c = absurd (contains_none v c)
-times_free (time_term (time_var w plus) ∷ ts) v c = elim (cons_cases w v (flat_map times_of_term ts) c) [
-  | inl s ↦ subst (λ x. Contains (time_variable w ∷ flat_map variables_of_term ts) (time_variable x)) s (contains_first (time_variable w) (flat_map variables_of_term ts))
-  | inr d ↦ contains_later (time_variable w) (time_variable v) (flat_map variables_of_term ts) (times_free ts v d)
-]
-times_free (time_term (time_int x) ∷ ts) v c = times_free ts v c
-times_free (data_term (data_var w) ∷ ts) v c = contains_later (data_variable w) (time_variable v) (flat_map variables_of_term ts) (times_free ts v c)
-times_free (data_term (data_const t) ∷ ts) v c = times_free ts v c
-
-texts_free : (ts : List Term) (v : Identifier) → Contains (flat_map texts_of_term ts) v → Contains (flat_map variables_of_term ts) (data_variable v)
-texts_free [] v c = absurd (contains_none v c)
-texts_free (data_term (data_var w) ∷ ts) v c = elim (cons_cases w v (flat_map texts_of_term ts) c) [
-  | inl s ↦ subst (λ x. Contains (data_variable w ∷ flat_map variables_of_term ts) (data_variable x)) s (contains_first (data_variable w) (flat_map variables_of_term ts))
-  | inr d ↦ contains_later (data_variable w) (data_variable v) (flat_map variables_of_term ts) (texts_free ts v d)
-]
-texts_free (data_term (data_const t) ∷ ts) v c = texts_free ts v c
-texts_free (time_term (time_var w plus) ∷ ts) v c = contains_later (time_variable w) (data_variable v) (flat_map variables_of_term ts) (texts_free ts v c)
-texts_free (time_term (time_int x) ∷ ts) v c = texts_free ts v c
 
 -- a variable of an atom among atoms and tests occurs in them
 free_of : (fs : Forms) (a : Atom) (w : Variable) → some_passes is_neither fs ≡ false → Contains (atoms_each fs) a → Contains (flat_map variables_of_term a.terms) w → Contains (free_each fs) w
@@ -112,9 +90,6 @@ all_found ns (w ∷ vs) e v c =
 
 -- ---- atoms
 
-same_some : {X : Type 0} (a b : X) → Some a ≡ Some b → a ≡ b
-same_some a b e = cc
-
 zip_back : {X Y : Type 0} (R : X → Y → Type 0) (xs : List X) (ys : List Y) (y : Y) → AllZip R xs ys → Contains ys y → (x : X) × Contains xs x × R x y
 zip_back R [] [] y h c = absurd (contains_none y c)
 zip_back R [] (z ∷ ys) y h c = absurd h
@@ -134,18 +109,18 @@ module _ (tests : List Test) where
   -- a time variable of an atom was there before, or is of some atom's terms
   pub some_times : (ts xs : List Identifier) (all : List JoinedAtom) → AreJoined tests ts xs all → (i : ℕ) (a : JoinedAtom) → slice_get all i ≡ Some a → (v : Identifier) → Contains a.vars.times v → Contains ts v ⊎ ((j : JoinedAtom) × Contains all j × Contains (flat_map times_of_term j.terms) v)
   some_times ts xs [] h i a e v c = absurd (let l : i < 0 = slice_get_within [] i a e in omega (arith, l))
-  some_times ts xs (k ∷ all) h zero a e v c = of_first ts k all h.0 v (subst (λ (m : JoinedAtom). Contains m.vars.times v) (sym (same_some k a e)) c)
+  some_times ts xs (k ∷ all) h zero a e v c = of_first ts k all h.0 v (subst (λ (m : JoinedAtom). Contains m.vars.times v) (sym (some_is k a e)) c)
   some_times ts xs (k ∷ all) h (suc i) a e v c = elim (some_times k.vars.times k.vars.texts all h.3 i a e v c) [ inr r ↦ inr (r.0, contains_later k r.0 all r.1, r.2) | inl d ↦ of_first ts k all h.0 v d ]
 
   -- no two time variables of an atom are the same, and no two text variables
   pub times_differ : (ts xs : List Identifier) (all : List JoinedAtom) → AllPairs ◌≢◌ ts → AreJoined tests ts xs all → (i : ℕ) (a : JoinedAtom) → slice_get all i ≡ Some a → AllPairs ◌≢◌ a.vars.times
   times_differ ts xs [] pairs h i a e = absurd (let l : i < 0 = slice_get_within [] i a e in omega (arith, l))
-  times_differ ts xs (k ∷ all) pairs h zero a e = subst (λ (m : JoinedAtom). AllPairs ◌≢◌ m.vars.times) (same_some k a e) (subst (λ ns. AllPairs ◌≢◌ ns) (sym h.0) (joint_differs ts (scan_times k.terms) pairs))
+  times_differ ts xs (k ∷ all) pairs h zero a e = subst (λ (m : JoinedAtom). AllPairs ◌≢◌ m.vars.times) (some_is k a e) (subst (λ ns. AllPairs ◌≢◌ ns) (sym h.0) (joint_differs ts (scan_times k.terms) pairs))
   times_differ ts xs (k ∷ all) pairs h (suc i) a e = times_differ k.vars.times k.vars.texts all (subst (λ ns. AllPairs ◌≢◌ ns) (sym h.0) (joint_differs ts (scan_times k.terms) pairs)) h.3 i a e
 
   pub texts_differ : (ts xs : List Identifier) (all : List JoinedAtom) → AllPairs ◌≢◌ xs → AreJoined tests ts xs all → (i : ℕ) (a : JoinedAtom) → slice_get all i ≡ Some a → AllPairs ◌≢◌ a.vars.texts
   texts_differ ts xs [] pairs h i a e = absurd (let l : i < 0 = slice_get_within [] i a e in omega (arith, l))
-  texts_differ ts xs (k ∷ all) pairs h zero a e = subst (λ (m : JoinedAtom). AllPairs ◌≢◌ m.vars.texts) (same_some k a e) (subst (λ ns. AllPairs ◌≢◌ ns) (sym h.1) (joint_differs xs (scan_texts k.terms) pairs))
+  texts_differ ts xs (k ∷ all) pairs h zero a e = subst (λ (m : JoinedAtom). AllPairs ◌≢◌ m.vars.texts) (some_is k a e) (subst (λ ns. AllPairs ◌≢◌ ns) (sym h.1) (joint_differs xs (scan_texts k.terms) pairs))
   texts_differ ts xs (k ∷ all) pairs h (suc i) a e = texts_differ k.vars.times k.vars.texts all (subst (λ ns. AllPairs ◌≢◌ ns) (sym h.1) (joint_differs xs (scan_texts k.terms) pairs)) h.3 i a e
 
 -- ---- heads
@@ -191,7 +166,7 @@ kept_variable u (x ∷ ws) w c = by (same_variable u x) refl (cons_cases x w ws 
     by false e (inl s) rest = inr (subst (λ y. Contains (x ∷ filter (λ y. not (same_variable u y)) ws) y) s (contains_first x (filter (λ y. not (same_variable u y)) ws)))
     by false e (inr d) rest = elim (rest d) [ inl s ↦ inl s | inr k ↦ inr (contains_later x w (filter (λ y. not (same_variable u y)) ws) k) ]
 
-free_or_bound : (f : Form) (w : Variable) → Contains (free_each (elements f)) w → Contains (free f) w ⊎ Contains (bound_variables f) w
+free_or_bound : (f : Form) (w : Variable) → Contains (free_each (kept_elements f)) w → Contains (free f) w ⊎ Contains (bound_variables f) w
 free_or_bound (exists v s f) w c = elim (free_or_bound f w c) [
   | inr b ↦ inr (contains_later (bound_by s v) w (bound_variables f) b)
   | inl d ↦ elim (kept_variable (bound_by s v) (free f) w d) [ inl e ↦ inr (subst (λ x. Contains (bound_by s v ∷ bound_variables f) x) e (contains_first (bound_by s v) (bound_variables f))) | inr k ↦ inl k ]
@@ -205,71 +180,51 @@ free_or_bound (disjunction fs) w c = inl (subst (λ ws. Contains ws w) (append-n
 free_or_bound (implication f g) w c = inl (subst (λ ws. Contains ws w) (append-nil (free f ++ free g)) c)
 free_or_bound (forall v s f) w c = inl (subst (λ ws. Contains ws w) (append-nil (free (forall v s f))) c)
 
-bound_time : (f : Form) (v : Identifier) → Contains (bound_variables f) (time_variable v) → (c : Column) × Contains (bound_columns f) c × (is_time c.sort ≡ true) × (c.name ≡ v)
-bound_time (exists u s f) v c = elim (cons_cases (bound_by s u) (time_variable v) (bound_variables f) c) [
-  | inl e ↦ (record { name = u; sort = s }, in_right (bound_columns f) (record { name = u; sort = s } ∷ []) (record { name = u; sort = s }) (contains_first (record { name = u; sort = s }) []), of_time s u v e, named s u v e)
-  | inr d ↦ let r = bound_time f v d in (r.0, in_left (bound_columns f) (record { name = u; sort = s } ∷ []) r.0 r.1, r.2, r.3)
-]
-  where
-    of_time : (s : Sort) (u v : Identifier) → bound_by s u ≡ time_variable v → is_time s ≡ true
-    of_time Time u v e = refl
-    of_time Data u v e = cc
-    of_time (Named n) u v e = cc
+-- what is bound is bound by a column
+bound_column : (f : Form) (x : Variable) → Contains (bound_variables f) x → (c : Column) × Contains (bound_columns f) c × (bound_by c.sort c.name ≡ x)
+bound_column (exists u s f) x c =
+    let own : Column = record { name = u; sort = s } in
+    elim (cons_cases (bound_by s u) x (bound_variables f) c) [
+      | inl e ↦ (own, in_right (bound_columns f) (own ∷ []) own (contains_first own []), e)
+      | inr d ↦ let r = bound_column f x d in (r.0, in_left (bound_columns f) (own ∷ []) r.0 r.1, r.2)
+    ]
+bound_column (conjunction fs) x c = absurd (contains_none x c)
+bound_column (atom name terms) x c = absurd (contains_none x c)
+bound_column (test t) x c = absurd (contains_none x c)
+bound_column (sorted s u) x c = absurd (contains_none x c)
+bound_column (negation f) x c = absurd (contains_none x c)
+bound_column (disjunction fs) x c = absurd (contains_none x c)
+bound_column (implication f g) x c = absurd (contains_none x c)
+bound_column (forall u s f) x c = absurd (contains_none x c)
 
-    named : (s : Sort) (u v : Identifier) → bound_by s u ≡ time_variable v → u ≡ v
-    named Time u v e = cc
-    named Data u v e = cc
-    named (Named n) u v e = cc
-bound_time (conjunction fs) v c = absurd (contains_none (time_variable v) c)
-bound_time (atom name terms) v c = absurd (contains_none (time_variable v) c)
-bound_time (test t) v c = absurd (contains_none (time_variable v) c)
-bound_time (sorted s u) v c = absurd (contains_none (time_variable v) c)
-bound_time (negation f) v c = absurd (contains_none (time_variable v) c)
-bound_time (disjunction fs) v c = absurd (contains_none (time_variable v) c)
-bound_time (implication f g) v c = absurd (contains_none (time_variable v) c)
-bound_time (forall u s f) v c = absurd (contains_none (time_variable v) c)
+-- by the sort of times, or by a data sort
+time_bound : (s : Sort) (u v : Identifier) → bound_by s u ≡ time_variable v → (is_time s ≡ true) × (u ≡ v)
+time_bound Time u v e = (refl, cc)
+time_bound Data u v e = cc
+time_bound (Named n) u v e = cc
 
-bound_text : (f : Form) (v : Identifier) → Contains (bound_variables f) (data_variable v) → (c : Column) × Contains (bound_columns f) c × (is_data c.sort ≡ true) × (c.name ≡ v)
-bound_text (exists u s f) v c = elim (cons_cases (bound_by s u) (data_variable v) (bound_variables f) c) [
-  | inl e ↦ (record { name = u; sort = s }, in_right (bound_columns f) (record { name = u; sort = s } ∷ []) (record { name = u; sort = s }) (contains_first (record { name = u; sort = s }) []), of_data s u v e, named s u v e)
-  | inr d ↦ let r = bound_text f v d in (r.0, in_left (bound_columns f) (record { name = u; sort = s } ∷ []) r.0 r.1, r.2, r.3)
-]
-  where
-    of_data : (s : Sort) (u v : Identifier) → bound_by s u ≡ data_variable v → is_data s ≡ true
-    of_data Time u v e = cc
-    of_data Data u v e = refl
-    of_data (Named n) u v e = refl
-
-    named : (s : Sort) (u v : Identifier) → bound_by s u ≡ data_variable v → u ≡ v
-    named Time u v e = cc
-    named Data u v e = cc
-    named (Named n) u v e = cc
-bound_text (conjunction fs) v c = absurd (contains_none (data_variable v) c)
-bound_text (atom name terms) v c = absurd (contains_none (data_variable v) c)
-bound_text (test t) v c = absurd (contains_none (data_variable v) c)
-bound_text (sorted s u) v c = absurd (contains_none (data_variable v) c)
-bound_text (negation f) v c = absurd (contains_none (data_variable v) c)
-bound_text (disjunction fs) v c = absurd (contains_none (data_variable v) c)
-bound_text (implication f g) v c = absurd (contains_none (data_variable v) c)
-bound_text (forall u s f) v c = absurd (contains_none (data_variable v) c)
+text_bound : (s : Sort) (u v : Identifier) → bound_by s u ≡ data_variable v → (is_data s ≡ true) × (u ≡ v)
+text_bound Time u v e = cc
+text_bound Data u v e = (refl, cc)
+text_bound (Named n) u v e = (refl, cc)
 
 -- ---- a disjunct
 
-module _ (names : List Identifier) (f : Form) (d : Disjunct) (is : IsDisjunctOf names f d) (literal : some_passes is_neither (elements f) ≡ false) where
+module _ (names : List Identifier) (f : Form) (d : Disjunct) (is : IsDisjunctOf names f d) (literal : some_passes is_neither (kept_elements f) ≡ false) where
   module _ (i : ℕ) (a : JoinedAtom) (at : slice_get d.atoms.items i ≡ Some a) where
     -- the variables of an atom are of the disjunct's elements
-    pub time_occurs : (v : Identifier) → Contains a.vars.times v → Contains (free_each (elements f)) (time_variable v)
+    pub time_occurs : (v : Identifier) → Contains a.vars.times v → Contains (free_each (kept_elements f)) (time_variable v)
     time_occurs v c = elim (some_times d.tests [] [] d.atoms.items is.joined i a at v c) [
       | inl n ↦ absurd (contains_none v n)
       | inr r ↦ let x = zip_back (IsAtomOf names) (atoms f) d.atoms.items r.0 is.atoms_are r.1 in
-          free_of (elements f) x.0 (time_variable v) literal (subst (λ xs. Contains xs x.0) (atoms_are f) x.1) (times_free x.0.terms v (subst (λ ts. Contains (flat_map times_of_term ts) v) x.2.terms r.2))
+          free_of (kept_elements f) x.0 (time_variable v) literal (subst (λ xs. Contains xs x.0) (atoms_are f) x.1) (time_named x.0.terms v (subst (λ ts. Contains (flat_map times_of_term ts) v) x.2.terms r.2))
     ]
 
-    pub text_occurs : (v : Identifier) → Contains a.vars.texts v → Contains (free_each (elements f)) (data_variable v)
+    pub text_occurs : (v : Identifier) → Contains a.vars.texts v → Contains (free_each (kept_elements f)) (data_variable v)
     text_occurs v c = elim (some_terms d.tests [] [] d.atoms.items is.joined i a at v c) [
       | inl n ↦ absurd (contains_none v n)
       | inr r ↦ let x = zip_back (IsAtomOf names) (atoms f) d.atoms.items r.0 is.atoms_are r.1 in
-          free_of (elements f) x.0 (data_variable v) literal (subst (λ xs. Contains xs x.0) (atoms_are f) x.1) (texts_free x.0.terms v (subst (λ ts. Contains (flat_map texts_of_term ts) v) x.2.terms r.2))
+          free_of (kept_elements f) x.0 (data_variable v) literal (subst (λ xs. Contains xs x.0) (atoms_are f) x.1) (text_named x.0.terms v (subst (λ ts. Contains (flat_map texts_of_term ts) v) x.2.terms r.2))
     ]
 
     times_pairs : AllPairs ◌≢◌ a.vars.times
@@ -280,16 +235,16 @@ module _ (names : List Identifier) (f : Form) (d : Disjunct) (is : IsDisjunctOf 
 
     carried : (g : Ground) → ((t : Test) → Contains d.tests t → (pos 1 ≤ℤ test_period t) × Divides (test_period t) (pos g.period)) → (t : Test) → Contains a.tests t → CanBeCarried a.vars.times a.vars.texts (pos g.period) t
     carried g periods t c =
-        let r = in_kept (is_covered a.vars.times a.vars.texts) d.tests t (subst (λ ts. Contains ts t) (own_tests d.tests [] [] d.atoms.items is.joined i a at) c) in
+        let r = in_kept (is_test_covered a.vars.times a.vars.texts) d.tests t (subst (λ ts. Contains ts t) (own_tests d.tests [] [] d.atoms.items is.joined i a at) c) in
         let e = each_true (list_all (λ v. list_any (bytes_eq v) a.vars.times) (times_of_test t)) (list_all (λ v. list_any (bytes_eq v) a.vars.texts) (texts_of_test t)) r.1 in
         let p = periods t r.0 in
         record { times_known = all_found a.vars.times (times_of_test t) e.0; texts_known = all_found a.vars.texts (texts_of_test t) e.1; low = p.0; divides = p.1 }
 
-    pub can_be_joined : (g : Ground) → IsNarrow (free_each (elements f)) → ((t : Test) → Contains d.tests t → (pos 1 ≤ℤ test_period t) × Divides (test_period t) (pos g.period)) → CanBeJoinedAt g a
+    pub can_be_joined : (g : Ground) → IsNarrow (free_each (kept_elements f)) → ((t : Test) → Contains d.tests t → (pos 1 ≤ℤ test_period t) × Divides (test_period t) (pos g.period)) → CanBeJoinedAt g a
     can_be_joined g narrow periods = record {
       differ = pairs_append ◌≢◌ a.vars.times a.vars.texts times_pairs texts_pairs (λ x y c k e. narrow.kinds x (time_occurs x c) (text_occurs x (subst (λ z. Contains a.vars.texts z) (sym e) k)));
-      few_times = narrow.times a.vars.times (distinct_from a.vars.times times_pairs) (all_by (λ v. Contains (free_each (elements f)) (time_variable v)) a.vars.times time_occurs);
-      few_texts = narrow.texts a.vars.texts (distinct_from a.vars.texts texts_pairs) (all_by (λ v. Contains (free_each (elements f)) (data_variable v)) a.vars.texts text_occurs);
+      few_times = narrow.times a.vars.times (distinct_from a.vars.times times_pairs) (all_by (λ v. Contains (free_each (kept_elements f)) (time_variable v)) a.vars.times time_occurs);
+      few_texts = narrow.texts a.vars.texts (distinct_from a.vars.texts texts_pairs) (all_by (λ v. Contains (free_each (kept_elements f)) (data_variable v)) a.vars.texts text_occurs);
       times_known = own_times d.tests [] [] d.atoms.items is.joined i a at;
       texts_known = own_texts d.tests [] [] d.atoms.items is.joined i a at;
       tests = all_by (CanBeCarried a.vars.times a.vars.texts (pos g.period)) a.tests (carried g periods);
@@ -304,11 +259,11 @@ module _ (names : List Identifier) (f : Form) (d : Disjunct) (is : IsDisjunctOf 
         few_texts = few_texts;
         times = λ v c. elim (free_or_bound f (time_variable v) (time_occurs v (subst (λ ns. Contains ns v) t c))) [
           | inl k ↦ inl (head_time g.head v (known (time_variable v) k))
-          | inr b ↦ let r = bound_time f v b in inr (record { column = r.0; listed = subst (λ cs. Contains cs r.0) (sym is.bound_are) r.1; sort = r.2; named = r.3 })
+          | inr b ↦ let r = bound_column f (time_variable v) b in let n = time_bound r.0.sort r.0.name v r.2 in inr (record { column = r.0; listed = subst (λ cs. Contains cs r.0) (sym is.bound_are) r.1; sort = n.0; named = n.1 })
         ];
         texts = λ v c. elim (free_or_bound f (data_variable v) (text_occurs v (subst (λ ns. Contains ns v) x c))) [
           | inl k ↦ inl (head_text g.head v (known (data_variable v) k))
-          | inr b ↦ let r = bound_text f v b in inr (record { column = r.0; listed = subst (λ cs. Contains cs r.0) (sym is.bound_are) r.1; sort = r.2; named = r.3 })
+          | inr b ↦ let r = bound_column f (data_variable v) b in let n = text_bound r.0.sort r.0.name v r.2 in inr (record { column = r.0; listed = subst (λ cs. Contains cs r.0) (sym is.bound_are) r.1; sort = n.0; named = n.1 })
         ];
       };
     }

@@ -6,21 +6,19 @@ use Rattle.lrp_plan_laws.proofs.Members.{in_left, in_right, in_one}
 use Rattle.lrp_zone.proofs.Cases.{eq_or}
 use Rattle.lrp_parts.specs.Derivations.{Ground, IsLastKey, IsWithoutKey}
 use Rattle.lrp_kept.specs.Keys.{keys_in, keys_of}
-use Rattle.lrp_kept.specs.Keyed.{AreHeldRows, AreRelisted, IsHeldBehind, IsLetGoAt, StandOnce}
+use Rattle.lrp_kept.specs.Keyed.{AreHeldRows, AreRelisted, IsHeldBehind, IsLetGoAt, HaveOwnKeys}
 use Rattle.lrp_kept.specs.declared.rows.HeldRows.{HeldRows}
-use Rattle.lrp_kept.specs.declared.rows.Source.{Source}
-use Rattle.lrp_parts.proofs.Parted.{at_is}
+use Rattle.lrp_kept.specs.declared.rows.HeldRow.{HeldRow}
 use Rattle.lrp_parts.proofs.Without.{with_rows}
+use Rattle.lrp_parts.proofs.PartTables.{one_source}
+use Rattle.lrp_plan_laws.proofs.Elements.{found}
 
-not_both : (x : Option Source) (s : Source) → x ≡ None → x ≡ Some s → ⊥
+not_both : (x : Option HeldRow) (s : HeldRow) → x ≡ None → x ≡ Some s → ⊥
 not_both x s e f = let y : None ≡ Some s = sym e ∙ f in cc
-
-one_source : (x : Option Source) (s t : Source) → x ≡ Some s → x ≡ Some t → s ≡ t
-one_source x s t e f = let y : Some s ≡ Some t = sym e ∙ f in cc
 
 -- ---- keys of their own
 
-once_front : (front back : List ℕ) (key : ℕ) → StandOnce (front ++ key ∷ back) → Contains (front ++ back) key → ⊥
+once_front : (front back : List ℕ) (key : ℕ) → HaveOwnKeys (front ++ key ∷ back) → Contains (front ++ back) key → ⊥
 once_front [] back key h i = h.0 i
 once_front (k ∷ front) back key h i = elim (cons_cases k key (front ++ back) i) [
   | inl e ↦ h.0 (subst (λ x. Contains (front ++ key ∷ back) x) (sym e) (in_right front (key ∷ back) key (contains_first key back)))
@@ -36,11 +34,11 @@ in_fewer front back key k i n = elim (in_one front (key ∷ back) k i) [
 in_more : (front back : List ℕ) (key k : ℕ) → Contains (front ++ back) k → Contains (front ++ key ∷ back) k
 in_more front back key k i = elim (in_one front back k i) [ inl f ↦ in_left front (key ∷ back) k f | inr b ↦ in_right front (key ∷ back) k (contains_later key k back b) ]
 
-once_fewer : (front back : List ℕ) (key : ℕ) → StandOnce (front ++ key ∷ back) → StandOnce (front ++ back)
+once_fewer : (front back : List ℕ) (key : ℕ) → HaveOwnKeys (front ++ key ∷ back) → HaveOwnKeys (front ++ back)
 once_fewer [] back key h = h.1
 once_fewer (k ∷ front) back key h = ((λ i. h.0 (in_more front back key k i)), once_fewer front back key h.1)
 
-once_more : (keys : List ℕ) (key : ℕ) → StandOnce keys → (Contains keys key → ⊥) → StandOnce (keys ++ key ∷ [])
+once_more : (keys : List ℕ) (key : ℕ) → HaveOwnKeys keys → (Contains keys key → ⊥) → HaveOwnKeys (keys ++ key ∷ [])
 once_more [] key h none = ((λ i. let l : i.0 < 0 = i.1 in omega (arith, l)), tt)
 once_more (k ∷ keys) key h none = (
   (λ i. elim (in_one keys (key ∷ []) k i) [
@@ -57,11 +55,11 @@ module _ (number : ℕ) (keys : List ℕ) (old new : HeldRows) (x : AreRelisted 
   keys_there i n = ap keys_in (x.rest i n)
 
   pub keys_here : number < length old.relations.items → keys_of new number ≡ keys
-  keys_here low = let r = at_is old.relations.items number low in let s = x.at r.0 r.1 in ap keys_in s.1 ∙ s.2.keys_are
+  keys_here low = let r = found old.relations.items number low in let s = x.at r.0 r.1 in ap keys_in s.1 ∙ s.2.keys_are
 
 -- ---- a row more
 
-module _ (source : Source) (key : ℕ) (old new : HeldRows) (low : source.relation < length old.relations.items) (rows : AreHeldRows old) (w : IsHeldBehind source key old new) where
+module _ (source : HeldRow) (key : ℕ) (old new : HeldRows) (low : source.relation < length old.relations.items) (rows : AreHeldRows old) (w : IsHeldBehind source key old new) where
   abbrev own : ℕ
   own = source.relation
 
@@ -109,8 +107,8 @@ module _ (source : Source) (key : ℕ) (old new : HeldRows) (low : source.relati
       | inr n ↦ let s = rows.there i k (held_without.from i k c n) in record { source = s.source; held = w.others k n ∙ s.held; relation_is = s.relation_is }
     ];
     once = λ i. elim (eq_or i own) [
-      | inl e ↦ subst (λ m. StandOnce (keys_of new m)) (sym e) (subst (λ l. StandOnce l) (sym here) (once_more (keys_of old own) key (rows.once own) (not_listed own)))
-      | inr n ↦ subst (λ l. StandOnce l) (sym (there i n)) (rows.once i)
+      | inl e ↦ subst (λ m. HaveOwnKeys (keys_of new m)) (sym e) (subst (λ l. HaveOwnKeys l) (sym here) (once_more (keys_of old own) key (rows.once own) (not_listed own)))
+      | inr n ↦ subst (λ l. HaveOwnKeys l) (sym (there i n)) (rows.once i)
     ];
   }
     where
@@ -134,7 +132,7 @@ module _ (relation place key : ℕ) (old new : HeldRows) (low : relation < lengt
   alone i c =
       let s = rows.there i key c in
       let t = rows.there relation key was_listed in
-      sym s.relation_is ∙ ap (λ (x : Source). x.relation) (one_source (get old.sources key) s.source t.source s.held t.held) ∙ t.relation_is
+      sym s.relation_is ∙ ap (λ (x : HeldRow). x.relation) (one_source (get old.sources key) s.source t.source s.held t.held) ∙ t.relation_is
 
   pub let_go_without : IsWithoutKey old new key
   let_go_without = record {
@@ -142,7 +140,7 @@ module _ (relation place key : ℕ) (old new : HeldRows) (low : relation < lengt
       | inl e ↦
           let d : Contains (w.front ++ w.back) k = subst (λ l. Contains l k) now_here (subst (λ m. Contains (keys_of new m) k) e c) in (
             subst (λ m. Contains (keys_of old m) k) (sym e) (subst (λ l. Contains l k) (sym w.were) (in_more w.front w.back key k d)),
-            λ s. once_front w.front w.back key (subst (λ l. StandOnce l) w.were (rows.once relation)) (subst (λ x. Contains (w.front ++ w.back) x) s d),
+            λ s. once_front w.front w.back key (subst (λ l. HaveOwnKeys l) w.were (rows.once relation)) (subst (λ x. Contains (w.front ++ w.back) x) s d),
           )
       | inr n ↦
           let d : Contains (keys_of old i) k = subst (λ l. Contains l k) (now_there i n) c in
@@ -159,7 +157,7 @@ module _ (relation place key : ℕ) (old new : HeldRows) (low : relation < lengt
   let_go_rows = record {
     there = λ i k c. let x = let_go_without.to i k c in let s = rows.there i k x.0 in record { source = s.source; held = w.others k x.1 ∙ s.held; relation_is = s.relation_is };
     once = λ i. elim (eq_or i relation) [
-      | inl e ↦ subst (λ m. StandOnce (keys_of new m)) (sym e) (subst (λ l. StandOnce l) (sym now_here) (once_fewer w.front w.back key (subst (λ l. StandOnce l) w.were (rows.once relation))))
-      | inr n ↦ subst (λ l. StandOnce l) (sym (now_there i n)) (rows.once i)
+      | inl e ↦ subst (λ m. HaveOwnKeys (keys_of new m)) (sym e) (subst (λ l. HaveOwnKeys l) (sym now_here) (once_fewer w.front w.back key (subst (λ l. HaveOwnKeys l) w.were (rows.once relation))))
+      | inr n ↦ subst (λ l. HaveOwnKeys l) (sym (now_there i n)) (rows.once i)
     ];
   }

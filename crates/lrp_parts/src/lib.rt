@@ -9,4 +9,4 @@ mod parts;
 mod patterns;
 
 pub use derivation::Derived;
-pub use parts::Setting;
+pub use parts::DerivationSetting;

@@ -15,7 +15,7 @@ use Rattle.lrp_top.specs.Due.{IsDueOf, IsDueFor, IsDatabaseReadOf, IsOutput, IsA
 use Rattle.lrp_run_laws.specs.Contents.{Contents, contents_at, digest_of, OverDatabase, OverQuery, Asking, SaysRelations, two_files}
 use Rattle.lrp_run_laws.specs.Tasks.{IsOutputOf, TellsPlanOf, TellsPageBehind}
 use Rattle.lrp_run_laws.specs.Runs.{Run, WroteAll}
-use Rattle.lrp_run_laws.specs.Reasons.{IsRefusedBehind, HasMany, HasManyRows, IsNoDatabase, IsNoQuery, IsNoTokenOf, IsAbove, IsDatabaseRefused, IsQueryRefused, IsQueryAbove, HasFailedFile, HasFailedOneOf, IsReason, HasReasonFor, HasTaskReason, IsUsage}
+use Rattle.lrp_run_laws.specs.Reasons.{IsRefusedBehind, HasMany, HasManyRows, IsNoDatabase, IsNoQuery, IsNoTokenOf, IsAboveLimits, IsDatabaseRefused, IsQueryRefused, IsQueryAbove, HasFailedFile, HasFailedOneOf, IsReason, HasReasonFor, HasTaskReason, IsUsage}
 use Rattle.lrp_top.specs.Canonical.{IsCanonicalText}
 use Rattle.lrp_outputs.specs.Outcomes.{Outcome, refused_with, status_of, written_of, line_of}
 use Rattle.lrp_top.specs.Ends.{Ends}
@@ -40,7 +40,7 @@ abbrev RefusedFor : Asked → Contents → Type 0
 RefusedFor a files = OverDatabase a.civil files (λ db. IsNoQuery files a.tense db ⊎ OverQuery a.tense files (IsRefusedBehind a.canon (digest_of files) a.after) db)
 
 abbrev AboveFor : Asked → Contents → Type 0
-AboveFor a files = OverDatabase a.civil files (OverQuery a.tense files (IsAbove a.canon a.cap))
+AboveFor a files = OverDatabase a.civil files (OverQuery a.tense files (IsAboveLimits a.canon a.cap))
 
 -- why the task is refused with a status
 abbrev RefusalFor : Asked → Contents → ShelfSeen → Status → Type 0

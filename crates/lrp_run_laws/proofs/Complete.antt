@@ -29,7 +29,7 @@ use Rattle.lrp_token.specs.Reading.{IsNoToken, HasOtherCounts}
 use Rattle.lrp_run_laws.specs.Contents.{Contents, digest_of, Keeping, OverDatabase, OverEdits, OverQuery, Asking, SaysRelations, Watching, WhereKept, contents_of}
 use Rattle.lrp_run_laws.specs.Tasks.{IsAnswerable, IsLawfulTask, IsResumable, HasFewCells, PassesLimit}
 use Rattle.lrp_run_laws.specs.Runs.{IsRunOf, IsComplete, EndsComplete, Run, task_asked, HaveStoodStill}
-use Rattle.lrp_run_laws.specs.Reasons.{HasManyRows, HasOtherHead, IsRefusedBehind, IsReason, HasReasonFor, HasTaskReason, AreNoEdits, IsNoDatabase, IsNoQuery, IsNoTokenOf, HasMany, IsAbove, IsDatabaseRefused, IsQueryRefused, IsQueryAbove, HasFailedFile, HasFailedOneOf}
+use Rattle.lrp_run_laws.specs.Reasons.{HasManyRows, HasOtherHead, IsRefusedBehind, IsReason, HasReasonFor, HasTaskReason, AreNoEdits, IsNoDatabase, IsNoQuery, IsNoTokenOf, HasMany, IsAboveLimits, IsDatabaseRefused, IsQueryRefused, IsQueryAbove, HasFailedFile, HasFailedOneOf}
 use Rattle.lrp_top.specs.Resuming.{IsResumed, IsFresh, IsTokenOf, IsStale, shape_of}
 use Rattle.lrp_top.specs.Seen.{ShelfSeen, SinkSeen, HasFailed}
 use Rattle.lrp_top.specs.Written.{IsSortedAs, IsFaultyAs, plain_if}
@@ -145,7 +145,7 @@ no_many : (cap : Option ℕ) (db : List Relation) (q : Question) → IsFew cap d
 no_many None db q few h = h
 no_many (Some cap) db q few h = few h.0 h.1.is
 
-no_above : (canon : Bool) (cap : Option ℕ) (digest : List ℕ) (after : Option Text) (db : List Relation) (q : Question) → IsWithinLimits db q → IsFree canon cap after digest db q → IsAbove canon cap db q → ⊥
+no_above : (canon : Bool) (cap : Option ℕ) (digest : List ℕ) (after : Option Text) (db : List Relation) (q : Question) → IsWithinLimits db q → IsFree canon cap after digest db q → IsAboveLimits canon cap db q → ⊥
 no_above canon cap digest after db q limits free h = elim h [
   | inl above ↦ let within : period db q.body ≤ 2 ^ 62 = limits.period in omega arith
   | inr more ↦ elim more [
@@ -185,13 +185,13 @@ module _ (texts : DatabaseTexts) (canon tense civil : Bool) (queries : QueryText
   pub query_stands : OverDatabase civil files (λ db. IsNoQuery files tense db ⊎ OverQuery tense files (IsRefusedBehind canon (digest_of files) after) db) → ⊥
   query_stands h = query_here (subst (λ db. IsNoQuery files tense db ⊎ OverQuery tense files (IsRefusedBehind canon (digest_of files) after) db) (same_database h.db h.says) h.holds)
 
-  above_here : OverQuery tense files (IsAbove canon cap) free.db → ⊥
+  above_here : OverQuery tense files (IsAboveLimits canon cap) free.db → ⊥
   above_here over =
       let same : over.q ≡ free.holds.q = queries.one free.db files.query over.q free.holds.q over.says.is free.holds.says.is in
-      no_above canon cap (digest_of files) after free.db free.holds.q free.holds.holds.limits free.holds.holds.holds (subst (λ q. IsAbove canon cap free.db q) same over.holds)
+      no_above canon cap (digest_of files) after free.db free.holds.q free.holds.holds.limits free.holds.holds.holds (subst (λ q. IsAboveLimits canon cap free.db q) same over.holds)
 
-  pub limits_stand : OverDatabase civil files (OverQuery tense files (IsAbove canon cap)) → ⊥
-  limits_stand h = above_here (subst (OverQuery tense files (IsAbove canon cap)) (same_database h.db h.says) h.holds)
+  pub limits_stand : OverDatabase civil files (OverQuery tense files (IsAboveLimits canon cap)) → ⊥
+  limits_stand h = above_here (subst (OverQuery tense files (IsAboveLimits canon cap)) (same_database h.db h.says) h.holds)
 
 -- ---- a watch
 
@@ -291,7 +291,7 @@ module _ (texts : DatabaseTexts) (queries : (tense : Bool) → QueryTexts tense)
 
   asked_so : (task : Task) (canon tense civil : Bool) (cap : Option ℕ) (after : Option Text) → Asking tense civil files (IsFree canon cap after (digest_of files)) → HaveStoodStill task run
       → (HasFailedFile run.seen files task → ⊥) → (IsDatabaseRefused files task → IsNoDatabase files civil) → (IsQueryRefused files task → OverDatabase civil files (λ db. IsNoQuery files tense db ⊎ OverQuery tense files (IsRefusedBehind canon (digest_of files) after) db))
-      → (IsQueryAbove files task → OverDatabase civil files (OverQuery tense files (IsAbove canon cap)))
+      → (IsQueryAbove files task → OverDatabase civil files (OverQuery tense files (IsAboveLimits canon cap)))
       → (ended : Status) → IsReason ended task files run.seen run.taken → EndsComplete ended task files run.taken
   asked_so task canon tense civil cap after free still failed database query above =
       comes_so task files run.seen run.taken

@@ -12,7 +12,7 @@ use Rattle.lrp_model.specs.declared.relations.Relation.{Relation}
 use Rattle.lrp_model.specs.declared.relations.Row.{Row}
 use Rattle.lrp_edits.specs.EditReading.{IsEditsFault, SaysEdits}
 use Rattle.lrp_edits.specs.declared.edits.Edit.{Edit}
-use Rattle.lrp_kept.specs.Choices.{HasLargePart}
+use Rattle.lrp_kept.specs.Choices.{HasLargeChoicePart}
 use Rattle.lrp_kept.specs.EqualRows.{AreEqualRows}
 use Rattle.lrp_kept.specs.KeptForm.{is_kept}
 use Rattle.lrp_kept.specs.Limits.{scaled_kept_reach, names_relation, raised_period, row_bound}
@@ -20,7 +20,7 @@ use Rattle.lrp_keep.specs.Keeps.{HasNoEqual, IsTakenOut, IsWithout, KeepView, op
 use Rattle.lrp_keep.specs.Replaced.{replaced}
 use Rattle.lrp_keep.specs.declared.faults.KeepFault.{KeepFault}
 use Rattle.lrp_keep.specs.declared.faults.KeepFault.TheVariants as limit
-use Rattle.lrp_watch.specs.Edits.{AreMade, IsMade, IsMadeBy, IsRefusedEdit, last_kept}
+use Rattle.lrp_watch.specs.Edits.{AreMade, IsEditMade, IsMadeBy, IsRefusedEdit, last_kept}
 use Rattle.lrp_outputs.specs.First.{IsFirst, first_line}
 use Rattle.lrp_watch.specs.Watching.{IsOpened, IsPassed, TellsLeasts, watched_constants}
 use Rattle.lrp_outputs.specs.Outcomes.{Outcome}
@@ -99,7 +99,7 @@ held_as r k = record { query = r; domain = k.domain; cap = k.cap; relations = k.
 abbrev Cause : Question → KeepView → KeepFault → Type 0
 Cause q k limit.PeriodLimit = 2 ^ 62 < k.period
 Cause q k limit.BoundLimit = (k.period ≤ 2 ^ 62) × (2 ^ 62 < scaled_kept_reach k.relations k.bounds k.period q)
-Cause q k limit.TooManyCells = (k.period ≤ 2 ^ 62) × (scaled_kept_reach k.relations k.bounds k.period q ≤ 2 ^ 62) × HasLargePart k.relations q k.domain k.period k.cap
+Cause q k limit.TooManyCells = (k.period ≤ 2 ^ 62) × (scaled_kept_reach k.relations k.bounds k.period q ≤ 2 ^ 62) × HasLargeChoicePart k.relations q k.domain k.period k.cap
 Cause q k limit.Memory = Unit {0}
 
 cause_to : (k : KeepView) (fault : KeepFault) → IsPastLimit k fault → Cause (question_of k.query) k fault
@@ -191,7 +191,7 @@ made_twin false name row k l next other twin (inr a) (inl b) = taken_or_none row
 made_twin false name row k l next other twin (inr a) (inr b) = subst (λ (m : KeepView). AreTwins m other) (sym a.1) (subst (λ (m : KeepView). AreTwins k m) (sym b.1) twin)
 
 -- an edit is not made and refused
-made_or_refused : (e : Edit) (k l next : KeepView) (fault : KeepFault) → fault ≢ limit.Memory → AreTwins k l → IsMade e k next → IsRefusedEdit e l fault → ⊥
+made_or_refused : (e : Edit) (k l next : KeepView) (fault : KeepFault) → fault ≢ limit.Memory → AreTwins k l → IsEditMade e k next → IsRefusedEdit e l fault → ⊥
 made_or_refused e k l next fault some twin made refused = by e.add refused.adds made
   where
     by : (add : Bool) → add ≡ true → IsMadeBy add e.relation e.row k next → ⊥
@@ -210,13 +210,13 @@ all_or_passed [] (b ∷ bs) behind e k l later others fault some twin are made b
 all_or_passed (x ∷ es) [] behind e k l [] others fault some twin are made before refused = made
 all_or_passed (x ∷ es) [] behind e k l (next ∷ later) others fault some twin are made before refused =
     let same : x ≡ e = cc in
-    made_or_refused e k l next fault some twin (subst (λ y. IsMade y k next) same made.0) (subst (λ (ks : List KeepView). IsRefusedEdit e (last_kept l ks) fault) before refused)
+    made_or_refused e k l next fault some twin (subst (λ y. IsEditMade y k next) same made.0) (subst (λ (ks : List KeepView). IsRefusedEdit e (last_kept l ks) fault) before refused)
 all_or_passed (x ∷ es) (b ∷ bs) behind e k l [] others fault some twin are made before refused = made
 all_or_passed (x ∷ es) (b ∷ bs) behind e k l (next ∷ later) [] fault some twin are made before refused = before
 all_or_passed (x ∷ es) (b ∷ bs) behind e k l (next ∷ later) (other ∷ others) fault some twin are made before refused =
     let same : x ≡ b = cc in
     let rest : es ≡ bs ++ e ∷ behind = cc in
-    all_or_passed es bs behind e next other later others fault some (made_twin b.add b.relation b.row k l next other twin (subst (λ y. IsMade y k next) same made.0) before.0) rest made.1 before.1 refused
+    all_or_passed es bs behind e next other later others fault some (made_twin b.add b.relation b.row k l next other twin (subst (λ y. IsEditMade y k next) same made.0) before.0) rest made.1 before.1 refused
 
 -- two refused edits are one
 one_passed : (front before : List Edit) (d e : Edit) (rest behind : List Edit) (k l : KeepView) (later others : List KeepView) (fault other : KeepFault) → fault ≢ limit.Memory → other ≢ limit.Memory → AreTwins k l
@@ -240,7 +240,7 @@ one_passed (y ∷ front) (x ∷ before) d e rest behind k l (next ∷ later) [] 
 one_passed (y ∷ front) (x ∷ before) d e rest behind k l (next ∷ later) (last ∷ others) fault other some more twin are a b r s =
     let same : y ≡ x = cc in
     let tail : front ++ d ∷ rest ≡ before ++ e ∷ behind = cc in
-    let both = one_passed front before d e rest behind next last later others fault other some more (made_twin x.add x.relation x.row k l next last twin (subst (λ z. IsMade z k next) same a.0) b.0) tail a.1 b.1 r s in
+    let both = one_passed front before d e rest behind next last later others fault other some more (made_twin x.add x.relation x.row k l next last twin (subst (λ z. IsEditMade z k next) same a.0) b.0) tail a.1 b.1 r s in
     (ap suc both.0, both.1)
 
 -- the states of two watches

@@ -82,8 +82,8 @@ HasManyRows None db q = ⊥
 HasManyRows (Some cap) db q = (n : ℕ) × HasCanonicalRows db q n × (cap < n)
 
 -- the period is above the greatest number, the scaled reach is, a step has more than cap cells, or a canonical answer is asked for and has more than cap rows
-abbrev pub IsAbove : Bool → Option ℕ → List Relation → Question → Type 0
-IsAbove canon cap db q = (greatest_number < period db q.body) ⊎ (greatest_number < scaled_reach db q) ⊎ HasMany cap db q ⊎ ((canon ≡ true) × HasManyRows cap db q)
+abbrev pub IsAboveLimits : Bool → Option ℕ → List Relation → Question → Type 0
+IsAboveLimits canon cap db q = (greatest_number < period db q.body) ⊎ (greatest_number < scaled_reach db q) ⊎ HasMany cap db q ⊎ ((canon ≡ true) × HasManyRows cap db q)
 
 -- there is no database; or, for a watch, there are one and a query over it in kept form, and there are no edits
 abbrev pub IsDatabaseRefused : Contents → Task → Type 0
@@ -98,7 +98,7 @@ IsQueryRefused files task = OfQuery (λ canon tense civil after cap. OverDatabas
 -- there is a query over the database, and it is above a limit, or for a watch some edit is
 abbrev pub IsQueryAbove : Contents → Task → Type 0
 IsQueryAbove files (watch database query edits cap) = Watching files (PassesLimit cap)
-IsQueryAbove files task = OfQuery (λ canon tense civil after cap. OverDatabase civil files (OverQuery tense files (IsAbove canon cap))) task
+IsQueryAbove files task = OfQuery (λ canon tense civil after cap. OverDatabase civil files (OverQuery tense files (IsAboveLimits canon cap))) task
 
 -- the count of faults of the database's name rose; or there is a database, and that of the query's name rose
 abbrev pub HasFailedOneOf : ShelfSeen → Contents → Bool → Identifier → Identifier → Type 0

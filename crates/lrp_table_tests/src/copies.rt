@@ -1,6 +1,6 @@
 // Copies of tables, answers and forms succeed. That one that succeeds is equal is a clause.
 use crate::parts::{answer, list, name, sixths};
-use lrp_list::{Form, JsonTexts};
+use lrp_answer_text::{Form, JsonTexts};
 use lrp_model::{Copies, DataText, Domain, List};
 use lrp_tables::{Table, Vars};
 use std::alloc::Global;

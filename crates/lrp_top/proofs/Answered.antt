@@ -17,7 +17,7 @@ use Rattle.lrp_model.specs.Satisfaction.{HasShape}
 use Rattle.lrp_model.specs.declared.relations.Column.{Column}
 use Rattle.lrp_model.specs.declared.tuples.Shape.{Shape}
 use Rattle.lrp_model.specs.declared.tuples.Spot.{Spot}
-use Rattle.lrp_minus.specs.Settling.{IsSmallZone}
+use Rattle.lrp_cutting.specs.Settling.{IsSmallZone}
 use Rattle.lrp_outputs.specs.SmallAnswers.{IsSmallAnswer}
 use Rattle.lrp_plan_laws.specs.Rising.{IsRising, period_at}
 use Rattle.lrp_zone.specs.Zones.{reach_of}
@@ -25,7 +25,7 @@ use Rattle.lrp_store.specs.Least.{IsLeastSpot, StandsFor}
 use Rattle.lrp_store.specs.Stores.{StoreView, tables_at, zone_of}
 use Rattle.lrp_store.specs.Tables.{InAnswer}
 use Rattle.lrp_answers.specs.declared.answer.Answer.{Answer}
-use Rattle.lrp_list.specs.Lines.{spot_tuple}
+use Rattle.lrp_answers.specs.Spots.{spot_tuple}
 use Rattle.lrp_canon.specs.Canonical.{CanMakeCanonical}
 use Rattle.lrp_eval.specs.Answered.{IsAnswerOf}
 use Rattle.lrp_top.proofs.Lists.{in_map}

@@ -20,11 +20,11 @@ use Rattle.lrp_model.specs.declared.tuples.Tuple.{Tuple as ToldTuple}
 use Rattle.lrp_answers.specs.declared.answer.Answer.{Answer}
 use Rattle.lrp_eval.specs.Answered.{IsAnswerOf}
 use Rattle.lrp_store.specs.Tables.{InAnswer}
-use Rattle.lrp_list.specs.Giving.{Gives, IsFirstTuple}
-use Rattle.lrp_list.specs.Lines.{is_json}
+use Rattle.lrp_list.specs.Giving.{GivesTuples, IsFirstTuple}
+use Rattle.lrp_answer_text.specs.Lines.{is_json}
 use Rattle.lrp_list.specs.Listing.{AreEnds, HasNoneLeft, HasShapeOf, IsFirstLeft, IsLeft, WindowView, window_tuple, window_of}
 use Rattle.lrp_token.specs.Reading.{HasCounts}
-use Rattle.lrp_outputs.specs.Known.{HasTimes, IsKnown}
+use Rattle.lrp_outputs.specs.Known.{HasTimes, IsKnownSpot}
 use Rattle.lrp_top.specs.Standing.{IsStanding}
 use Rattle.lrp_outputs.specs.Spots.{answer_tuple}
 use Rattle.lrp_outputs.specs.Outputs.{page_text}
@@ -36,7 +36,7 @@ use Rattle.lrp_top.proofs.Answered.{HaveKnownTexts, same_page}
 
 -- ---- one more
 
-gives_more : (w : WindowView) (p e : Option Tuple) (ts : List Tuple) (t : Tuple) → Gives w p ts e → IsFirstTuple w e t → Gives w p (ts ++ t ∷ []) (Some t)
+gives_more : (w : WindowView) (p e : Option Tuple) (ts : List Tuple) (t : Tuple) → GivesTuples w p ts e → IsFirstTuple w e t → GivesTuples w p (ts ++ t ∷ []) (Some t)
 gives_more w p e [] t g f = (subst (λ o. IsFirstTuple w o t) (sym g) f, refl)
 gives_more w p e (u ∷ us) t g f = (g.0, gives_more w (Some u) e us t g.1 f)
 
@@ -49,10 +49,10 @@ length_more [] x = omega arith
 length_more (y ∷ ys) x = let r : length (ys ++ x ∷ []) ≡ length ys + 1 = length_more ys x in omega arith
 
 -- what stands for the first tuple that is left is given next
-pub given_next : (w v : WindowView) (p e : Option Tuple) (spots : List Spot) (spot : Spot) → v ≡ w → Gives w p (map (window_tuple w) spots) e → IsFirstLeft v e spot → Gives w p (map (window_tuple w) (spots ++ spot ∷ [])) (Some (window_tuple v spot))
+pub given_next : (w v : WindowView) (p e : Option Tuple) (spots : List Spot) (spot : Spot) → v ≡ w → GivesTuples w p (map (window_tuple w) spots) e → IsFirstLeft v e spot → GivesTuples w p (map (window_tuple w) (spots ++ spot ∷ [])) (Some (window_tuple v spot))
 given_next w v p e spots spot same g f =
-    let P : WindowView → Type 0 = λ u. IsFirstLeft u e spot → Gives w p (map (window_tuple w) (spots ++ spot ∷ [])) (Some (window_tuple u spot)) in
-    subst P (sym same) (λ h. subst (λ ts. Gives w p ts (Some (window_tuple w spot))) (sym (map-append (window_tuple w) spots (spot ∷ []))) (gives_more w p e (map (window_tuple w) spots) (window_tuple w spot) g (record { is = h.is; first = h.first }))) f
+    let P : WindowView → Type 0 = λ u. IsFirstLeft u e spot → GivesTuples w p (map (window_tuple w) (spots ++ spot ∷ [])) (Some (window_tuple u spot)) in
+    subst P (sym same) (λ h. subst (λ ts. GivesTuples w p ts (Some (window_tuple w spot))) (sym (map-append (window_tuple w) spots (spot ∷ []))) (gives_more w p e (map (window_tuple w) spots) (window_tuple w spot) g (record { is = h.is; first = h.first }))) f
 
 pub standing_more : (w v : WindowView) (e : Option Tuple) (spots : List Spot) (spot : Spot) → v ≡ w → AllByRecursion (IsStanding w) spots → IsFirstLeft v e spot → AllByRecursion (IsStanding w) (spots ++ spot ∷ [])
 standing_more w v e spots spot same h f =
@@ -66,15 +66,15 @@ none_left w v p e vw ep none t left = none t (subst (λ o. IsLeft v o t) ep (sub
 
 -- what a listing gives up to a limit, with the flag that something is left, is a page
 abbrev pub AreGivenPages : Type 0
-AreGivenPages = (w : WindowView) (after end : Option Tuple) (limit : ℕ) (page : List Tuple) (more : Bool) → Gives w after page end → length page ≤ limit → (IsTrue more → length page ≡ limit) → (IsTrue more ↔ ((t : Tuple) × IsLeft w end t))
+AreGivenPages = (w : WindowView) (after end : Option Tuple) (limit : ℕ) (page : List Tuple) (more : Bool) → GivesTuples w after page end → length page ≤ limit → (IsTrue more → length page ≡ limit) → (IsTrue more ↔ ((t : Tuple) × IsLeft w end t))
     → IsPage (InAnswer w.columns w.domain w.store) w.from w.to after limit page more
 
 -- what was given is a page
-pub page_given : AreGivenPages → (w v u : WindowView) (p after end : Option Tuple) (spots : List Spot) (limit : ℕ) (more : Bool) → v ≡ w → u ≡ v → p ≡ after → Gives v p (map (window_tuple v) spots) end → length spots ≤ limit
+pub page_given : AreGivenPages → (w v u : WindowView) (p after end : Option Tuple) (spots : List Spot) (limit : ℕ) (more : Bool) → v ≡ w → u ≡ v → p ≡ after → GivesTuples v p (map (window_tuple v) spots) end → length spots ≤ limit
     → ((t : Tuple) → IsLeft v end t → length spots ≡ limit) → (IsTrue more ↔ ((t : Tuple) × IsLeft u end t)) → IsPage (InAnswer w.columns w.domain w.store) w.from w.to after limit (map (window_tuple w) spots) more
 page_given page_is w v u p after end spots limit more vw uv pa g few full is =
     let n : length (map (window_tuple w) spots) ≡ length spots = length-map spots (window_tuple w) in
-    let given : Gives w after (map (window_tuple w) spots) end = subst (λ (x : WindowView). Gives x after (map (window_tuple x) spots) end) vw (subst (λ o. Gives v o (map (window_tuple v) spots) end) pa g) in
+    let given : GivesTuples w after (map (window_tuple w) spots) end = subst (λ (x : WindowView). GivesTuples x after (map (window_tuple x) spots) end) vw (subst (λ o. GivesTuples v o (map (window_tuple v) spots) end) pa g) in
     let left : IsTrue more ↔ ((t : Tuple) × IsLeft w end t) = subst (λ (x : WindowView). IsTrue more ↔ ((t : Tuple) × IsLeft x end t)) (uv ∙ vw) is in
     let whole : (t : Tuple) → IsLeft w end t → length spots ≡ limit = subst (λ (x : WindowView). (t : Tuple) → IsLeft x end t → length spots ≡ limit) vw full in
     page_is w after end limit (map (window_tuple w) spots) more given (omega arith) (λ m. let t = left.0 m in n ∙ whole t.0 t.1) left
@@ -93,12 +93,12 @@ magnitudes : (from to : ℤ) (xs : List ℤ) → AreEnds from to → AllByRecurs
 magnitudes from to [] e h = tt
 magnitudes from to (x ∷ xs) e h = (magnitude from to x e h.0.0 h.0.1, magnitudes from to xs e h.1)
 
-known_at : HaveKnownTexts → (a : Answer) (from to : ℤ) (spot : Spot) → AreEnds from to → IsStanding (window_of a from to) spot → IsKnown a spot
+known_at : HaveKnownTexts → (a : Answer) (from to : ℤ) (spot : Spot) → AreEnds from to → IsStanding (window_of a from to) spot → IsKnownSpot a spot
 known_at known a from to spot e s =
     let times : HasTimes a spot = subst (λ xs. AllByRecursion (λ x. nat_abs x ≤ greatest_number) xs) (sym s.stands.times) (magnitudes from to (times_of (answer_tuple a spot)) e s.inside) in
     ((known a.store.shape a.domain spot (answer_tuple a spot) s.stands, times), (s.stands.times_padded.size, s.stands.texts_padded.size))
 
-pub known_all : HaveKnownTexts → (a : Answer) (from to : ℤ) (spots : List Spot) → AreEnds from to → AllByRecursion (IsStanding (window_of a from to)) spots → AllByRecursion (IsKnown a) spots
+pub known_all : HaveKnownTexts → (a : Answer) (from to : ℤ) (spots : List Spot) → AreEnds from to → AllByRecursion (IsStanding (window_of a from to)) spots → AllByRecursion (IsKnownSpot a) spots
 known_all known a from to [] e h = tt
 known_all known a from to (spot ∷ spots) e h = (known_at known a from to spot e h.0, known_all known a from to spots e h.1)
 

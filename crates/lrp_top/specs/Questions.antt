@@ -16,7 +16,7 @@ use Rattle.lrp_model.specs.declared.relations.Relation.{Relation}
 use Rattle.lrp_model.specs.declared.tuples.Tuple.{Tuple as ToldTuple}
 use Rattle.lrp_model.specs.declared.tuples.Spot.{Spot}
 use Rattle.lrp_plan_laws.specs.Settled.{IsSettled}
-use Rattle.lrp_plan_text.specs.Writable.{StepHasPeriods}
+use Rattle.lrp_print.specs.Writable.{StepHasPeriods}
 use Rattle.lrp_eval.specs.Planned.{IsPlanOf}
 use Rattle.lrp_query.specs.Reading.{IsUnread}
 use Rattle.lrp_tense.specs.Expanding.{expanded_question}
@@ -28,7 +28,7 @@ use Rattle.lrp_words.specs.Commands.{after_text}
 use Rattle.lrp_words.specs.Ranges.{IsEnd}
 use Rattle.lrp_words.specs.declared.command.Command.{Command}
 use Rattle.lrp_words.specs.declared.command.Command.TheVariants.{Ask, Decide, List as Page, Explain, Check, Watch, Sample}
-use Rattle.lrp_list.specs.Answering.{AreAnswerColumns}
+use Rattle.lrp_answer_text.specs.Answering.{AreAnswerColumns}
 use Rattle.lrp_top.specs.Due.{IsAnswered, IsDecided, IsExplained, IsListed, IsPlannedFor}
 use Rattle.lrp_outputs.specs.Outcomes.{Outcome}
 use Rattle.lrp_outputs.specs.Spots.{answer_tuple}

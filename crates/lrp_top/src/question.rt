@@ -4,7 +4,7 @@ ghost use Rattle.std.specs.List.{AllByRecursion};
 ghost use Rattle.lrp_model.specs.Formulas.{form_of, question_of as queried};
 ghost use Rattle.lrp_model.specs.TestPoints.{points};
 ghost use Rattle.lrp_plan_laws.specs.Settled.{IsSettled};
-ghost use Rattle.lrp_plan_text.specs.Writable.{StepHasPeriods};
+ghost use Rattle.lrp_print.specs.Writable.{StepHasPeriods};
 ghost use Rattle.lrp_top.specs.Due.{IsPlanned, IsPlannedAs};
 ghost use Rattle.lrp_top.specs.Lengths.{TellsLength};
 ghost use Rattle.lrp_top.specs.Questions.{HasOneTime, IsAsked, IsMadeOf, IsReady};

@@ -18,10 +18,10 @@ ghost use Rattle.lrp_top.specs.Written.{plain_if};
 ghost use Rattle.lrp_model.specs.Limits.{most_bytes};
 
 use crate::files::{DatabaseFile, QueryFile};
+use lrp_answer_text::heads_are_columns;
 use lrp_civil::plain_text;
 use lrp_database::Database;
 use lrp_edits::{Edit, read_edits};
-use lrp_list::heads_are_columns;
 use lrp_model::{List, Memory, QueryRead, RawQuery};
 use lrp_outputs::{Refusal, WatchRefusal};
 use lrp_plan::kept_queries_have_periods;

@@ -16,10 +16,10 @@ ghost use Rattle.lrp_top.specs.Telling.{TellsWitness};
 use crate::listing::page;
 use crate::purpose::Purpose;
 use crate::question::Question;
+use lrp_answer_text::answers_are_texts;
 use lrp_answers::Answer;
 use lrp_canon::canonical_within;
 use lrp_eval::{EvalFault, answer};
-use lrp_list::answers_are_texts;
 use lrp_model::Memory;
 use lrp_outputs::{
     Output, Refusal, WholeAnswer, Witness, WritablePlan, small_answers_have_room,

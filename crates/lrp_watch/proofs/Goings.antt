@@ -18,9 +18,9 @@ use Rattle.lrp_kept.specs.Limits.{atom_reach, disjunct_reach, most_of, scaled_ke
 use Rattle.lrp_model.specs.Core.{HasElements}
 use Rattle.lrp_keep.specs.Keeps.{CanBeHeld, IsRelationOf, KeepView, scaled_reach_of}
 use Rattle.lrp_keep.specs.Replaced.{replaced, with_rows}
-use Rattle.lrp_watch.specs.Edits.{IsMade, IsMadeBy}
+use Rattle.lrp_watch.specs.Edits.{IsEditMade, IsMadeBy}
 use Rattle.lrp_watch.specs.Leasts.{CanBeMade, CanGoOn, IsLow}
-use Rattle.lrp_minus.proofs.Lists.{in_map}
+use Rattle.lrp_cutting.proofs.Lists.{in_map}
 
 -- ---- relations of which one has other rows
 
@@ -105,10 +105,10 @@ low_by false name row old new (inl is) low =
     (subst (λ n. n ≤ 2 ^ 62) (sym (scaled_same old.relations (replaced old.relations name is.rows) old.bounds old.period (number_still old.relations is.rows name old.bounds) (question_of old.query))) low)
 low_by false name row old new (inr is) low = subst (λ (k : KeepView). scaled_reach_of k ≤ 2 ^ 62) (sym is.1) low
 
-pub kin_of : (e : Edit) (old new : KeepView) → IsMade e old new → IsKin old new
+pub kin_of : (e : Edit) (old new : KeepView) → IsEditMade e old new → IsKin old new
 kin_of e old new is = kin_by e.add e.relation e.row old new is
 
-pub low_still : (e : Edit) (old new : KeepView) → IsMade e old new → IsLow old → IsLow new
+pub low_still : (e : Edit) (old new : KeepView) → IsEditMade e old new → IsLow old → IsLow new
 low_still e old new is low =
     let kin = kin_of e old new is in
     record {
@@ -130,5 +130,5 @@ all_still : (old new : KeepView) (es : List Edit) → IsKin old new → AllByRec
 all_still old new [] kin h = tt
 all_still old new (e ∷ es) kin h = (can_still old new e kin h.0, all_still old new es kin h.1)
 
-pub goes_on : (e : Edit) (old new : KeepView) (es : List Edit) → IsMade e old new → CanGoOn old es → CanGoOn new es
+pub goes_on : (e : Edit) (old new : KeepView) (es : List Edit) → IsEditMade e old new → CanGoOn old es → CanGoOn new es
 goes_on e old new es is on = record { low = low_still e old new is on.low; can = all_still old new es (kin_of e old new is) on.can }

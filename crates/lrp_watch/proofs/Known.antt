@@ -14,8 +14,8 @@ use Rattle.lrp_model.specs.declared.tuples.Spot.{Spot}
 use Rattle.lrp_store.specs.Least.{IsLeastSpot, StandsFor}
 use Rattle.lrp_store.specs.Tables.{InAnswer}
 use Rattle.lrp_answers.specs.declared.answer.Answer.{Answer}
-use Rattle.lrp_list.specs.Lines.{spot_tuple}
-use Rattle.lrp_minus.specs.Settling.{IsSmallZone}
+use Rattle.lrp_answers.specs.Spots.{spot_tuple}
+use Rattle.lrp_cutting.specs.Settling.{IsSmallZone}
 use Rattle.lrp_kept.specs.Limits.{kept_reach}
 use Rattle.lrp_keep.specs.Keeps.{IsKeptAnswer, KeepView}
 use Rattle.lrp_outputs.specs.First.{IsFirst}

@@ -11,7 +11,7 @@ use Rattle.lrp_keep.specs.Keeps.{KeepView}
 use Rattle.lrp_keep.specs.declared.faults.KeepFault.{KeepFault}
 use Rattle.lrp_watch.specs.declared.faults.WatchFault.{WatchFault}
 use Rattle.lrp_watch.specs.declared.faults.WatchFault.TheVariants.{PeriodLimit, BoundLimit, TooManyCells, Memory}
-use Rattle.lrp_watch.specs.Edits.{AreMade, IsMade, IsPassedBehind, IsRefusedEdit, last_kept}
+use Rattle.lrp_watch.specs.Edits.{AreMade, IsEditMade, IsPassedBehind, IsRefusedEdit, last_kept}
 use Rattle.lrp_watch.specs.Faults.{IsFaultBy}
 use Rattle.lrp_watch.specs.Leasts.{AreDone, CanGoOn, IsLeastOver, IsTold}
 use Rattle.lrp_watch.proofs.Goings.{IsKin, goes_on, kin_of, kin_then}
@@ -22,7 +22,7 @@ last_more : (k : KeepView) (later : List KeepView) (next : KeepView) → last_ke
 last_more k [] next = refl
 last_more k (l ∷ later) next = last_more l later next
 
-made_more : (es : List Edit) (k : KeepView) (later : List KeepView) (e : Edit) (next : KeepView) → AreMade es k later → IsMade e (last_kept k later) next → AreMade (es ++ e ∷ []) k (later ++ next ∷ [])
+made_more : (es : List Edit) (k : KeepView) (later : List KeepView) (e : Edit) (next : KeepView) → AreMade es k later → IsEditMade e (last_kept k later) next → AreMade (es ++ e ∷ []) k (later ++ next ∷ [])
 made_more [] k [] e next h is = (is, refl)
 made_more [] k (l ∷ later) e next h is = cc
 made_more (x ∷ es) k [] e next h is = absurd h
@@ -56,7 +56,7 @@ none_done edits k spots new on empty told = record {
   on = on;
 }
 
-pub one_done : (count : ℕ) (edits : List Edit) (old now next : KeepView) (e : Edit) (spots new : List (Option Spot)) → count < length edits → e ≡ get_or edits count e → AreDoneUpTo count edits old now spots → IsMade e now next → IsTold next spots new
+pub one_done : (count : ℕ) (edits : List Edit) (old now next : KeepView) (e : Edit) (spots new : List (Option Spot)) → count < length edits → e ≡ get_or edits count e → AreDoneUpTo count edits old now spots → IsEditMade e now next → IsTold next spots new
     → AreDoneUpTo (count + 1) edits old next new
 one_done count edits old now next e spots new l at h made told =
     let d = h.done in
@@ -68,7 +68,7 @@ one_done count edits old now next e spots new l at h made told =
     record {
       done = record {
         later = d.later ++ next ∷ [];
-        made = subst (λ es. AreMade es old (d.later ++ next ∷ [])) (sym taken) (made_more (take count edits) old d.later e next d.made (subst (λ k. IsMade e k next) d.now_is made));
+        made = subst (λ es. AreMade es old (d.later ++ next ∷ [])) (sym taken) (made_more (take count edits) old d.later e next d.made (subst (λ k. IsEditMade e k next) d.now_is made));
         now_is = sym (last_more old d.later next);
         leasts = subst (AreLeasts (question_of old.query) old.domain (old ∷ d.later ++ next ∷ [])) (sym told.more) (leasts_more (question_of old.query) old.domain (old ∷ d.later) spots next told.least d.leasts own);
       };

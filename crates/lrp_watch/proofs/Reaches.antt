@@ -12,7 +12,7 @@ use Rattle.lrp_model.specs.declared.relations.Column.{Column}
 use Rattle.lrp_model.specs.declared.relations.Relation.{Relation}
 use Rattle.lrp_plan_laws.specs.Atoms.{Atom, atoms, atoms_each}
 use Rattle.lrp_kept.specs.Choices.{as_list, disjunct_tests}
-use Rattle.lrp_kept.specs.KeptForm.{all_occur, all_pass, bound_variables, elements, is_atom, is_conjunctive, is_disjunct, is_kept, is_neither, query_disjuncts, some_passes, tested_variables}
+use Rattle.lrp_kept.specs.KeptForm.{all_occur, all_pass, bound_variables, kept_elements, is_atom, is_conjunctive, is_disjunct, is_kept, is_neither, query_disjuncts, some_passes, tested_variables}
 use Rattle.lrp_model.specs.Variables.{head_variables}
 use Rattle.lrp_kept.specs.Limits.{atom_reach, disjunct_reach, kept_reach, most_of, time_quantifiers}
 use Rattle.lrp_outputs.proofs.SmallAnswers.{one_more}
@@ -94,7 +94,7 @@ each_has (form (implication f g) fs) e = behind_has (atoms f ++ atoms g) (atoms_
 each_has (form (exists v s f) fs) e = behind_has (atoms f) (atoms_each fs) (each_has fs e)
 each_has (form (forall v s f) fs) e = behind_has (atoms f) (atoms_each fs) (each_has fs e)
 
-elements_have : (f : Form) → some_passes is_atom (elements f) ≡ true → HasAtom (atoms f)
+elements_have : (f : Form) → some_passes is_atom (kept_elements f) ≡ true → HasAtom (atoms f)
 elements_have (atom name terms) e = tt
 elements_have (test t) e = cc
 elements_have (sorted s v) e = cc
@@ -107,7 +107,7 @@ elements_have (forall v s f) e = cc
 
 disjunct_has : (columns : List Column) (f : Form) → is_disjunct columns f ≡ true → HasAtom (atoms f)
 disjunct_has columns f e =
-    let fs = elements f in
+    let fs = kept_elements f in
     let parts = both (is_conjunctive fs && all_occur fs (head_variables columns)) (all_occur fs (bound_variables f)) e in
     let conjunctive = both (is_conjunctive fs) (all_occur fs (head_variables columns)) parts.0 in
     let tested = both (not (some_passes is_neither fs) && some_passes is_atom fs) (all_pass (λ g. all_occur fs (tested_variables g)) fs) conjunctive.0 in
@@ -138,8 +138,8 @@ no_less period X n l =
     omega (arith, more, l)
 
 pub period_low : (db : List Relation) (bounds : List ℕ) (period : ℕ) (q : Question) → is_kept q ≡ true → HasElements q.body → period ≤ kept_reach db bounds period q
-period_low db bounds period q kept elements =
+period_low db bounds period q kept kept_elements =
     let most = most_of (disjunct_reach db bounds period) q in
-    let l : period ≤ most = some_reach db bounds period q.head (query_disjuncts q) (has_positive q.body elements) kept in
+    let l : period ≤ most = some_reach db bounds period q.head (query_disjuncts q) (has_positive q.body kept_elements) kept in
     let steps = most_of (λ f. length (atoms f)) q + most_of (λ f. length (disjunct_tests f)) q in
     no_less period (most + steps * period) (most_of time_quantifiers q) (omega (arith, l))

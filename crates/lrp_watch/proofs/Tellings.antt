@@ -12,15 +12,15 @@ use Rattle.lrp_model.specs.declared.tuples.Shape.{Shape}
 use Rattle.lrp_model.specs.declared.tuples.Spot.{Spot}
 use Rattle.lrp_answers.specs.declared.answer.Answer.{Answer}
 use Rattle.lrp_tables.specs.Columns.{head_texts, head_times}
-use Rattle.lrp_list.specs.Lines.{spot_tuple}
+use Rattle.lrp_answers.specs.Spots.{spot_tuple}
 use Rattle.lrp_edits.specs.declared.edits.Edit.{Edit}
 use Rattle.lrp_kept.proofs.SortedDisjuncts.{few_head_texts, few_head_times}
 use Rattle.lrp_keep.specs.Keeps.{KeepView, opened, IsPastLimit, StaysWithinLimits}
 use Rattle.lrp_keep.specs.declared.faults.KeepFault.{KeepFault}
 use Rattle.lrp_watch.specs.Edits.{IsPassedAt, IsPassedBehind}
-use Rattle.lrp_watch.specs.Faults.{IsAt}
+use Rattle.lrp_watch.specs.Faults.{IsFaultAt}
 use Rattle.lrp_outputs.specs.First.{IsFirst, first_line}
-use Rattle.lrp_watch.specs.Leasts.{AreDone, CanGoOn, HasFewColumns, IsLeastOver, IsOver, shape_for}
+use Rattle.lrp_watch.specs.Leasts.{AreDone, CanGoOn, HasFewColumns, IsLeastOver, IsOverHead, shape_for}
 use Rattle.lrp_outputs.specs.Spots.{IsKnownLeast, answer_tuple}
 use Rattle.lrp_watch.specs.Watching.{CanBeWatched, IsOpened, IsPassed, TellsLeasts, watched_constants}
 use Rattle.lrp_watch.proofs.Known.{shape_is}
@@ -28,7 +28,7 @@ use Rattle.lrp_watch.proofs.Openings.{AreSameInOrder, can_go_on}
 
 -- ---- the answer by whose head and constants the spots are told
 
-module _ (k : KeepView) (a : Answer) (is : IsOver k.query k.domain a) where
+module _ (k : KeepView) (a : Answer) (is : IsOverHead k.query k.domain a) where
   abbrev q : Question
   q = question_of k.query
 
@@ -87,8 +87,8 @@ module _ (query : Query) (db : List Relation) (edits : List Edit) (cap : ℕ) (d
   same_query = opened_is.query
 
   -- the answer is over the head and the constants that are kept
-  over : (a : Answer) → IsOver query domain a → IsOver k.query k.domain a
-  over a h = subst (λ (l : KeepView). IsOver l.query l.domain a) (sym is) h
+  over : (a : Answer) → IsOverHead query domain a → IsOverHead k.query k.domain a
+  over a h = subst (λ (l : KeepView). IsOverHead l.query l.domain a) (sym is) h
 
   pub few_columns : CanBeWatched db (question_of query) edits → HasFewColumns query.head.columns
   few_columns can = record {
@@ -96,10 +96,10 @@ module _ (query : Query) (db : List Relation) (edits : List Edit) (cap : ℕ) (d
     texts = subst (λ (p : Question). length (head_texts p.head) ≤ 8) (sym can.query.is) (few_head_texts db can.query.raw can.query.sorted);
   }
 
-  pub known : (a : Answer) → IsOver query domain a → (now : KeepView) (spots : List (Option Spot)) → AreDone edits k now spots → AllByRecursion (IsKnownLeast a) spots
+  pub known : (a : Answer) → IsOverHead query domain a → (now : KeepView) (spots : List (Option Spot)) → AreDone edits k now spots → AllByRecursion (IsKnownLeast a) spots
   known a answer now spots done = known_told k a (over a answer) (k ∷ done.later) spots done.leasts
 
-  pub told : (a : Answer) → IsOver query domain a → (now : KeepView) (spots : List (Option Spot)) → StaysWithinLimits (opened query db domain cap) → AreDone edits k now spots → TellsLeasts db (question_of query) edits cap (flat_map (λ least. first_line (option_map (answer_tuple a) least)) spots)
+  pub told : (a : Answer) → IsOverHead query domain a → (now : KeepView) (spots : List (Option Spot)) → StaysWithinLimits (opened query db domain cap) → AreDone edits k now spots → TellsLeasts db (question_of query) edits cap (flat_map (λ least. first_line (option_map (answer_tuple a) least)) spots)
   told a answer now spots h done = record {
     kept = k;
     opened = opened_is;
@@ -113,7 +113,7 @@ module _ (query : Query) (db : List Relation) (edits : List Edit) (cap : ℕ) (d
 
   -- ---- the limit that is passed
 
-  pub passed_first : (number : ℕ) (fault : KeepFault) → IsAt 0 (IsPastLimit (opened query db domain cap)) number fault → IsPassed db (question_of query) edits cap number fault
+  pub passed_first : (number : ℕ) (fault : KeepFault) → IsFaultAt 0 (IsPastLimit (opened query db domain cap)) number fault → IsPassed db (question_of query) edits cap number fault
   passed_first number fault h = record {
     kept = k;
     opened = opened_is;

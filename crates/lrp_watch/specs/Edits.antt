@@ -15,14 +15,14 @@ IsMadeBy true name row old new = (new ≡ with_added old name row) × StaysWithi
 IsMadeBy false name row old new = IsWithout name row old new ⊎ (HasNoEqual row (rows_of old.relations name) × (new ≡ old))
 
 -- an edit is made
-abbrev pub IsMade : Edit → KeepView → KeepView → Type 0
-IsMade e = IsMadeBy e.add e.relation e.row
+abbrev pub IsEditMade : Edit → KeepView → KeepView → Type 0
+IsEditMade e = IsMadeBy e.add e.relation e.row
 
 -- edits are made one after another: what is kept after each
 abbrev pub AreMade : List Edit → KeepView → List KeepView → Type 0
 AreMade [] k later = later ≡ []
 AreMade (e ∷ es) k [] = ⊥
-AreMade (e ∷ es) k (next ∷ later) = IsMade e k next × AreMade es next later
+AreMade (e ∷ es) k (next ∷ later) = IsEditMade e k next × AreMade es next later
 
 -- what is kept after the last of them
 abbrev pub last_kept : KeepView → List KeepView → KeepView

@@ -20,5 +20,5 @@ fault_of number keep.TooManyCells = TooManyCells number
 fault_of number keep.Memory = Memory
 
 -- at the edit of this number a limit is passed that has this cause
-abbrev pub IsAt : ℕ → (KeepFault → Type 0) → ℕ → KeepFault → Type 0
-IsAt number IsCaused edit fault = (edit ≡ number) × IsCaused fault
+abbrev pub IsFaultAt : ℕ → (KeepFault → Type 0) → ℕ → KeepFault → Type 0
+IsFaultAt number IsCaused edit fault = (edit ≡ number) × IsCaused fault

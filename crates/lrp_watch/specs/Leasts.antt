@@ -12,7 +12,7 @@ use Rattle.lrp_model.specs.declared.tuples.Shape.{Shape}
 use Rattle.lrp_model.specs.declared.tuples.Spot.{Spot}
 use Rattle.lrp_answers.specs.declared.answer.Answer.{Answer}
 use Rattle.lrp_tables.specs.Columns.{head_texts, head_times}
-use Rattle.lrp_list.specs.Lines.{spot_tuple}
+use Rattle.lrp_answers.specs.Spots.{spot_tuple}
 use Rattle.lrp_edits.specs.declared.edits.Edit.{Edit}
 use Rattle.lrp_kept.specs.KeptForm.{is_kept}
 use Rattle.lrp_keep.specs.Keeps.{CanBeAdded, KeepView, scaled_reach_of}
@@ -31,7 +31,7 @@ pub record HasFewColumns (columns : List Column) : Type 0 where
   pub texts : length (head_texts columns) ≤ 8
 
 -- an answer has the query's head, and its texts are numbered in the domain
-pub record IsOver (query : Query) (domain : List Text) (a : Answer) : Type 0 where
+pub record IsOverHead (query : Query) (domain : List Text) (a : Answer) : Type 0 where
   pub head : a.head.columns ≡ query.head.columns
   pub named : a.domain ≡ domain
 

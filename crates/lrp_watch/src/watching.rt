@@ -2,9 +2,9 @@
 ghost use Rattle.std.specs.Prelude.{◌≡◌, IfErr, IfOk, OnOk};
 ghost use Rattle.lrp_model.specs.Formulas.{question_of};
 ghost use Rattle.lrp_keep.specs.Keeps.{CanBeKept, opened as opened_by, IsPastLimit, StaysWithinLimits};
-ghost use Rattle.lrp_watch.specs.Edits.{IsMade, IsPassedBehind, IsRefusedEdit};
-ghost use Rattle.lrp_watch.specs.Faults.{IsAt, IsFaultBy};
-ghost use Rattle.lrp_watch.specs.Leasts.{AreDone, CanBeMade, CanGoOn, HasFewColumns, IsLeastOver, IsLow, IsOver, IsTold};
+ghost use Rattle.lrp_watch.specs.Edits.{IsEditMade, IsPassedBehind, IsRefusedEdit};
+ghost use Rattle.lrp_watch.specs.Faults.{IsFaultAt, IsFaultBy};
+ghost use Rattle.lrp_watch.specs.Leasts.{AreDone, CanBeMade, CanGoOn, HasFewColumns, IsLeastOver, IsLow, IsOverHead, IsTold};
 ghost use Rattle.lrp_outputs.specs.Outputs.{leasts_text};
 ghost use Rattle.lrp_watch.specs.Watching.{CanBeWatched, IsPassed, TellsLeasts};
 
@@ -49,7 +49,7 @@ pub fn least_answers(
 // No answers of a query: its head and the constants, by which spots are told.
 fn no_answers(alloc: Global, query: &Query, domain: Domain) -> Result<Answer, Memory>
     requires { HasFewColumns query.now.head.columns }
-    ensures { IfOk result (IsOver query.now domain) }
+    ensures { IfOk result (IsOverHead query.now domain) }
 {
     let vars = head_vars(alloc, &query.head)?;
     let store = store_over(alloc, &vars, 1);
@@ -73,7 +73,7 @@ fn opened<'a>(
     ensures view { IfOk result (λ made. made ≡ opened_by query.now database.now domain.now cap) }
     ensures limits { OnOk result (StaysWithinLimits
         (opened_by query.now database.now domain.now cap)) }
-    ensures fault { IfErr result (IsFaultBy (IsAt 0
+    ensures fault { IfErr result (IsFaultBy (IsFaultAt 0
         (IsPastLimit (opened_by query.now database.now domain.now cap)))) }
 {
     match Keep::open(alloc, query, database, domain, cap) {
@@ -104,8 +104,8 @@ fn spots_of(
 // Makes the edit of this number.
 fn make(keep: &mut Keep<'_>, edit: &Edit, number: u64) -> Result<(), WatchFault>
     requires { CanBeMade keep.old edit.now }
-    ensures made { OnOk result (IsMade edit.now keep.old keep.new) }
-    ensures fault { IfErr result (IsFaultBy (IsAt number (IsRefusedEdit edit.now keep.old))) }
+    ensures made { OnOk result (IsEditMade edit.now keep.old keep.new) }
+    ensures fault { IfErr result (IsFaultBy (IsFaultAt number (IsRefusedEdit edit.now keep.old))) }
 {
     if !edit.add {
         keep.remove(&edit.relation, &edit.row);

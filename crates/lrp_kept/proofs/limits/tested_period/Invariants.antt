@@ -1,8 +1,8 @@
 use Rattle.std.proofs.Common.{take, flat_map}
 use Rattle.lrp_limits.specs.Multiples.{IsPeriodOf}
-use Rattle.lrp_kept.specs.Sizes.{number_in, tested_periods}
+use Rattle.lrp_kept.specs.Sizes.{period_number, tested_periods}
 use Rattle.lrp_kept.proofs.limits.tested_period.Given as goal
 
 -- with the disjuncts so far
 abbrev pub invariant-loop-disjunct : goal.invariant-loop-disjunct
-invariant-loop-disjunct l = IsPeriodOf (flat_map tested_periods (take l.disjunct-index l.disjuncts)) (number_in l.period)
+invariant-loop-disjunct l = IsPeriodOf (flat_map tested_periods (take l.disjunct-index l.disjuncts)) (period_number l.period)

@@ -5,7 +5,7 @@ use Rattle.lrp_model.specs.Checked.{plain_question}
 use Rattle.lrp_model.specs.Core.{HasElements}
 use Rattle.lrp_model.specs.Formulas.{Question, form_of, question_of}
 use Rattle.lrp_model.specs.RawQueries.{raw_form_of, raw_question_of}
-use Rattle.lrp_list.specs.Answering.{AreAnswerColumns}
+use Rattle.lrp_answer_text.specs.Answering.{AreAnswerColumns}
 use Rattle.lrp_plan_laws.specs.Rising.{HasPeriods}
 use Rattle.lrp_plan_laws.specs.Settled.{IsSettled}
 use Rattle.lrp_top.specs.Questions.{IsSaidBy, IsUnreadAs}

@@ -2,7 +2,7 @@
 use Rattle.std.proofs.Common.{Ok, Err, refl, subst, sym}
 use Rattle.lrp_model.specs.AnswerTexts.{IsAnswerText, IsAnswerTextOf}
 use Rattle.lrp_model.specs.Formulas.{question_of}
-use Rattle.lrp_list.specs.AnswerText.{answer_text}
+use Rattle.lrp_answer_text.specs.AnswerText.{answer_text}
 use Rattle.lrp_top.proofs.Answered.{period_of}
 use Rattle.lrp_top.proofs.serving.all_answers.Goals as goal
 

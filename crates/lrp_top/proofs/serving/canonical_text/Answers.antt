@@ -7,7 +7,7 @@ use Rattle.lrp_model.specs.AnswerTexts.{IsAnswerTextOf}
 use Rattle.lrp_model.specs.DataTexts.{IsDataText}
 use Rattle.lrp_model.specs.Formulas.{question_of}
 use Rattle.lrp_model.specs.Texts.{Ascends}
-use Rattle.lrp_list.specs.AnswerText.{answer_text}
+use Rattle.lrp_answer_text.specs.AnswerText.{answer_text}
 use Rattle.lrp_spans.specs.Groups.{HoldsNumber}
 use Rattle.lrp_store.specs.Stores.{zone_count}
 use Rattle.lrp_canon.specs.Canonical.{HasCanonicalZones as HasStoredRows, HasMoreRows, IsCanonicalOf}

@@ -4,7 +4,7 @@ use Rattle.std.proofs.lemmas.Result.{err_from_is_err_and}
 use Rattle.lrp_model.specs.Formulas.{question_of}
 use Rattle.lrp_keep.specs.Keeps.{CanBeKept, opened, IsPastLimit}
 use Rattle.lrp_watch.specs.Edits.{IsPassedBehind}
-use Rattle.lrp_watch.specs.Faults.{IsAt}
+use Rattle.lrp_watch.specs.Faults.{IsFaultAt}
 use Rattle.lrp_watch.specs.Watching.{IsPassed}
 use Rattle.lrp_watch.proofs.Openings.{can_be_kept}
 use Rattle.lrp_watch.proofs.Passings.{fault_as}
@@ -41,7 +41,7 @@ returns-in_err-keep-clause-fault c =
     let db = c.args.database.now in
     let first = opened query db c.in_ok-domain.domain c.args.cap in
     let p = err_from_is_err_and c.from_residual-in_err-keep.result c.from_residual-in_err-keep.ensures.1 in
-    rw (p.1, p.2) (fault_as (IsAt 0 (IsPastLimit first)) (IsPassed db (question_of query) c.args.edits.now c.args.cap)
+    rw (p.1, p.2) (fault_as (IsFaultAt 0 (IsPastLimit first)) (IsPassed db (question_of query) c.args.edits.now c.args.cap)
     (passed_first query db c.args.edits.now c.args.cap c.in_ok-domain.domain first c.in_ok-domain.ensures refl) c.in_err-keep.field-0.0 c.in_err-keep.ensures.fault)
 
 pub returns-in_err-spots-clause-fault : goal.returns-in_err-spots-clause-fault

@@ -20,11 +20,11 @@ pub invariant_of-result : goal.invariant_of-result
 invariant_of-result c =
     let columns = c.args.query.now.head.columns in
     let heads : c.in_ok-copy.field-0.columns ≡ c.args.query.now.head.columns = ap (λ (h : Head). h.columns) c.in_ok-copy.ensures in
-    let times : c.store_over-store.result.shape.times ≡ length (head_times c.args.query.now.head.columns) = ap (λ (v : StoreView). v.shape.times) c.store_over-store.ensures ∙ ap length c.in_ok-vars.ensures.times in
-    let texts : c.store_over-store.result.shape.texts ≡ length (head_texts c.args.query.now.head.columns) = ap (λ (v : StoreView). v.shape.texts) c.store_over-store.ensures ∙ ap length c.in_ok-vars.ensures.texts in
+    let times : c.store_over-store.result.shape.times ≡ length (head_times c.args.query.now.head.columns) = ap (λ (v : StoreView). v.shape.times) c.store_over-store.ensures.made ∙ ap length c.in_ok-vars.ensures.times in
+    let texts : c.store_over-store.result.shape.texts ≡ length (head_texts c.args.query.now.head.columns) = ap (λ (v : StoreView). v.shape.texts) c.store_over-store.ensures.made ∙ ap length c.in_ok-vars.ensures.texts in
     record {
       times_are = ap time_count heads ∙ times_counted columns ∙ sym times;
       columns_are = ap length heads ∙ (let n = columns_counted columns in omega (arith, n, times, texts));
-      period_is = ap pos (sym (ap (λ (v : StoreView). v.period) c.store_over-store.ensures));
-      numbered = none_numbered c.args.domain c.store_over-store.result (ap (λ (v : StoreView). v.tables) c.store_over-store.ensures);
+      period_is = ap pos (sym (ap (λ (v : StoreView). v.period) c.store_over-store.ensures.made));
+      numbered = none_numbered c.args.domain c.store_over-store.result (ap (λ (v : StoreView). v.tables) c.store_over-store.ensures.made);
     }

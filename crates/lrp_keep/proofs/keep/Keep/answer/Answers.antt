@@ -4,7 +4,7 @@ use Rattle.lrp_keep.specs.Keeps.{IsKeptAnswer}
 use Rattle.lrp_keep.specs.States.{IsAnswerOfState}
 use Rattle.lrp_keep.proofs.KeeperAnswers.{kept_answer}
 use Rattle.lrp_keep.proofs.keep.Keep.answer.Goals as goal
-use Rattle.lrp_minus.proofs.Lists.{if_ok}
+use Rattle.lrp_cutting.proofs.Lists.{if_ok}
 
 pub returns : goal.returns
 returns c = if_ok (IsAnswerOfState c.self.inside.of c.self.inside.state) (IsKeptAnswer c.args.self.now) c.answer.result

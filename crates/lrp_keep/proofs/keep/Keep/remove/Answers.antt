@@ -2,7 +2,7 @@
 use Rattle.std.proofs.Common.{◌≡◌, Bool, true, false, refl, sym, subst}
 use Rattle.lrp_model.specs.Rows.{rows_of}
 use Rattle.lrp_keep.specs.Keeps.{HasNoEqual, IsWithout}
-use Rattle.lrp_keep.specs.States.{IsKeeper, view_of}
+use Rattle.lrp_keep.specs.States.{IsKeeper, keeper_view}
 use Rattle.lrp_keep.proofs.Naming.{held_named}
 use Rattle.lrp_keep.proofs.Removing.{keeper_removed, none_equal, none_named, without_row}
 use Rattle.lrp_keep.proofs.keep.Keep.remove.Goals as goal
@@ -22,7 +22,7 @@ invariant_of-self c =
 pub returns-in-Some-clause-taken : goal.returns-in-Some-clause-taken
 returns-in-Some-clause-taken c = λ e.
     let h = held_named c.self.inside.state c.in-Some.relation c.args.relation.now c.in-Some.ensures.some in
-    subst (λ k. IsWithout c.args.relation.now c.args.row.now k (view_of c.self.inside.of c.remove.new.self)) c.self.view_is
+    subst (λ k. IsWithout c.args.relation.now c.args.row.now k (keeper_view c.self.inside.of c.remove.new.self)) c.self.view_is
     (without_row c.self.inside.of c.self.inside.state c.remove.new.self c.self.invariant c.in-Some.relation h.0 h.1 c.args.relation.now h.2 c.args.row.now (c.remove.ensures.taken e))
 
 pub returns-in-Some-clause-none : goal.returns-in-Some-clause-none

@@ -32,18 +32,18 @@ store_over-store-requires-clause-texts c =
 
 pub loop-derived-init : goal.loop-derived-init
 loop-derived-init c =
-    let times : c.store_over-store.result.shape.times ≡ length (head_times c.args.of.now.query.now.head.columns) = ap (λ (v : StoreView). v.shape.times) c.store_over-store.ensures ∙ ap length c.in_ok-vars.ensures.times in
-    let texts : c.store_over-store.result.shape.texts ≡ length (head_texts c.args.of.now.query.now.head.columns) = ap (λ (v : StoreView). v.shape.texts) c.store_over-store.ensures ∙ ap length c.in_ok-vars.ensures.texts in
-    let empty : c.store_over-store.result.tables ≡ finite.empty = ap (λ (v : StoreView). v.tables) c.store_over-store.ensures in
-    let period : c.store_over-store.result.period ≡ c.args.self.now.period.number = ap (λ (v : StoreView). v.period) c.store_over-store.ensures ∙ word_period c.args.self.now.period in
+    let times : c.store_over-store.result.shape.times ≡ length (head_times c.args.of.now.query.now.head.columns) = ap (λ (v : StoreView). v.shape.times) c.store_over-store.ensures.made ∙ ap length c.in_ok-vars.ensures.times in
+    let texts : c.store_over-store.result.shape.texts ≡ length (head_texts c.args.of.now.query.now.head.columns) = ap (λ (v : StoreView). v.shape.texts) c.store_over-store.ensures.made ∙ ap length c.in_ok-vars.ensures.texts in
+    let empty : c.store_over-store.result.tables ≡ finite.empty = ap (λ (v : StoreView). v.tables) c.store_over-store.ensures.made in
+    let period : c.store_over-store.result.period ≡ c.args.self.now.period.number = ap (λ (v : StoreView). v.period) c.store_over-store.ensures.made ∙ word_period c.args.self.now.period in
     none_yet c.args.of.now c.args.self.now c.requires c.store_over-store.result c.shape.ensures.valid empty times texts period
 
 pub add_derived-requires : goal.add_derived-requires
 add_derived-requires c =
-    let times : c.store_over-store.result.shape.times ≡ length (head_times c.args.of.now.query.now.head.columns) = ap (λ (v : StoreView). v.shape.times) c.store_over-store.ensures ∙ ap length c.in_ok-vars.ensures.times in
-    let texts : c.store_over-store.result.shape.texts ≡ length (head_texts c.args.of.now.query.now.head.columns) = ap (λ (v : StoreView). v.shape.texts) c.store_over-store.ensures ∙ ap length c.in_ok-vars.ensures.texts in
-    let empty : c.store_over-store.result.tables ≡ finite.empty = ap (λ (v : StoreView). v.tables) c.store_over-store.ensures in
-    let period : c.store_over-store.result.period ≡ c.args.self.now.period.number = ap (λ (v : StoreView). v.period) c.store_over-store.ensures ∙ word_period c.args.self.now.period in
+    let times : c.store_over-store.result.shape.times ≡ length (head_times c.args.of.now.query.now.head.columns) = ap (λ (v : StoreView). v.shape.times) c.store_over-store.ensures.made ∙ ap length c.in_ok-vars.ensures.times in
+    let texts : c.store_over-store.result.shape.texts ≡ length (head_texts c.args.of.now.query.now.head.columns) = ap (λ (v : StoreView). v.shape.texts) c.store_over-store.ensures.made ∙ ap length c.in_ok-vars.ensures.texts in
+    let empty : c.store_over-store.result.tables ≡ finite.empty = ap (λ (v : StoreView). v.tables) c.store_over-store.ensures.made in
+    let period : c.store_over-store.result.period ≡ c.args.self.now.period.number = ap (λ (v : StoreView). v.period) c.store_over-store.ensures.made ∙ word_period c.args.self.now.period in
     let low : c.loop-derived.derived-index < length c.args.self.now.derived.items = subst (λ xs. c.loop-derived.derived-index < length xs) c.deref-derived-items.ensures.value c.loop-derived-test.true in
     let is : c.derived-item.result ≡ get_or c.args.self.now.derived.items c.loop-derived.derived-index c.derived-item.result = subst (λ xs. c.derived-item.result ≡ get_or xs c.loop-derived.derived-index c.derived-item.result) c.deref-derived-items.ensures.value c.derived-item.is in
     let there : slice_get (levels_of c.args.self.now) c.loop-derived.derived-index ≡ Some c.derived-item.result.levels.items = mapped_get (λ (d : Derived). d.levels.items) c.args.self.now.derived.items c.loop-derived.derived-index c.derived-item.result (slice_get_read c.args.self.now.derived.items (length c.args.self.now.derived.items) c.loop-derived.derived-index c.derived-item.result refl low is) in
@@ -58,10 +58,10 @@ loop-derived-preserved c =
 
 pub invariant_of-result : goal.invariant_of-result
 invariant_of-result c =
-    let times : c.store_over-store.result.shape.times ≡ length (head_times c.args.of.now.query.now.head.columns) = ap (λ (v : StoreView). v.shape.times) c.store_over-store.ensures ∙ ap length c.in_ok-vars.ensures.times in
-    let texts : c.store_over-store.result.shape.texts ≡ length (head_texts c.args.of.now.query.now.head.columns) = ap (λ (v : StoreView). v.shape.texts) c.store_over-store.ensures ∙ ap length c.in_ok-vars.ensures.texts in
-    let empty : c.store_over-store.result.tables ≡ finite.empty = ap (λ (v : StoreView). v.tables) c.store_over-store.ensures in
-    let period : c.store_over-store.result.period ≡ c.args.self.now.period.number = ap (λ (v : StoreView). v.period) c.store_over-store.ensures ∙ word_period c.args.self.now.period in
+    let times : c.store_over-store.result.shape.times ≡ length (head_times c.args.of.now.query.now.head.columns) = ap (λ (v : StoreView). v.shape.times) c.store_over-store.ensures.made ∙ ap length c.in_ok-vars.ensures.times in
+    let texts : c.store_over-store.result.shape.texts ≡ length (head_texts c.args.of.now.query.now.head.columns) = ap (λ (v : StoreView). v.shape.texts) c.store_over-store.ensures.made ∙ ap length c.in_ok-vars.ensures.texts in
+    let empty : c.store_over-store.result.tables ≡ finite.empty = ap (λ (v : StoreView). v.tables) c.store_over-store.ensures.made in
+    let period : c.store_over-store.result.period ≡ c.args.self.now.period.number = ap (λ (v : StoreView). v.period) c.store_over-store.ensures.made ∙ word_period c.args.self.now.period in
     let own : length c.deref-derived-items.result.now ≡ length c.args.self.now.derived.items = ap length c.deref-derived-items.ensures.value in
     let all : length (levels_of c.args.self.now) ≡ length c.args.self.now.derived.items = map_count (λ (d : Derived). d.levels.items) c.args.self.now.derived.items in
     let end : c.loop-derived.derived-index ≡ length (levels_of c.args.self.now) = omega (arith, own, all, c.loop-derived-test.false, c.loop-derived.auto.derived-index-end) in
@@ -73,10 +73,10 @@ invariant_of-result c =
 
 pub returns : goal.returns
 returns c =
-    let times : c.store_over-store.result.shape.times ≡ length (head_times c.args.of.now.query.now.head.columns) = ap (λ (v : StoreView). v.shape.times) c.store_over-store.ensures ∙ ap length c.in_ok-vars.ensures.times in
-    let texts : c.store_over-store.result.shape.texts ≡ length (head_texts c.args.of.now.query.now.head.columns) = ap (λ (v : StoreView). v.shape.texts) c.store_over-store.ensures ∙ ap length c.in_ok-vars.ensures.texts in
-    let empty : c.store_over-store.result.tables ≡ finite.empty = ap (λ (v : StoreView). v.tables) c.store_over-store.ensures in
-    let period : c.store_over-store.result.period ≡ c.args.self.now.period.number = ap (λ (v : StoreView). v.period) c.store_over-store.ensures ∙ word_period c.args.self.now.period in
+    let times : c.store_over-store.result.shape.times ≡ length (head_times c.args.of.now.query.now.head.columns) = ap (λ (v : StoreView). v.shape.times) c.store_over-store.ensures.made ∙ ap length c.in_ok-vars.ensures.times in
+    let texts : c.store_over-store.result.shape.texts ≡ length (head_texts c.args.of.now.query.now.head.columns) = ap (λ (v : StoreView). v.shape.texts) c.store_over-store.ensures.made ∙ ap length c.in_ok-vars.ensures.texts in
+    let empty : c.store_over-store.result.tables ≡ finite.empty = ap (λ (v : StoreView). v.tables) c.store_over-store.ensures.made in
+    let period : c.store_over-store.result.period ≡ c.args.self.now.period.number = ap (λ (v : StoreView). v.period) c.store_over-store.ensures.made ∙ word_period c.args.self.now.period in
     let own : length c.deref-derived-items.result.now ≡ length c.args.self.now.derived.items = ap length c.deref-derived-items.ensures.value in
     let all : length (levels_of c.args.self.now) ≡ length c.args.self.now.derived.items = map_count (λ (d : Derived). d.levels.items) c.args.self.now.derived.items in
     let end : c.loop-derived.derived-index ≡ length (levels_of c.args.self.now) = omega (arith, own, all, c.loop-derived-test.false, c.loop-derived.auto.derived-index-end) in
