@@ -4,6 +4,7 @@ import re
 import shutil
 import tempfile
 import unittest
+from collections.abc import Iterable
 from pathlib import Path
 
 from recounts import passes
@@ -154,6 +155,28 @@ class Definitions(unittest.TestCase):
         for document in ("docs/architecture.md", "docs/proved.md"):
             rows = re.findall(r"(?m)^\| (`lrp_[^|]*) \|", (TOP / document).read_text())
             self.assertEqual(sorted(crates), sorted(re.findall(r"lrp_\w+", " ".join(rows))), document)
+
+
+class Names(unittest.TestCase):
+    """A public name means one thing in all crates; a rule of a grammar alone has the grammar's own name."""
+
+    RULES = {"column", "period", "point"}
+
+    def test_each_definition_has_a_name_of_its_own(self):
+        line = r"(?m)^(?:abbrev |unfoldable )*pub (?:abbrev |unfoldable |data |record )*(?!mod )(\w+)"
+        self.once(TOP.glob("crates/*/specs/**/*.antt"), line, self.RULES)
+
+    def test_each_type_has_a_name_of_its_own(self):
+        self.once(TOP.glob("crates/*/src/**/*.rt"), r"(?m)^pub (?:struct|enum|trait) (\w+)", set())
+
+    def once(self, files: Iterable[Path], line: str, rules: set[str]) -> None:
+        """Only these rules are told by such lines in two of the files."""
+        homes: dict[str, set[Path]] = {}
+        for file in files:
+            for name in re.findall(line, file.read_text()):
+                homes.setdefault(name, set()).add(file)
+        self.assertGreater(len(homes), 100)
+        self.assertEqual({name for name, there in homes.items() if len(there) > 1}, rules)
 
 
 class Walk(unittest.TestCase):
