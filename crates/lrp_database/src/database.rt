@@ -12,7 +12,7 @@ ghost use Rattle.lrp_database.specs.Once.{once, texts_among, texts_with};
 ghost use Rattle.lrp_database.specs.Stored.{HasFewTexts};
 ghost use Rattle.lrp_model.specs.Texts.{AreDistinct};
 
-use crate::texts::Texts;
+use crate::texts::TextLists;
 use indexmap::IndexSet;
 use lrp_model::{Copies, DataText, List, Memory, Name, Relation, Sort};
 use std::alloc::Global;
@@ -25,7 +25,7 @@ use std::marker::Model;
 pub struct Database {
     relations: List<Relation>,
     names: IndexSet<Name>,
-    texts: Texts,
+    texts: TextLists,
 }
 
 impl Model for Database {
@@ -61,7 +61,7 @@ impl Database {
         ensures { IfOk result (λ made. made ≡ relations) }
     {
         let names = names_of(alloc, relations.as_slice())?;
-        let texts = Texts::of(alloc, relations.as_slice())?;
+        let texts = TextLists::of(alloc, relations.as_slice())?;
         Ok(Database {
             relations,
             names,

@@ -14,7 +14,7 @@ use std::alloc::Global;
 // What a database keeps of them: the texts of all sorts, those of the sort `data`, and beside each name of a sort those
 // of that sort, as lists; and the empty list, for sorts that have none.
 #[derive(Drop)]
-pub struct Texts {
+pub struct TextLists {
     pub all: List<DataText>,
     pub unnamed: List<DataText>,
     pub names: IndexSet<Name>,
@@ -40,9 +40,9 @@ fn lists_of(alloc: Global, sets: Vec<IndexSet<DataText>>) -> Result<List<List<Da
     Ok(lists)
 }
 
-impl Texts {
+impl TextLists {
     // The texts of the rows of kept relations.
-    pub fn of(alloc: Global, relations: &[Relation]) -> Result<Texts, Memory>
+    pub fn of(alloc: Global, relations: &[Relation]) -> Result<TextLists, Memory>
         requires { AllByRecursion IsKept relations.now }
         ensures { IfOk result (AreTextsOf relations.now) }
     {
@@ -54,7 +54,7 @@ impl Texts {
             names,
             named,
         } = seen;
-        Ok(Texts {
+        Ok(TextLists {
             all: list_of(alloc, all)?,
             unnamed: list_of(alloc, unnamed)?,
             names,

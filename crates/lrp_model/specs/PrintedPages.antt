@@ -5,7 +5,6 @@ use Rattle.std.specs.Fmt.{signed_decimal}
 use Rattle.lrp_model.specs.Texts.{Text}
 use Rattle.lrp_model.specs.DataTexts.{IsDataText}
 use Rattle.lrp_model.specs.Rows.{Datum, Tuple, time, text, times_of, texts_of}
-use Rattle.lrp_model.specs.Pages.{last_of}
 use Rattle.lrp_model.specs.Limits.{greatest_number}
 use Rattle.lrp_model.specs.Printed.{joined_by, quoted}
 
@@ -91,7 +90,3 @@ abbrev pub token_behind : List ℕ → Bool → Option Tuple → Option (List �
 token_behind digest false last = None
 token_behind digest true None = None
 token_behind digest true (Some tuple) = Some (token_of digest tuple)
-
--- the lines of a page, and the line behind it, in JSON where the first flag is set; the second says that more is to come
-abbrev pub page_bytes : Bool → List ℕ → List Tuple → Bool → List ℕ
-page_bytes json digest page more = flat_map (answer_line json) page ++ end_line json (token_behind digest more (last_of page))

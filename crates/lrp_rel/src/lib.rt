@@ -13,6 +13,7 @@ mod written;
 pub use faults::{row_fault, sooner_of};
 pub use gathering::Heading;
 pub use laws::{database_texts_have_one_tree, databases_read_back};
+pub use lrp_database::Database;
 pub use lrp_model::{DbFault, DbKind};
 pub use lrp_print::write_relation;
 pub use meaning::meant_row;

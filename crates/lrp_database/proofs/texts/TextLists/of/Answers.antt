@@ -5,7 +5,7 @@ use Rattle.indexmap.specs.IndexSet.{keys}
 use Rattle.lrp_model.specs.Domains.{database_texts}
 use Rattle.lrp_database.specs.Once.{texts_beside}
 use Rattle.lrp_database.specs.Seen.{HasSeen}
-use Rattle.lrp_database.proofs.texts.Texts.of.Goals as goal
+use Rattle.lrp_database.proofs.texts.TextLists.of.Goals as goal
 
 pub returns : goal.returns
 returns c =

@@ -5,7 +5,7 @@ use Rattle.std.specs.Option.{is_some}
 use Rattle.std.specs.Str.{bytes_eq}
 use Rattle.indexmap.specs.IndexSet.{keys}
 use Rattle.lrp_database.proofs.SeenLemmas.{beside_found, beside_none}
-use Rattle.lrp_database.proofs.texts.Texts.of_name.Goals as goal
+use Rattle.lrp_database.proofs.texts.TextLists.of_name.Goals as goal
 
 pub returns-in-Some : goal.returns-in-Some
 returns-in-Some c =
