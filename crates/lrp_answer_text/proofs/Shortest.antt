@@ -7,13 +7,12 @@ use Rattle.std.proofs.lemmas.Int.{ints}
 use Rattle.std.proofs.lemmas.Bool.Decides.{nat_tests}
 use Rattle.lrp_theory.specs.Bounds.{Within, plus, Meets}
 use Rattle.lrp_theory.specs.Entries.{entry, node, IsLesser, IsLeastBound, IsClosure, IsSmallClosure, SameSolutions, Triangles}
-use Rattle.lrp_theory.proofs.Lists.{listed, difference}
 use Rattle.lrp_theory.proofs.Paths.{pivot_solutions, pivot_triangles, closure}
 use Rattle.lrp_theory.proofs.Through.{AtMost-more, same_then}
 use Rattle.lrp_matrix.specs.Matrices.{MatrixView, IsClosed, HaveSameIntegers}
-use Rattle.lrp_matrix.proofs.Lists.{list_meets, meets_nodes}
 use Rattle.lrp_zone.specs.Zones.{ZoneView, IsZone, columns_of}
 use Rattle.lrp_store.specs.Least.{matrix_of, IsRoom}
+use Rattle.lrp_store.proofs.Rooms.{least_stored}
 use Rattle.lrp_answer_text.specs.AnswerText.{bound_between, bounds_in, bounds_in_row, closed_bounds, lesser, shortest}
 
 -- ---- closing
@@ -125,20 +124,10 @@ module _ (z : ZoneView) (is : IsZone z) where
   shortest_least i j il jl ne = zone_closes.least i j il jl ne
 
   module _ (m : MatrixView) (closed : IsClosed m) (same : HaveSameIntegers (matrix_of z) m) where
-    -- a closed bound is the least that the numbers within the stored bounds meet
-    least_stored : (i j : ℕ) → i < columns_of z + 1 → j < columns_of z + 1 → i ≢ j → IsLeastBound (columns_of z + 1) (entry z.bounds) i j (entry m.cells i j)
-    least_stored i j il jl ne =
-        let n : m.columns ≡ columns_of z = same.columns in
-        let least = closed.least i j (omega arith) (omega arith) ne in
-        record {
-          met = λ x h. subst (λ d. Within d (entry m.cells i j)) (difference x (columns_of z) i j (omega arith) (omega arith)) (least.met (listed x (columns_of z)) (same.to _ (list_meets (matrix_of z) x h)));
-          reached = λ d w. let r = least.reached d w in (node r.0, meets_nodes (matrix_of z) r.0 (same.from r.0 r.1), r.2);
-        }
-
     pub closed_entries : bounds_in (columns_of z + 1) (entry m.cells) ≡ closed_bounds z
     closed_entries =
         bounds_same (columns_of z + 1) (entry m.cells) (shortest z.bounds (columns_of z + 1))
-        (λ i j il jl ne. least_once (columns_of z + 1) (entry z.bounds) i j (entry m.cells i j) (shortest z.bounds (columns_of z + 1) i j) (least_stored i j il jl ne) (shortest_least i j il jl ne))
+        (λ i j il jl ne. least_once (columns_of z + 1) (entry z.bounds) i j (entry m.cells i j) (shortest z.bounds (columns_of z + 1) i j) (least_stored z is m closed same i j il jl ne) (shortest_least i j il jl ne))
 
 -- two different nodes make a column, so a zone with room has closed bounds of at most 2^62
 pub room_small : (z : ZoneView) (h : ℕ) (m : MatrixView) → IsRoom z h → IsClosed m → HaveSameIntegers (matrix_of z) m → IsSmallClosure (columns_of z + 1) (2 ^ 62) m.cells

@@ -1,5 +1,5 @@
 -- Rows that are put into a store, group after group.
-use Rattle.std.proofs.Common.{◌≡◌, ◌≢◌, ℕ, zero, suc, ◌+◌, ◌<◌, ◌≤◌, ◌⊎◌, inl, inr, List, [], ◌∷◌, ◌++◌, Option, Some, None, true, unwrap_or, get_or, length, map, take, arith, refl, sym, subst, ap, ◌∙◌}
+use Rattle.std.proofs.Common.{◌≡◌, ◌≢◌, ℕ, ◌+◌, ◌<◌, ◌⊎◌, inl, inr, List, [], ◌∷◌, ◌++◌, Option, Some, None, true, unwrap_or, get_or, length, map, take, arith, refl, sym, subst, ap, ◌∙◌}
 use Rattle.std.specs.Prelude.{ℤ, pos, ◌+ℤ◌, ◌<ℤ◌, AllPairs, Contains, is_some}
 use Rattle.std.specs.FinMap as finite
 use Rattle.std.specs.FinMap.{contains_key-keys, get-empty}
@@ -57,7 +57,7 @@ module _ (group : Cell) (row : MaximalRow) (old new : StoreView) (one : old.shap
 
 -- ---- the rows of a group
 pub adds_none : (group : Cell) (s : StoreView) → AddsRows group [] s s
-adds_none group s = record { rest = refl; to = λ c z h. inl h; kept = λ c z h. h; from = λ r l. absurd (in_none r l); far = λ _ f. f }
+adds_none group s = record { rest = refl; valid = λ is. is; to = λ c z h. inl h; kept = λ c z h. h; from = λ r l. absurd (in_none r l); far = λ _ f. f }
 
 module _ (group : Cell) (rows : List MaximalRow) (row : MaximalRow) (old now new : StoreView) (one : old.shape.times ≡ 1) (so : AddsRows group rows old now) (a : AddsRow group row now new) (across : (v : MaximalRow) → Contains rows v → LieApart old.period v row) where
   now_one : now.shape.times ≡ 1
@@ -117,6 +117,7 @@ module _ (group : Cell) (rows : List MaximalRow) (row : MaximalRow) (old now new
   pub adds_more : AddsRows group (rows ++ row ∷ []) old new
   adds_more = record {
     rest = more_rest;
+    valid = λ _. a.valid;
     to = λ c z h. elim (either c z h) [
       | inl k ↦ elim (so.to c z k) [
         | inl o ↦ inl o
@@ -267,32 +268,3 @@ same_shape group rows old new a = ap (λ (s : StoreView). s.shape) a.rest
 
 pub same_period : (group : Cell) (rows : List MaximalRow) (old new : StoreView) → AddsRows group rows old new → new.period ≡ old.period
 same_period group rows old new a = ap (λ (s : StoreView). s.period) a.rest
-
--- ---- the cell of a row
-pub row_residues : (times : ℕ) (group c : Cell) (r : ℕ) (residues : List ℤ) → times ≡ 1 → c ≡ row_cell group r → residues ≡ pos r ∷ [] → residues ≡ take times c.residues
-row_residues times group c r residues one e f = f ∙ ap (λ (d : Cell). take 1 d.residues) (sym e) ∙ ap (λ n. take n c.residues) (sym one)
-
-pub row_texts : (n : ℕ) (group c : Cell) (r : ℕ) → c ≡ row_cell group r → IsPadded 0 n group.texts → IsPadded 0 n c.texts
-row_texts n group c r e p = subst (λ (d : Cell). IsPadded 0 n d.texts) (sym e) p
-
-pub row_times : (times : ℕ) (group c : Cell) (r : ℕ) → times ≡ 1 → c ≡ row_cell group r → IsPadded (pos 0) times c.residues
-row_times times group c r one e = subst (λ n. IsPadded (pos 0) n c.residues) (sym one) (subst (λ (d : Cell). IsPadded (pos 0) 1 d.residues) (sym e) (record { size = refl; zeros = zeros }))
-  where
-    zeros : (i : ℕ) → 1 ≤ i → get_or (pos r ∷ pos 0 ∷ pos 0 ∷ pos 0 ∷ pos 0 ∷ pos 0 ∷ pos 0 ∷ pos 0 ∷ []) i (pos 0) ≡ pos 0
-    zeros zero l = absurd (omega arith)
-    zeros (suc zero) l = refl
-    zeros (suc (suc zero)) l = refl
-    zeros (suc (suc (suc zero))) l = refl
-    zeros (suc (suc (suc (suc zero)))) l = refl
-    zeros (suc (suc (suc (suc (suc zero))))) l = refl
-    zeros (suc (suc (suc (suc (suc (suc zero)))))) l = refl
-    zeros (suc (suc (suc (suc (suc (suc (suc zero))))))) l = refl
-    zeros (suc (suc (suc (suc (suc (suc (suc (suc i)))))))) l = refl
-
-pub row_put : (group c : Cell) (row : MaximalRow) (period : ℕ) (z : ZoneView) (old new : StoreView) → old.period ≡ period → IsZoneOf period row z → c ≡ row_cell group row.residue → new.tables ≡ finite.insert old.tables c (tables_at old c ++ z.bounds ∷ []) → new ≡ record old { tables = new.tables; spare = new.spare } → AddsRow group row old new
-row_put group c row period z old new e is f t r = record {
-  zone = z;
-  is = subst (λ p. IsZoneOf p row z) (sym e) is;
-  tables = t ∙ ap (λ d. finite.insert old.tables d (tables_at old d ++ z.bounds ∷ [])) f;
-  rest = r;
-}

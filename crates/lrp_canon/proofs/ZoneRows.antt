@@ -14,10 +14,6 @@ use Rattle.lrp_zone.proofs.Reaches.{small_reach}
 use Rattle.lrp_canon.specs.declared.rows.MaximalRow.{MaximalRow}
 use Rattle.lrp_canon.specs.Making.{IsInside, IsRow, IsRowEnd, IsZoneOf, high_of, low_of}
 
-pub end_small : (period r : ℕ) (e : Option ℤ) → IsRowEnd period r e → AtMost (2 ^ 62) e
-end_small period r None h = tt
-end_small period r (Some a) h = h.1
-
 module _ (period : ℕ) (row : MaximalRow) (is : IsRow period row) (high : period ≤ 2 ^ 62) (k : ℤ) (ek : k ≡ pos period) (rs : List ℤ) (er : rs ≡ pos row.residue ∷ []) (bs : List Bound) (eb : bs ≡ low_of row.least ∷ high_of row.most ∷ []) where
   abbrev own : List ℤ
   own = pos row.residue ∷ []

@@ -10,7 +10,7 @@ use Rattle.lrp_model.specs.declared.tuples.Cell.{Cell}
 use Rattle.lrp_model.specs.declared.tuples.Shape.{Shape}
 use Rattle.lrp_zone.specs.Zones.{ZoneView, IsMember, IsZone, reach_of}
 use Rattle.lrp_slots.specs.Lists.{list_at}
-use Rattle.lrp_store.specs.Stores.{StoreView, IsPadded, tables_at, zones_at}
+use Rattle.lrp_store.specs.Stores.{StoreView, IsPadded, IsStore, tables_at, zones_at}
 use Rattle.lrp_cutting.specs.Intervals.{IsFarBelow}
 use Rattle.lrp_spans.specs.declared.spans.Span.{Span}
 use Rattle.lrp_spans.specs.Groups.{SpanLists}
@@ -106,10 +106,12 @@ pub record AddsRow (group : Cell) (row : MaximalRow) (old new : StoreView) : Typ
   pub is : IsZoneOf old.period row zone
   pub tables : new.tables ≡ finite.insert old.tables (row_cell group row.residue) (tables_at old (row_cell group row.residue) ++ zone.bounds ∷ [])
   pub rest : new ≡ record old { tables = new.tables; spare = new.spare }
+  pub valid : IsStore new
 
 -- the new store has the zones of the old one, and behind them those of the rows with the group's texts
 pub record AddsRows (group : Cell) (rows : List MaximalRow) (old new : StoreView) : Type 0 where
   pub rest : new ≡ record old { tables = new.tables; spare = new.spare }
+  pub valid : IsStore old → IsStore new
   pub to : (cell : Cell) (z : ZoneView) → Contains (zones_at new cell) z → Contains (zones_at old cell) z ⊎ IsRowZone group rows old.period cell z
   pub kept : (cell : Cell) (z : ZoneView) → Contains (zones_at old cell) z → Contains (zones_at new cell) z
   pub from : (row : MaximalRow) → Contains rows row → HasRowZone new group row

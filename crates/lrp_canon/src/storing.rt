@@ -38,7 +38,6 @@ pub fn rows_in_store(
         let spans = spans_at(alloc, groups, &group)?;
         let rows = maximal_rows(alloc, &spans, periods)?;
         add_rows(&rows, &group, periods.least, &mut store)?;
-        store.shape();
     }
     Ok(store)
 }
@@ -93,10 +92,7 @@ fn zone_of(row: &MaximalRow, period: u64) -> Zone
 {
     let bounds = [low_bound(row.least), high_bound(row.most)];
     match Zone::of(period as i64, &[row.residue as i64], &bounds) {
-        Some(zone) => {
-            zone.columns();
-            zone
-        }
+        Some(zone) => zone,
         None => unreachable!(),
     }
 }

@@ -1,12 +1,12 @@
 -- What entries stand for: those of a zone, place after place, and one more before others.
-use Rattle.std.proofs.Common.{◌≡◌, ◌≢◌, ◌⊎◌, ℕ, zero, suc, ◌+◌, ◌<◌, ◌≤◌, inl, inr, List, [], ◌∷◌, ◌++◌, length, map, drop, replicate, Option, Some, None, true, false, cond, eqb, refl, sym, ap, subst, ◌∙◌, arith, get_or, set, get_or-set_same, get_or-set_other, length-set}
+use Rattle.std.proofs.Common.{◌≡◌, ◌≢◌, ◌⊎◌, ℕ, zero, suc, ◌+◌, ◌<◌, ◌≤◌, inl, inr, List, [], ◌∷◌, ◌++◌, length, drop, replicate, Option, Some, None, true, false, cond, eqb, refl, sym, ap, subst, ◌∙◌, arith, get_or, set, get_or-set_same, get_or-set_other, length-set}
 use Rattle.std.specs.Prelude.{ℤ, pos, ◌-◌}
 use Rattle.std.specs.List.{AllByRecursion, range_with_len}
 use Rattle.std.proofs.lemmas.Bool.{eqb-true, eqb-false, cases_lt, cases_eq}
 use Rattle.std.proofs.lemmas.List.{drop_all, ext_get_or, length-map}
 use Rattle.std.proofs.lemmas.List.FromFn.{get_or-map-range_with_len, length-range_with_len}
 use Rattle.lrp_model.specs.declared.tuples.Cell.{Cell}
-use Rattle.lrp_packed.specs.Entries.{ArePacked, IsEntryAt, IsProper, IsEntryPut, bound_in, cell_of_entries, entry_for, read_from, residue_in, table_of_entries, text_in}
+use Rattle.lrp_packed.specs.Entries.{ArePacked, IsEntryAt, IsEntryPut, IsFullSize, IsProper, bound_in, cell_of_entries, entry_for, read_from, residue_in, table_of_entries, text_in}
 use Rattle.lrp_packed.specs.declared.zones.PackedEntry.{PackedEntry}
 
 none_some : {X : Type 0} (x : X) → None ≡ Some x → ⊥
@@ -107,13 +107,13 @@ module _ (cell : Cell) (table : List (Option ℤ)) where
   }
 
   -- those of all places stand for the zone
-  pub all_first : (n : ℕ) (es : List PackedEntry) → n ≡ 97 → length cell.texts ≡ 8 → length cell.residues ≡ 8 → length table ≡ 81 → AreFirst n es → ArePacked cell table es
-  all_first n es e texts residues size f = record {
+  pub all_first : (n : ℕ) (es : List PackedEntry) → n ≡ 97 → IsFullSize cell table → AreFirst n es → ArePacked cell table es
+  all_first n es e size f = record {
     proper = f.proper;
     cell_is = sym (cell_is cell (read_from text_in 0 8 es) (read_from residue_in 8 8 es)
-        (sym (read_is text_in 0 8 es 0 cell.texts texts (λ i h. ap (λ k. text_in (entry_for es k)) (from_none i) ∙ (f.done i (omega arith)).text h)))
-        (sym (read_is residue_in 8 8 es (pos 0) cell.residues residues (λ i h. (f.done (8 + i) (omega arith)).residue (omega arith) (omega arith) ∙ ap (λ k. get_or cell.residues k (pos 0)) (back 8 i)))));
-    table_is = read_is bound_in 16 81 es None table size (λ i h. (f.done (16 + i) (omega arith)).bound (omega arith) ∙ ap (λ k. get_or table k None) (back 16 i));
+        (sym (read_is text_in 0 8 es 0 cell.texts size.texts (λ i h. ap (λ k. text_in (entry_for es k)) (from_none i) ∙ (f.done i (omega arith)).text h)))
+        (sym (read_is residue_in 8 8 es (pos 0) cell.residues size.residues (λ i h. (f.done (8 + i) (omega arith)).residue (omega arith) (omega arith) ∙ ap (λ k. get_or cell.residues k (pos 0)) (back 8 i)))));
+    table_is = read_is bound_in 16 81 es None table size.bounds (λ i h. (f.done (16 + i) (omega arith)).bound (omega arith) ∙ ap (λ k. get_or table k None) (back 16 i));
   }
     where
       from_none : (i : ℕ) → 0 + i ≡ i

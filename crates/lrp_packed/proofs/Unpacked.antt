@@ -1,5 +1,5 @@
 -- The zones of a packed store are those of the store that it is seen as.
-use Rattle.std.proofs.Common.{◌≡◌, ◌⊎◌, ℕ, zero, suc, ◌+◌, ◌<◌, ◌≤◌, ◌^◌, inl, inr, List, [], ◌∷◌, ◌++◌, length, map, take, Option, Some, None, IsSome, Bool, true, false, cond, Contains, refl, sym, ap, subst, ◌∙◌, arith, unwrap_or, append_assoc, to_z, of_z}
+use Rattle.std.proofs.Common.{◌≡◌, ◌⊎◌, ℕ, zero, suc, ◌<◌, ◌≤◌, ◌^◌, inl, inr, List, [], ◌∷◌, ◌++◌, map, take, Option, Some, None, IsSome, Bool, true, false, cond, Contains, refl, sym, ap, subst, ◌∙◌, arith, unwrap_or, append_assoc, to_z, of_z}
 use Rattle.std.specs.Prelude.{ℤ, nat_abs, pos}
 use Rattle.std.specs.Int.{w64}
 use Rattle.std.proofs.lemmas.Int.{ints}
@@ -15,13 +15,13 @@ use Rattle.lrp_zone.specs.Zones.{IsMember, IsZone, ZoneView}
 use Rattle.lrp_zone.proofs.Reaches.{small_reach}
 use Rattle.lrp_slots.specs.Lists.{cell_cmp, list_at}
 use Rattle.lrp_slots.proofs.Tables.{cells_total, same_cell}
-use Rattle.lrp_store.specs.Stores.{HasReach, InStore, IsStore, StoreView, tables_at, zone_of}
+use Rattle.lrp_store.specs.Stores.{HasReach, IsStore, StoreView, tables_at, zone_of}
 use Rattle.lrp_store.proofs.Held.{Table, cell_held, zone_held}
 use Rattle.lrp_store.proofs.Listed.{tight_is_small, word_abs}
 use Rattle.lrp_tables.specs.Pieces.{ArePieces, IsPieceOf}
 use Rattle.lrp_tables.specs.declared.pieces.Piece.{Piece}
 use Rattle.lrp_tables.proofs.Pieced.{in_map, of_map}
-use Rattle.lrp_packed.specs.Entries.{CellZone, cell_of_entries, table_of_entries}
+use Rattle.lrp_packed.specs.Entries.{CellZone, IsFullSize, cell_of_entries, table_of_entries}
 use Rattle.lrp_packed.specs.declared.zones.PackedEntry.{PackedEntry}
 use Rattle.lrp_packed.specs.Packed.{AllFit, CanBeUnpacked, HasSame, store_of, tables_of, unpacked}
 
@@ -107,11 +107,15 @@ module _ (shape : Shape) (period : ℕ) (zs : List CellZone) where
 
   module _ (can : AllByRecursion (CanBeUnpacked shape period) zs) where
     pub unpacked_fit : AllFit (store_of shape period zs)
-    unpacked_fit piece is = record {
-      cell = (all_in (CanBeUnpacked shape period) zs (piece.cell, is.table) can (of_tables zs piece.cell is.table is.held)).cell;
-      period_is = ap (λ (z : ZoneView). z.period) is.zone;
-      residues = ap (λ (z : ZoneView). z.residues) is.zone;
-    }
+    unpacked_fit piece is =
+        let of = all_in (CanBeUnpacked shape period) zs (piece.cell, is.table) can (of_tables zs piece.cell is.table is.held) in (
+          subst IsZone (sym is.zone) of.zone,
+          record {
+            cell = of.cell;
+            period_is = ap (λ (z : ZoneView). z.period) is.zone;
+            residues = ap (λ (z : ZoneView). z.residues) is.zone;
+          },
+        )
 
     pub unpacked_reach : HasReach (store_of shape period zs) (2 ^ 62)
     unpacked_reach = record {
@@ -187,12 +191,16 @@ module _ (s : StoreView) where
   own_table : (piece : Piece) (is : IsPieceOf s piece) → Contains (tables_at s piece.cell) piece.zone.bounds
   own_table piece is = subst (λ t. Contains (tables_at s piece.cell) t) (sym (ap (λ (z : ZoneView). z.bounds) is.zone)) is.held
 
-  -- the cell of a piece that is left is full size
-  pub sizes_of : IsStore s → (list rest : List Piece) (piece : Piece) (zs : List CellZone) → list ≡ piece ∷ rest → IsPacking s list zs → (length piece.cell.texts ≡ 8) × (length piece.cell.residues ≡ 8)
+  -- a piece that is left is full size
+  pub sizes_of : IsStore s → (list rest : List Piece) (piece : Piece) (zs : List CellZone) → list ≡ piece ∷ rest → IsPacking s list zs → IsFullSize piece.cell piece.zone.bounds
   sizes_of valid list rest piece zs e p =
       let is = p.are.each piece (in_behind p.done list piece (subst (λ l. Contains l piece) (sym e) (first_in piece rest))) in
       let cell = cell_held s valid piece.cell is.table is.held in
-      (cell.texts.size, cell.residues.size)
+      record {
+        texts = cell.texts.size;
+        residues = cell.residues.size;
+        bounds = (zone_held s valid piece.cell piece.zone.bounds (own_table piece is)).size;
+      }
 
   module _ (pieces : List Piece) (are : ArePieces s pieces) where
     zone_there : (c : Cell) (t : Table) → Contains (map packed pieces) (c, t) → Contains (tables_at s c) t

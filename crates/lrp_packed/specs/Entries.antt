@@ -1,5 +1,5 @@
 -- Zones of cells as lists of entries.
-use Rattle.std.specs.Prelude.{◌≡◌, ℕ, ℤ, ◌-◌, ◌<◌, ◌≤◌, ◌==◌, pos, List, [], ◌∷◌, map, Option, Some, None, IfSome, slice_index_or, if◌then◌else◌}
+use Rattle.std.specs.Prelude.{◌≡◌, ℕ, ℤ, ◌-◌, ◌<◌, ◌≤◌, ◌==◌, pos, List, [], ◌∷◌, map, Option, Some, None, IfSome, length, slice_index_or, if◌then◌else◌}
 use Rattle.std.specs.List.{AllByRecursion, range_with_len}
 use Rattle.lrp_model.specs.declared.tuples.Cell.{Cell}
 use Rattle.lrp_zone.specs.Numbers.{FitsNumber}
@@ -42,6 +42,12 @@ table_of_entries es = read_from bound_in 16 81 es
 pub record IsProper (e : PackedEntry) : Type 0 where
   pub low : e.place < 97
   pub stands : 16 ≤ e.place → FitsNumber (Some e.time)
+
+-- there are eight texts, eight residues, and nine rows of nine bounds
+pub record IsFullSize (cell : Cell) (table : List (Option ℤ)) : Type 0 where
+  pub texts : length cell.texts ≡ 8
+  pub residues : length cell.residues ≡ 8
+  pub bounds : length table ≡ 81
 
 -- the entry, if there is one, is what stands at the place
 pub record IsEntryAt (cell : Cell) (table : List (Option ℤ)) (place : ℕ) (found : Option PackedEntry) : Type 0 where

@@ -28,9 +28,9 @@ tables_of (z ∷ zs) = finite.insert (tables_of zs) z.0 (z.1 ∷ list_at (tables
 abbrev pub store_of : Shape → ℕ → List CellZone → StoreView
 store_of shape period zs = record { shape = shape; period = period; tables = tables_of zs; spare = 0 }
 
--- each zone has the residues of its cell, and the store's period
+-- each piece is a zone with the residues of its cell, and the store's period
 abbrev pub AllFit : StoreView → Type 0
-AllFit s = (piece : Piece) → IsPieceOf s piece → FitsCell s.shape s.period piece
+AllFit s = (piece : Piece) → IsPieceOf s piece → IsZone piece.zone × FitsCell s.shape s.period piece
 
 -- new has the cells, the zones and the tuples of old
 pub record HasSame (old new : StoreView) : Type 0 where

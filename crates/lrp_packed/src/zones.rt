@@ -1,7 +1,7 @@
 // Zones in as few bytes as they need.
-ghost use Rattle.std.specs.Prelude.{◌≡◌, ◌<◌, ◌≤◌, IfOk, IfSome, length};
+ghost use Rattle.std.specs.Prelude.{◌≡◌, ◌<◌, ◌≤◌, IfOk, IfSome};
 ghost use Rattle.std.specs.List.{AllByRecursion};
-ghost use Rattle.lrp_packed.specs.Entries.{ArePacked, IsEntryAt, IsProper, IsEntryPut, cell_of_entries, residue_in, table_of_entries, text_in};
+ghost use Rattle.lrp_packed.specs.Entries.{ArePacked, IsEntryAt, IsEntryPut, IsFullSize, IsProper, cell_of_entries, residue_in, table_of_entries, text_in};
 ghost use Rattle.lrp_packed.specs.Packed.{CanBeUnpacked, unpacked};
 
 use lrp_model::{Cell, Memory, Shape};
@@ -40,8 +40,7 @@ impl Model for PackedZone {
 impl PackedZone {
     /// A zone with its cell.
     pub(crate) fn of(alloc: Global, piece: &Piece) -> Result<PackedZone, Memory>
-        requires texts { length piece.now.cell.texts ≡ 8 }
-        requires residues { length piece.now.cell.residues ≡ 8 }
+        requires { IsFullSize piece.now.cell piece.now.zone.bounds }
         ensures { IfOk result (λ made. made ≡ (piece.now.cell, piece.now.zone.bounds)) }
     {
         let entries = entries_of(alloc, piece)?;
@@ -62,11 +61,9 @@ impl PackedZone {
 
 // The entries of a zone, in as many places of a vector.
 fn entries_of(alloc: Global, piece: &Piece) -> Result<Vec<PackedEntry>, Memory>
-    requires texts { length piece.now.cell.texts ≡ 8 }
-    requires residues { length piece.now.cell.residues ≡ 8 }
+    requires { IsFullSize piece.now.cell piece.now.zone.bounds }
     ensures { IfOk result (λ made. ArePacked piece.now.cell piece.now.zone.bounds made.items) }
 {
-    piece.zone.columns();
     let mut entries = Vec::new(alloc);
     for place in 0..97 {
         if let Some(entry) = entry_at(piece, place) {
@@ -80,8 +77,7 @@ fn entries_of(alloc: Global, piece: &Piece) -> Result<Vec<PackedEntry>, Memory>
 // The entry for a place of a zone, if there is one.
 fn entry_at(piece: &Piece, place: u8) -> Option<PackedEntry>
     requires place { place < 97 }
-    requires texts { length piece.now.cell.texts ≡ 8 }
-    requires residues { length piece.now.cell.residues ≡ 8 }
+    requires size { IsFullSize piece.now.cell piece.now.zone.bounds }
     ensures is { IsEntryAt piece.now.cell piece.now.zone.bounds place result }
     ensures proper { IfSome result IsProper }
 {

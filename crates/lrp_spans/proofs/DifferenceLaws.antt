@@ -8,7 +8,7 @@ use Rattle.std.proofs.lemmas.Slice.{between_to_end}
 use Rattle.lrp_spans.specs.declared.spans.Span.{Span}
 use Rattle.lrp_spans.specs.Spans.{AppendsLeftSpans, AreBefore, AreOrdered, SpanComesBefore, HasTurn, InSpans, IsSpanDifference, IsSpan}
 use Rattle.lrp_spans.proofs.CutLaws.{apart_turns, before_trans, below_ends, ends_below, own}
-use Rattle.lrp_spans.proofs.Lists.{before, below_or, head_in, in_none, in_one, pairs_append, pairs_head, pairs_none, pairs_right}
+use Rattle.lrp_spans.proofs.Lists.{before, below_or, head_in, in_none, in_one, pairs_append, pairs_head, pairs_right}
 use Rattle.lrp_spans.proofs.MergeLaws.{in_left, in_right, in_either, this_has}
 
 -- the list from a place on
@@ -42,10 +42,6 @@ none_before high holes i span o v low stop h m b = elim (below_or i (length hole
         (place_before holes i h l o.apart h a) b)
   ]
 ]
-
--- no span yet
-pub difference_none : (high : ℕ) (holes : List Span) → IsSpanDifference high [] holes []
-difference_none high holes = record { to = λ r n h. absurd (in_none h.span h.listed); from = λ r n h out. absurd (in_none h.span h.listed); each = λ s l. absurd (in_none s l); apart = pairs_none SpanComesBefore }
 
 -- holes before a span take nothing from it
 pub passed_holes : (high : ℕ) (span : Span) (holes left : List Span) (i : ℕ) → AreBefore (take i holes) span → IsSpanDifference high (span ∷ []) (drop i holes) left → IsSpanDifference high (span ∷ []) holes left

@@ -214,13 +214,7 @@ module _ (s : StoreView) (is : IsStore s) (one : s.shape.times ≡ 1) (lists : S
   pub group_numbers : (p : Span) → Contains (list_at lists group) p → AreNumbersOf (HoldsNumber s) (take s.shape.texts group.texts) s.period (list_at lists group)
   group_numbers p l = record { to = group_to; from = group_from p l }
 
--- ---- merged spans have the same numbers
-pub merged_numbers : (set : ℤ → List ℕ → Type 0) (texts : List ℕ) (k : ℕ) (old new : List Span) → AreMergedSpans old new → AreNumbersOf set texts k old → AreNumbersOf set texts k new
-merged_numbers set texts k old new m a = record {
-  to = λ x h. a.to x (record { residue = h.residue; turn = h.turn; is = h.is; inside = m.to h.residue h.turn h.inside });
-  from = λ x h. (let g = a.from x h in record { residue = g.residue; turn = g.turn; is = g.is; inside = m.from g.residue g.turn g.inside });
-}
-
+-- ---- merged spans
 pub merged_below : (k high : ℕ) (old new : List Span) → AreMergedSpans old new → ((p : Span) → Contains old p → IsSpan high p) → ((p : Span) → Contains old p → p.residue < k) → (p : Span) → Contains new p → p.residue < k
 merged_below k high old new m valid below p l =
     let v : IsSpan high p = m.each high valid p l in

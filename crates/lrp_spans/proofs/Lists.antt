@@ -2,7 +2,7 @@
 use Rattle.std.proofs.Common.{zero, suc, ap, map, drop, Some, ◌∙◌, ◌≡◌, ℕ, ◌+◌, ◌-◌, ◌<◌, ◌≤◌, inl, inr, List, [], ◌∷◌, ◌++◌, take, length, length-append, get_or, arith, sym, subst}
 use Rattle.std.specs.Prelude.{Contains, AllPairs, slice_get}
 use Rattle.std.proofs.lemmas.List.{append_assoc, get_or_append_left, map-append, take-append-drop, take_all, take_more}
-use Rattle.std.proofs.lemmas.List.Elements.{Contains-append_left, Contains-append_right, Contains-append_cases}
+use Rattle.std.proofs.lemmas.List.Elements.{Contains-append_right, Contains-append_cases}
 pub use Rattle.lrp_theory.proofs.Members.{before, below_or, from_map, in_map, front_more, head_in, in_cons, in_none, in_one, later, one_in, pairs_append, pairs_none, pairs_one}
 
 -- each two of the front of a list
@@ -49,10 +49,6 @@ front_all P xs i d l all here x h = elim (Contains-append_cases (take i xs) (get
   | inl a ↦ all x a
   | inr a ↦ subst P (in_one (get_or xs i d) x a) here
 ]
-
--- what is in a part of a list is in it
-pub in_front : {X : Type 0} (xs : List X) (i : ℕ) (x : X) → Contains (take i xs) x → Contains xs x
-in_front xs i x h = subst (λ ys. Contains ys x) (take-append-drop i xs) (Contains-append_left (take i xs) (drop i xs) x h)
 
 pub in_back : {X : Type 0} (xs : List X) (i : ℕ) (x : X) → Contains (drop i xs) x → Contains xs x
 in_back xs i x h = subst (λ ys. Contains ys x) (take-append-drop i xs) (Contains-append_right (take i xs) (drop i xs) x h)

@@ -11,7 +11,7 @@ use Rattle.lrp_theory.specs.Entries.{AtMost}
 use Rattle.lrp_matrix.specs.Ranges.{Above}
 use Rattle.lrp_spans.specs.declared.spans.Span.{Span}
 use Rattle.lrp_spans.specs.Spans.{AreMergedSpans, SpanBeginsBy, SpanComesBefore, HasLessResidue, HasTurn, InSpans, SpanComesNoLater, IsJoinedSpan, IsSpan}
-use Rattle.lrp_spans.proofs.Lists.{before, below_or, in_none, in_one, one_in, pairs_append, pairs_left, pairs_one, pairs_none}
+use Rattle.lrp_spans.proofs.Lists.{before, below_or, in_none, in_one, one_in, pairs_append, pairs_left, pairs_one}
 
 -- ---- turns in some span of a list
 pub in_left : (xs ys : List Span) (r : ℕ) (n : ℤ) → InSpans xs r n → InSpans (xs ++ ys) r n
@@ -194,9 +194,6 @@ merged_permutation old sorted new p m = record {
   where
     moved : (xs ys : List Span) → IsPermutation xs ys → (r : ℕ) (n : ℤ) → InSpans xs r n → InSpans ys r n
     moved xs ys q r n h = record { span = h.span; listed = Contains-permutation xs ys h.span q h.listed; is = h.is }
-
-pub merged_none : AreMergedSpans [] []
-merged_none = record { to = λ r n h. h; from = λ r n h. h; apart = pairs_none SpanComesBefore; each = λ high all. all }
 
 -- ---- spans whose residues ascend
 -- the residues ascend below the place

@@ -166,13 +166,6 @@ pub tight_high : (z : ZoneView) → IsZone z → columns_of z ≡ 1 → (k r : �
 tight_high z valid one k r e is ks rs = subst (λ f. IsTight k r f) (sym is) (subst (λ s. IsTight k s (entry z.bounds 1 0)) (sym rs) (subst (λ j. IsTight j (node z.residues 1) (entry z.bounds 1 0)) (sym ks)
     (upright (pos z.period) (node z.residues 1) (entry z.bounds 1 0) (valid.shape.tight 1 0 (omega (arith, one)) (omega arith)))))
 
-pub small_low : (z : ZoneView) → IsZone z → columns_of z ≡ 1 → AtMost (2 ^ 62) (entry z.bounds 0 1)
-small_low z valid one = of (entry z.bounds 0 1) (valid.shape.tight 0 1 (omega arith) (omega (arith, one)))
-  where
-    of : (e : Option ℤ) → IsTight (pos z.period) (pos 0 -ℤ node z.residues 1) e → AtMost (2 ^ 62) e
-    of None t = tt
-    of (Some a) t = t.1
-
 -- the residue of a zone with one column
 pub residue_of : (z : ZoneView) → IsZone z → columns_of z ≡ 1 → IsResidue z.period (node z.residues 1)
 residue_of z valid one = valid.shape.residues 1 (omega (arith, one))

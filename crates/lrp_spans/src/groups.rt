@@ -20,7 +20,6 @@ pub fn groups_of(alloc: Global, store: &Store) -> Result<Slots<Span>, Memory>
     ensures groups { IfOk result (λ made. AreGroups store.now made.lists) }
     ensures valid { IfOk result (λ _. IsStore store.now) }
 {
-    store.shape();
     let mut groups = Slots::new(alloc);
     for (cell, zones) in store.entries() {
         push_spans(&group_of(&cell), zones, &mut groups)?;

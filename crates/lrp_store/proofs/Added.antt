@@ -24,10 +24,6 @@ module _ (s : StoreView) (is : IsStore s) (c : Cell) (z : ZoneView) where
   abbrev pub tuples : Set
   tuples = IsTupleOf z (take s.shape.texts c.texts)
 
-  -- all are held already
-  pub held_already : (cap : ℕ) → IsWhole tuples s → IsAdded tuples cap (greatest_of z.bounds) s s
-  held_already cap whole = record { grown = grown_same cap (greatest_of z.bounds) tuples s is; whole = whole }
-
   -- all are held where the zone lies within one of the cell
   pub held_within : (t : Table) → Contains (tables_at s c) t → (w : ZoneView) → w ≡ zone_of s c t → IsWithin z w → IsWhole tuples s
   held_within t h w e within = record {
@@ -90,10 +86,6 @@ module _ (s : StoreView) (is : IsStore s) (c : Cell) (proper : IsCellOf s.shape 
   abbrev pub all : Set
   all = tuples s is c (zone_of s c (replicate 81 None))
 
-  -- they are held where the cell's list has it
-  pub free_held : (cap : ℕ) → Contains (tables_at s c) (replicate 81 None) → IsAdded all cap 0 s s
-  free_held cap h = held_already s is c (zone_of s c (replicate 81 None)) cap (held_within s is c (zone_of s c (replicate 81 None)) (replicate 81 None) h (zone_of s c (replicate 81 None)) refl (record { each = λ xs m. m }))
-
   -- they were added
   pub free_added : (t : Table) → t ≡ replicate 81 None → (m : Tables) → m ≡ finite.insert s.tables c (tables_at s c ++ t ∷ []) → (cap n : ℕ) → cap < 2 ^ 32 → (get s.tables c ≡ None → len s.tables < cap) → IsAdded all cap 0 s (record { shape = s.shape; period = s.period; tables = m; spare = n })
   free_added t et m em cap n low room =
@@ -110,11 +102,6 @@ module _ (s : StoreView) (is : IsStore s) (c : Cell) (proper : IsCellOf s.shape 
     grown = grown_same cap 0 all s is;
     more = record { cell = c; inhabited = inhabited_by s is c (zone_of s c (replicate 81 None)) free_zone refl refl proper s.spare all (λ xs i. record { member = i; same = refl }); apart = none; full = full };
   }
-
--- a cell of which nothing is counted is not held
-pub none_counted : {X : Type 0} (o : Option X) (n : ℕ) → ((0 < n) ↔ IsSome o) → n ≡ 0 → o ≡ None
-none_counted None n both e = refl
-none_counted (Some x) n both e = let l : 0 < n = both.1 refl in absurd (omega arith)
 
 -- a cell that is not one too many has room
 pub room_left : (s now : StoreView) → s ≡ now → (c : Cell) (cap : ℕ) (b : Bool) → IsTrue b ↔ ((get now.tables c ≡ None) × (cap ≤ len now.tables)) → b ≡ false → get s.tables c ≡ None → len s.tables < cap

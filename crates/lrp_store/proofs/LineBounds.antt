@@ -124,10 +124,3 @@ some_near k a b high low eh el le = record {
       let q : b ≡ y = cc in
       subst (λ n. neg_ℤ n ≤ℤ (x +ℤ pos k)) q (subst (λ n. neg_ℤ b ≤ℤ (n +ℤ pos k)) p le);
 }
-
--- and where one is not there
-pub free_high : (k : ℕ) (high low : Option ℤ) → high ≡ None → AreNear k high low
-free_high k high low e = record { near = λ x y ex ey. cc }
-
-pub free_low : (k : ℕ) (high low : Option ℤ) → low ≡ None → AreNear k high low
-free_low k high low e = record { near = λ x y ex ey. cc }

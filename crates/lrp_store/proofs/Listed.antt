@@ -63,10 +63,6 @@ unfolding table_of
 length-table_of bs = length-map (range_with_len 0 81) (listed_at bs) ∙ length-range_with_len 0 81
 
 module _ (table : List (Option ℤ)) (size : length table ≡ 81) where
-  -- no bound is listed yet
-  pub none_of : AreOf table 0 []
-  none_of = record { left = λ i h. absurd (omega arith); right = λ i h. absurd (omega arith); from = λ i h. absurd (omega arith); all = λ p a h. absurd (omega arith); count = refl }
-
   -- what holds of each listed bound and of one more
   one_more : (n : ℕ) (bs : List Bound) (b : Bound) → (P : Bound → Type 0) → ((i : ℕ) → i < length bs → P (bound_at bs i)) → P b → (i : ℕ) → i < length (bs ++ b ∷ []) → P (bound_at (bs ++ b ∷ []) i)
   one_more n bs b P old new i h =

@@ -1,4 +1,4 @@
--- A zone of a small reach and a small period has room for its least tuple.
+-- The reach of closed bounds, and of stores that are empty or grow.
 use Rattle.std.proofs.Common.{◌≡◌, ℕ, ◌+◌, ◌-◌, ◌*◌, ◌^◌, ◌<◌, ◌≤◌, ◌≢◌, List, [], arith, ap, subst, ◌∙◌, length, unwrap_or}
 use Rattle.std.specs.Prelude.{ℤ, pos}
 use Rattle.std.specs.FinMap as finite
@@ -6,7 +6,6 @@ use Rattle.lrp_theory.specs.Bounds.{Within}
 use Rattle.lrp_theory.specs.Entries.{entry, node, AtMost, IsLeastBound}
 use Rattle.lrp_theory.proofs.Lists.{listed, difference}
 use Rattle.lrp_theory.proofs.Small.{small_entry}
-use Rattle.lrp_theory.proofs.Through.{AtMost-more}
 use Rattle.lrp_matrix.specs.Matrices.{MatrixView, IsClosed, HaveSameIntegers}
 use Rattle.lrp_matrix.proofs.Lists.{list_meets, meets_nodes}
 use Rattle.lrp_zone.specs.Zones.{ZoneView, IsZone, columns_of, reach_of}
@@ -15,13 +14,12 @@ use Rattle.lrp_theory.specs.Divides.{Divides}
 use Rattle.lrp_theory.proofs.Modulo.{Divides-self}
 use Rattle.lrp_slots.specs.Lists.{cell_cmp}
 use Rattle.lrp_store.specs.Growing.{IsGrown}
-use Rattle.lrp_store.specs.Stores.{StoreView, IsStore, HasReach, zone_of, tables_at}
-use Rattle.lrp_store.specs.Least.{matrix_of, IsRoom, HasRoom}
-use Rattle.lrp_store.proofs.Held.{zone_held}
+use Rattle.lrp_store.specs.Stores.{StoreView, HasReach, zone_of, tables_at}
+use Rattle.lrp_store.specs.Least.{matrix_of}
 
 module _ (z : ZoneView) (is : IsZone z) (m : MatrixView) (closed : IsClosed m) (same : HaveSameIntegers (matrix_of z) m) where
   -- a closed bound is the least that the numbers within the stored bounds meet
-  least_stored : (i j : ℕ) → i < columns_of z + 1 → j < columns_of z + 1 → i ≢ j → IsLeastBound (columns_of z + 1) (entry z.bounds) i j (entry m.cells i j)
+  pub least_stored : (i j : ℕ) → i < columns_of z + 1 → j < columns_of z + 1 → i ≢ j → IsLeastBound (columns_of z + 1) (entry z.bounds) i j (entry m.cells i j)
   least_stored i j il jl ne =
       let n : m.columns ≡ columns_of z = same.columns in
       let least = closed.least i j (omega arith) (omega arith) ne in
@@ -37,18 +35,6 @@ module _ (z : ZoneView) (is : IsZone z) (m : MatrixView) (closed : IsClosed m) (
     where
       less_one : (n : ℕ) → n + 1 - 1 ≡ n
       less_one n = omega arith
-
--- a magnitude that is at most 2^55 leaves room for nine times it, eight times
-pub small_room : (z : ZoneView) → IsZone z → reach_of z ≤ 2 ^ 55 → z.period ≤ 2 ^ 55 → IsRoom z (9 * 2 ^ 55)
-small_room z is reach period = record {
-  room = let c : columns_of z ≤ 8 = is.shape.columns in omega arith;
-  period = omega arith;
-  closed = λ m closed same. record { each = λ i j il jl ne. AtMost-more (columns_of z * 2 ^ 55) (9 * 2 ^ 55) _ (let c : columns_of z ≤ 8 = is.shape.columns in omega arith) (closed_small z is m closed same (2 ^ 55) reach i j il jl ne) };
-}
-
--- so a store of small zones has room
-pub store_room : (s : StoreView) → IsStore s → HasReach s (2 ^ 55) → s.period ≤ 2 ^ 55 → HasRoom s
-store_room s is reach period = record { each = λ cell table held. (9 * 2 ^ 55, small_room (zone_of s cell table) (zone_held s is cell table held) (reach.each cell table held) period) }
 
 -- a reach of at most 2^55 leaves room for a period of at most 2^53
 pub align_room : (s : StoreView) (k : ℕ) → HasReach s (2 ^ 55) → k ≤ 2 ^ 53 → HasReach s (2 ^ 62 - k)

@@ -14,7 +14,6 @@ use Rattle.lrp_zone.specs.Order.{at}
 use Rattle.lrp_model.specs.declared.tuples.Cell.{Cell}
 use Rattle.lrp_store.proofs.Held.{Table, cell_held}
 use Rattle.lrp_store.specs.Stores.{StoreView, IsStore, InCell, InStore, IsCellOf, IsPadded, zone_of, tables_at}
-use Rattle.lrp_store.proofs.Aligning.{tail_in}
 use Rattle.lrp_store.specs.Least.{IsNotNearer, IsNearestTo, held_cmp, IsSpotOf, IsFoundSpot, IsNotAfter}
 use Rattle.lrp_theory.specs.Residues.{rank}
 
@@ -216,10 +215,6 @@ module _ (s : StoreView) (is : IsStore s) (cell : Cell) (proper : IsCellOf s.sha
 -- ---- one cell after the other
 
 module _ (s : StoreView) (is : IsStore s) (cell : Cell) where
-  -- the rest of a cell's tables is of the cell
-  pub rest_in : (t : Table) (rest list : List Table) → list ≡ t ∷ rest → ((u : Table) → Contains list u → Contains (tables_at s cell) u) → (u : Table) → Contains rest u → Contains (tables_at s cell) u
-  rest_in t rest list e within u h = within u (tail_in t rest list e u h)
-
   -- a tuple of the cell is not before what was found, or its zone is still to come
   pub behind_more : (t : Table) (rest list : List Table) → list ≡ t ∷ rest → (old : Option Spot) (new : Spot)
       → ((ys : List ℤ) (ns : List ℕ) → IsNotAfter s old ys ns → IsNotAfter s (Some new) ys ns) → ((ys : List ℤ) → IsMember (zone_of s cell t) ys → IsNotAfter s (Some new) ys (take s.shape.texts cell.texts))

@@ -11,7 +11,7 @@ use Rattle.lrp_slots.specs.Lists.{set_list, list_at}
 use Rattle.lrp_zone.specs.Zones.{ZoneView}
 use Rattle.lrp_zone.specs.Pairs.{IsWithin, IsOfCell}
 use Rattle.lrp_store.specs.Stores.{StoreView, zone_of, tables_at, zones_at}
-use Rattle.lrp_store.specs.Tidied.{nth_zone, IsCovered, IsTidied}
+use Rattle.lrp_store.specs.Tidied.{nth_zone, IsCovered}
 use Rattle.lrp_store.proofs.Held.{Table, get_set, list_set, Contains-from_get}
 use Rattle.lrp_store.proofs.Aligning.{zone_read}
 
@@ -81,10 +81,6 @@ module _ (s : StoreView) (cell : Cell) (old : List Table) where
     covered = λ k h. (k, h, within_itself _);
     apart = λ a b h. absurd (omega arith);
   }
-
-  -- at the end everything was
-  pub all_tidied : (new : List Table) (i : ℕ) → length new ≤ i → IsTidiedTo s cell old new i → IsTidied s cell old new
-  all_tidied new i high t = record { place = t.place; rising = t.rising; inside = t.inside; same = t.same; covered = t.covered; apart = λ a b al bl. t.apart a b (omega arith) al bl }
 
   -- the zone i stays, since it lies within no other
   pub one_stays : (new : List Table) (i : ℕ) → IsTidiedTo s cell old new i → ((j : ℕ) → j < length new → j ≢ i → IsWithin (nth_zone s cell new i) (nth_zone s cell new j) → ⊥) → IsTidiedTo s cell old new (i + 1)

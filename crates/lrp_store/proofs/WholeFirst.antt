@@ -90,16 +90,6 @@ pub record AreNearest (k : ℕ) (rs : List ℤ) (n : ℕ) (xs : List ℤ) : Type
   pub padded : IsPadded (pos 0) n xs
   pub each : (i : ℕ) → i < n → IsNearestOf k (at rs i) (at xs i)
 
--- zeros are zero
-zeros_at : (n i : ℕ) → at (replicate n (pos 0)) i ≡ pos 0
-zeros_at zero i = refl
-zeros_at (suc n) zero = refl
-zeros_at (suc n) (suc i) = zeros_at n i
-
--- of none nothing is asked
-pub none_nearest : (k : ℕ) (rs : List ℤ) → AreNearest k rs 0 (replicate 8 (pos 0))
-none_nearest k rs = record { padded = record { size = refl; zeros = λ i l. zeros_at 8 i }; each = λ i h. absurd (omega arith) }
-
 -- one more
 pub one_nearest : (k : ℕ) (rs : List ℤ) (n : ℕ) (xs : List ℤ) (x : ℤ) → n < 8 → IsNearestOf k (at rs n) x → AreNearest k rs n xs → AreNearest k rs (n + 1) (set xs n x)
 one_nearest k rs n xs x low near before =

@@ -8,8 +8,8 @@ pub mod Growing
 pub mod Tidied
 pub mod Reading
 pub mod Stored
--- What functions inside say to one another.
 pub mod Codes
+pub mod Settled
+-- What functions inside say to one another.
 pub mod Joined
 pub mod Remembered
-pub mod Settled

@@ -1,7 +1,7 @@
 // The zones of a cell and of all cells, read in one pass.
 ghost use Rattle.std.specs.Prelude.{◌≡◌, IfOk};
 ghost use Rattle.lrp_store.specs.Reading.{entries_of};
-ghost use Rattle.lrp_store.specs.Stores.{zones_at};
+ghost use Rattle.lrp_store.specs.Stores.{IsStore, zones_at};
 
 use crate::store::Store;
 use crate::zones::{Entries, Zones};
@@ -25,7 +25,8 @@ impl Store {
 
     /// The cells that are held, ascending by texts and then by residues, each with its zones in order.
     pub fn entries(&self) -> Entries<'_>
-        ensures { result ≡ entries_of self.now }
+        ensures value { result ≡ entries_of self.now }
+        ensures valid { IsStore self.now }
     {
         Entries {
             period: self.period,

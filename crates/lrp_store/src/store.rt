@@ -401,7 +401,8 @@ impl Store {
 
     /// The same zones, in as many slots as there are zones.
     pub fn copy(&self, alloc: Global) -> Result<Store, Memory>
-        ensures { IfOk result (λ made. made ≡ record self.now { spare = made.spare }) }
+        ensures value { IfOk result (λ made. made ≡ record self.now { spare = made.spare }) }
+        ensures valid { IsStore self.now }
     {
         Ok(Store {
             alloc,

@@ -66,7 +66,7 @@ fn add_sixths(rt: &impl Abort, store: &mut Store)
         panic!(rt; "no zone");
     };
     assert!(rt; zone.columns() == 1);
-    store.shape();
+    assert!(rt; store.shape().times == 1);
     let parts = [Part::in_order(&zone)];
     match add_system(&parts, &cell(0, 0).texts, store, 1) {
         Ok(()) => {}

@@ -6,7 +6,7 @@ use Rattle.std.specs.List.{list_any, AllZip}
 use Rattle.std.specs.Cmp.Lexicographic.{bytes_decides}
 use Rattle.std.proofs.lemmas.Bool.{cases_lt}
 use Rattle.std.proofs.lemmas.List.Kept.{AllPairs-cons}
-use Rattle.std.proofs.lemmas.List.{length-append, drop_more, take_more}
+use Rattle.std.proofs.lemmas.List.{drop_more, take_more}
 use Rattle.std.proofs.lemmas.List.Elements.{Contains-append_left, Contains-append_right, Contains-append_cases}
 use Rattle.std.proofs.lemmas.Option.{slice_get_within, get_or_from_slice_get, slice_get-get_or}
 use Rattle.lrp_theory.specs.Entries.{node}
@@ -261,28 +261,7 @@ one_place_more all names places new i name place among low is at e so_far =
     push_zip (p ∷ ps) [] h is = absurd h
     push_zip (p ∷ ps) (v ∷ vs) h is = (h.0, push_zip ps vs h.1 is)
 
--- ---- values of a joined list
-
--- the values of the first names are its front
-pub joint_values : {A : Type 0} (f : Identifier → A) (names more : List Identifier) → (rest : List A) × (map f (joint names more) ≡ map f names ++ rest)
-joint_values {A} f names more = let j = joint_front names more in (map f j.0, ap (map f) j.1 ∙ map_append names j.0)
-  where
-    map_append : (xs ys : List Identifier) → map f (xs ++ ys) ≡ map f xs ++ map f ys
-    map_append [] ys = refl
-    map_append (x ∷ xs) ys = ap (λ l. f x ∷ l) (map_append xs ys)
-
--- and each of the first names has its own number there
-pub joint_at : (names more : List Identifier) (i : ℕ) → i < length names → slice_get (joint names more) i ≡ slice_get names i
-joint_at names more i low = let j = joint_front names more in ap (λ l. slice_get l i) j.1 ∙ front_at names j.0 i low
-  where
-    front_at : (xs ys : List Identifier) (i : ℕ) → i < length xs → slice_get (xs ++ ys) i ≡ slice_get xs i
-    front_at [] ys i low = absurd (omega arith)
-    front_at (x ∷ xs) ys zero low = refl
-    front_at (x ∷ xs) ys (suc i) low = front_at xs ys i (omega arith)
-
--- it has at least as many names as each of the lists
-pub joint_longer : (names more : List Identifier) → length names ≤ length (joint names more)
-joint_longer names more = let j = joint_front names more in let e : length (joint names more) ≡ length names + length j.0 = ap length j.1 ∙ length-append names j.0 in omega arith
+-- ---- values at places
 
 -- the values at the places of names are those of the names, for values of any kind
 pub any_values_at : {A : Type 0} (f : Identifier → A) (d : A) (names all : List Identifier) (places : List ℕ) → ArePlacesOf names all places → map (λ p. get_or (map f all) (p - 1) d) places ≡ map f names

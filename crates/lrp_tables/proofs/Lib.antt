@@ -5,11 +5,11 @@ pub mod DropCounts
 pub mod Filled
 pub mod FreeZones
 pub mod Gathering
+pub mod HeadCounts
 pub mod HeadNames
 pub mod Joining
 pub mod Mapped
 pub mod Named
-pub mod NamesApart
 pub mod Numbers
 pub mod Passing
 pub mod Pieced

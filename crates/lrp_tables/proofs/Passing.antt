@@ -3,17 +3,16 @@ use Rattle.std.proofs.Common.{◌≡◌, ℕ, zero, suc, ◌<◌, ◌≤◌, ◌
 use Rattle.std.specs.Prelude.{ℤ, pos, nat_abs, ◌≤ℤ◌, unwrap_or}
 use Rattle.std.proofs.lemmas.Int.{ints}
 use Rattle.std.specs.FinMap as finite
-use Rattle.std.specs.FinMap.{get-empty, len-empty}
+use Rattle.std.specs.FinMap.{get-empty}
 use Rattle.lrp_slots.specs.Lists.{cell_cmp}
 use Rattle.lrp_model.specs.declared.tuples.Cell.{Cell}
 use Rattle.lrp_model.specs.declared.tuples.Shape.{Shape}
 use Rattle.lrp_zone.specs.Zones.{reach_of}
 use Rattle.lrp_store.specs.Stores.{StoreView, IsStore, InStore, HasReach, tables_at}
-use Rattle.lrp_store.specs.Growing.{IsGrown, IsAdded, IsRefused, InhabitsMany}
+use Rattle.lrp_store.specs.Growing.{IsGrown, IsAdded}
 use Rattle.lrp_store.proofs.Held.{Table, new_store}
-use Rattle.lrp_store.proofs.Grown.{grown_same, grown_on, grown_within, one_more_of}
+use Rattle.lrp_store.proofs.Grown.{grown_same, grown_on, grown_within}
 use Rattle.lrp_store.proofs.Aligning.{head_in, tail_in, nothing_held}
-use Rattle.lrp_store.proofs.Counted.{many, not_many}
 use Rattle.lrp_store.proofs.Rooms.{empty_reach}
 use Rattle.lrp_tables.specs.Pieces.{IsPieceOf, InPiece, InPieces, ArePieces}
 use Rattle.lrp_tables.specs.Passes.{IsMadeFrom, IsResult}
@@ -79,13 +78,6 @@ module _ (makes : Makes) (reach : ℕ → ℕ) (cap : ℕ) (s start : StoreView)
           by_place xs ns j (zero, l, e) = inl (λ ys ms m. a.whole.each ys ms (record { old_times = xs; old_texts = ns; is = subst (λ k. InPiece k piece xs ns) (sym texts) (subst (λ q. InPiece s.shape.texts q xs ns) (sym e) j.inside); made = m }))
           by_place xs ns j (suc k, l, e) = inr (record { piece = j.piece; listed = (k, omega arith, e); inside = j.inside })
 
-      -- or a cell is one too many for all that is made
-      pub passing_refused : (high : ℕ) → HasReach s high → start.tables ≡ finite.empty → IsRefused (IsMadeFrom makes (InPiece n piece)) cap (reach (reach_of piece.zone)) out new → InhabitsMany start.shape start.period (IsMadeFrom makes (InStore s)) cap
-      passing_refused high r empty h =
-          let all = grown_more h.grown high r in
-          subst (λ q. InhabitsMany q start.period (IsMadeFrom makes (InStore s)) cap) all.shape (subst (λ k. InhabitsMany new.shape k (IsMadeFrom makes (InStore s)) cap) all.period
-          (many new all.valid (IsMadeFrom makes (InStore s)) cap (λ xs ns i. elim (all.sound xs ns i) [ inl j ↦ absurd (nothing_held start empty xs ns j) | inr j ↦ j ]) (one_more_of cap _ _ new (made_more n texts piece next_is) h.more)))
-
   module _ (out : StoreView) (p : IsPassing makes reach cap s start out []) (empty : start.tables ≡ finite.empty) (h0 : ℕ) (r0 : HasReach s h0) where
     -- all that is made is held
     all_made : (ys : List ℤ) (ms : List ℕ) → IsMadeFrom makes (InStore s) ys ms → InStore out ys ms
@@ -101,10 +93,3 @@ module _ (makes : Makes) (reach : ℕ → ℕ) (cap : ℕ) (s start : StoreView)
       same = record { sound = λ ys ms h. elim ((p.grown h0 r0).sound ys ms h) [ inl j ↦ absurd (nothing_held start empty ys ms j) | inr j ↦ j ]; whole = all_made };
       within = λ high r. (p.grown high r).reach (reach high) (omega arith) (empty_reach start (reach high) empty);
     }
-
-    -- and what is made inhabits no more than cap cells
-    pub passed_few : InhabitsMany start.shape start.period (IsMadeFrom makes (InStore s)) cap → ⊥
-    passed_few more =
-        let g = p.grown h0 r0 in
-        not_many out g.valid (IsMadeFrom makes (InStore s)) cap (record { each = all_made }) (g.few (let e : finite.len start.tables ≡ 0 = ap finite.len empty ∙ len-empty cell_cmp (List Table) in omega arith))
-        (subst (λ q. InhabitsMany q out.period (IsMadeFrom makes (InStore s)) cap) (sym g.shape) (subst (λ k. InhabitsMany start.shape k (IsMadeFrom makes (InStore s)) cap) (sym g.period) more))

@@ -139,14 +139,6 @@ module _ (s : StoreView) where
 pub one_given : (cell : Cell) (zone : ZoneView) (rest zones : List ZoneView) (entries : List (Cell × List ZoneView)) → zones ≡ zone ∷ rest → pieces_from cell zones entries ≡ record { cell = cell; zone = zone } ∷ pieces_from cell rest entries
 one_given cell zone rest zones entries e = ap (λ l. pieces_from cell l entries) e
 
--- none is left of it, and the zones of the next cell follow
-pub next_given : (cell other : Cell) (none zones : List ZoneView) (rest entries : List (Cell × List ZoneView)) → none ≡ [] → entries ≡ (other, zones) ∷ rest → pieces_from cell none entries ≡ pieces_from other zones rest
-next_given cell other none zones rest entries en e = ap (λ l. pieces_from cell l entries) en ∙ ap (flat_map (λ (e : Cell × List ZoneView). pieces_in e.0 e.1)) e
-
--- none is left of any
-pub none_given : (cell : Cell) (none : List ZoneView) (entries : List (Cell × List ZoneView)) → none ≡ [] → entries ≡ [] → pieces_from cell none entries ≡ []
-none_given cell none entries en e = ap (λ l. pieces_from cell l entries) en ∙ ap (flat_map (λ (e : Cell × List ZoneView). pieces_in e.0 e.1)) e
-
 -- each of the other cells has some zone
 pub rest_have : (cell : Cell) (zones : List ZoneView) (rest entries : List (Cell × List ZoneView)) → entries ≡ (cell, zones) ∷ rest → HaveZones entries → HaveZones rest
 rest_have cell zones rest entries e have = All-rest (λ e. 0 < length e.1) (cell, zones) rest entries e have

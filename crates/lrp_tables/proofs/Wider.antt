@@ -1,6 +1,6 @@
 -- A store whose columns are put among those of longer tuples, and sets of tuples that are made of others.
-use Rattle.std.proofs.Common.{◌≡◌, ◌↔◌, ◌⊎◌, inl, inr, ⊎_elim, ℕ, ◌-◌, ◌<◌, List, [], ◌∷◌, length, map, refl, sym, ap, subst, ◌∙◌, Contains}
-use Rattle.std.specs.Prelude.{ℤ, All, get_or, slice_get, Some}
+use Rattle.std.proofs.Common.{◌≡◌, ◌↔◌, ℕ, ◌-◌, ◌<◌, List, [], ◌∷◌, length, map, refl, sym, ap, subst, ◌∙◌, Contains}
+use Rattle.std.specs.Prelude.{ℤ, All, get_or}
 use Rattle.std.specs.List.{AllByRecursion}
 use Rattle.std.proofs.lemmas.List.{length-map}
 use Rattle.lrp_theory.specs.Entries.{node}
@@ -13,7 +13,7 @@ use Rattle.lrp_tables.specs.declared.table.Table.{Table}
 use Rattle.lrp_tables.specs.Columns.{ArePlacesOf}
 use Rattle.lrp_tables.specs.Tables.{Has, HasTexts}
 use Rattle.lrp_tables.proofs.CellsNamed.{Tuples, AreTuplesOf}
-use Rattle.lrp_tables.proofs.Joining.{value_there, values_at, any_values_at, places_named}
+use Rattle.lrp_tables.proofs.Joining.{values_at, any_values_at, places_named}
 use Rattle.lrp_tables.proofs.Numbers.{all_by, all_mapped, number_of, domain_differs, numbers_are, are_numbers, texts_known, texts_count, numbers_known}
 
 -- ---- tuples that are made of others
@@ -38,34 +38,6 @@ module _ (domain : List Text) (times texts : List Identifier) where
     known = λ xs ns m. are.known xs ns ((t xs ns).1 m);
   }
 
-  module _ (left right : Tuples) (one other : Assignment → Type 0) (l : AreTuplesOf domain times texts left one) (r : AreTuplesOf domain times texts right other) where
-    -- those of both sets
-    pub both_tuples : Ascends domain → AreTuplesOf domain times texts (λ xs ns. left xs ns × right xs ns) (λ env. one env × other env)
-    both_tuples ascends = record {
-      to = λ env ns h m. (l.to env ns h m.0, r.to env ns h m.1);
-      from = λ env m.
-          let f = l.from env m.0 in
-          let g = r.from env m.1 in
-          let same : g.0 ≡ f.0 = numbers_are domain (domain_differs domain ascends) g.0 (map env.texts texts) g.1 ∙ sym (numbers_are domain (domain_differs domain ascends) f.0 (map env.texts texts) f.1) in
-          (f.0, f.1, (f.2, subst (right (map env.times times)) same g.2));
-      times_count = λ xs ns m. l.times_count xs ns m.0;
-      texts_count = λ xs ns m. l.texts_count xs ns m.0;
-      known = λ xs ns m. l.known xs ns m.0;
-    }
-
-    -- those of one or the other
-    pub either_tuples : AreTuplesOf domain times texts (λ xs ns. left xs ns ⊎ right xs ns) (λ env. one env ⊎ other env)
-    either_tuples = record {
-      to = λ env ns h m. ⊎_elim (λ a. inl (l.to env ns h a)) (λ b. inr (r.to env ns h b)) m;
-      from = λ env m. elim m [
-        | inl a ↦ let f = l.from env a in (f.0, f.1, inl f.2)
-        | inr b ↦ let f = r.from env b in (f.0, f.1, inr f.2)
-      ];
-      times_count = λ xs ns m. ⊎_elim (λ a. l.times_count xs ns a) (λ b. r.times_count xs ns b) m;
-      texts_count = λ xs ns m. ⊎_elim (λ a. l.texts_count xs ns a) (λ b. r.texts_count xs ns b) m;
-      known = λ xs ns m. ⊎_elim (λ a. l.known xs ns a) (λ b. r.known xs ns b) m;
-    }
-
   -- those that meet a test of the tuple, which says the same as one of the assignment
   pub tested_tuples : (tuples : Tuples) (set : Assignment → Type 0) (Passes : Tuples) (passes : Assignment → Type 0) → ((env : Assignment) (ns : List ℕ) → AreTexts domain ns (map env.texts texts) → Passes (map env.times times) ns ↔ passes env) → AreTuplesOf domain times texts tuples set
       → AreTuplesOf domain times texts (λ xs ns. tuples xs ns × Passes xs ns) (λ env. set env × passes env)
@@ -83,15 +55,6 @@ pub less_tuples : (domain : List Text) → Ascends domain → (times texts : Lis
 less_tuples domain ascends times texts left right one other l r =
     tested_tuples domain times texts left one (λ xs ns. right xs ns → ⊥) (λ env. other env → ⊥)
     (λ env ns h. let t = tuple_is domain ascends times texts right other r env ns h in ((λ n m. n (t.1 m)), λ n m. n (t.0 m))) l
-
--- the number at the place of a name is that of its text
-pub number_there : (domain : List Text) → Ascends domain → (env : Assignment) (texts : List Identifier) (ns : List ℕ) → AreTexts domain ns (map env.texts texts) → (i : ℕ) (name : Identifier) → slice_get texts i ≡ Some name → get_or ns i 0 ≡ number_of domain (env.texts name)
-number_there domain ascends env texts ns h i name e =
-    ap (λ l. get_or l i 0) (numbers_are domain (domain_differs domain ascends) ns (map env.texts texts) h ∙ mapped texts) ∙ value_there (λ v. number_of domain (env.texts v)) 0 texts i name e
-  where
-    mapped : (vs : List Identifier) → map (number_of domain) (map env.texts vs) ≡ map (λ v. number_of domain (env.texts v)) vs
-    mapped [] = refl
-    mapped (v ∷ vs) = ap (λ l. number_of domain (env.texts v) ∷ l) (mapped vs)
 
 -- ---- longer tuples
 

@@ -2,6 +2,7 @@
 
 -- What the contract of `run` reaches.
 pub mod Caps
+-- What contracts of public calls say.
 pub mod Calls
 pub mod Steps
 -- What contracts of single functions need beside.

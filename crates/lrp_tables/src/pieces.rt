@@ -40,7 +40,6 @@ impl<'a> Pieces<'a> {
     pub fn of(store: &'a Store) -> Self
         ensures { ArePieces store.now result }
     {
-        store.shape();
         let mut entries = store.entries();
         if let Some((cell, zones)) = entries.next() {
             return Pieces {

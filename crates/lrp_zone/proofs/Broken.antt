@@ -170,8 +170,8 @@ module _ (z : ZoneView) (valid : IsZone z) (i j : ℕ) (il : i ≤ columns_of z)
   broken_some = has_piece z valid i j il jl small found.0 (sym stored ∙ found.1) bs here
 
   -- it holds the tuples that break the bound
-  pub broken_is : length bs ≡ 81 → (w : ZoneView) → w ≡ record z { bounds = bs } → IsPiece z i j w
-  broken_is size w h = rw h (piece_is z valid i j il jl small found.0 (sym stored ∙ found.1) bs here size)
+  pub broken_is : (w : ZoneView) → IsZone w → w ≡ record z { bounds = bs } → IsPiece z i j w
+  broken_is w zone h = rw h (piece_is z valid i j il jl small found.0 (sym stored ∙ found.1) bs here (subst IsZone h zone).size)
 
 -- what breaks a bound fits in a word
 pub broken_small : (z : ZoneView) (i j : ℕ) (f : Option ℤ) → i ≤ columns_of z → j ≤ columns_of z → reach_of z + z.period ≤ 2 ^ 62 → f ≡ entry z.bounds i j → AtMost (2 ^ 62 - z.period) f

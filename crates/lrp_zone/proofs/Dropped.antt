@@ -274,8 +274,8 @@ module _ (z : ZoneView) (valid : IsZone z) (k : ℕ) (low : 0 < k) (high : k ≤
   dropped size = record { period = refl; residues = is; to = λ xs m. to_member xs m; from = λ xs v l m. from_member xs v l m; reach = reach_rest size }
 
   -- the same for a zone that is the rest
-  pub dropped_to : length bs ≡ 81 → (w : ZoneView) → w ≡ rest → IsDropped z k w
-  dropped_to size w h = rw h (dropped size)
+  pub dropped_to : (w : ZoneView) → IsZone w → w ≡ rest → IsDropped z k w
+  dropped_to w zone h = rw h (dropped (subst IsZone h zone).size)
 
 -- each bound is small enough for a sum of two
 pub small_sums : (z : ZoneView) → 2 * reach_of z ≤ 2 ^ 62 → AllSmall (columns_of z + 1) (2 ^ 61) z.bounds

@@ -204,9 +204,9 @@ module _ (k : ℕ) (n : ℤ) (rs : List ℤ) (bs : List Bound) (out : List (Opti
   }
 
   -- the same for the result of a call
-  pub of_some : length out ≡ 81 → (o : Option ZoneView) → IfSome o (λ y. y ≡ made_zone) → IfSome o (λ y. IsGivenZone n rs bs y)
-  of_some size None h = tt
-  of_some size (Some y) h = rw h (of_is size)
+  pub of_some : (o : Option ZoneView) → IfSome o IsZone → IfSome o (λ y. y ≡ made_zone) → IfSome o (λ y. IsGivenZone n rs bs y)
+  of_some None zone h = tt
+  of_some (Some y) zone h = rw h (of_is (subst IsZone h zone).size)
 
   -- where it has no tuple, none meets the given bounds
   pub of_none : (o : Option ZoneView) → IfNone o (HasMember made_zone → ⊥) → IfNone o (HasNone n rs bs)
@@ -272,16 +272,26 @@ module _ (k : ℕ) (n : ℤ) (rs : List ℤ) (bs : List Bound) (out : List (Opti
         by (inl s) (inr f) = none (f.kept.same (f.left ∙ s ∙ sym f.right))
         by (inr ne) (inr f) = entry_some p q f.place (entry out p q) f.low f.left f.right (stored_at p q f.place (entry out p q) f.left f.right f.kept ne)
 
-    -- so the zone is z again
+    -- so the zone has the tuples of z
+    own_member : (xs : List ℤ) → IsMember z xs → IsMember made_zone xs
+    own_member xs m = rw (same_period, own.residues) (record {
+      cell = record { count = m.cell.count; each = m.cell.each };
+      meets = λ p q pl ql. subst (Within (node xs p -ℤ node xs q)) (sym (same_entry p q (few p pl) (few q ql))) (m.meets p q pl ql);
+    })
+      where
+        few : (p : ℕ) → p ≤ columns_of z → p < 9
+        few p l = let c : columns_of z ≤ 8 = valid.shape.columns in omega arith
+
+    -- and with a table of nine rows of nine it is z again
     same_zone : length out ≡ 81 → made_zone ≡ z
     same_zone size =
         let e : out ≡ z.bounds = same_table out z.bounds size valid.size same_entry in
         rw (same_period, own.residues, e) refl
 
     -- the same for the result of a call
-    pub own_again : length out ≡ 81 → (o : Option ZoneView) → IfSome o (λ y. y ≡ made_zone) → IfNone o (HasMember made_zone → ⊥) → o ≡ Some z
-    own_again size None s h = absurd (h (subst HasMember (sym (same_zone size)) valid.some))
-    own_again size (Some y) s h = ap Some (s ∙ same_zone size)
+    pub own_again : (o : Option ZoneView) → IfSome o IsZone → IfSome o (λ y. y ≡ made_zone) → IfNone o (HasMember made_zone → ⊥) → o ≡ Some z
+    own_again None zone s h = absurd (h (record { member = valid.some.member; is = own_member valid.some.member valid.some.is }))
+    own_again (Some y) zone s h = ap Some (s ∙ same_zone (subst IsZone s zone).size)
 
 -- a zone's own parts may be given
 pub own_given : (z : ZoneView) (n : ℤ) (rs : List ℤ) (bs : List Bound) → IsZone z → AreOwnBounds z n rs bs → AreGiven n rs bs

@@ -132,9 +132,9 @@ module _ (z w : ZoneView) (vz : IsZone z) (vw : IsZone w) (c : IsOfCell z w) (bo
   shape_meet = meet_shape z w.bounds vz.shape other_shape bounds least
 
   -- the intersection as the result of a call
-  pub met : length bounds ≡ 81 → (r : Option ZoneView) → IfSome r (λ y. y ≡ record z { bounds = bounds }) → IfSome r (λ y. IsMeet z w y)
-  met size None h = tt
-  met size (Some y) h = rw h (subst (λ v. IsMeet z v (record z { bounds = bounds })) (same_cell z w c) (meet_is z w.bounds vz.shape other_shape bounds least size))
+  pub met : (r : Option ZoneView) → IfSome r IsZone → IfSome r (λ y. y ≡ record z { bounds = bounds }) → IfSome r (λ y. IsMeet z w y)
+  met None zone h = tt
+  met (Some y) zone h = rw h (subst (λ v. IsMeet z v (record z { bounds = bounds })) (same_cell z w c) (meet_is z w.bounds vz.shape other_shape bounds least (subst IsZone h zone).size))
 
   -- and where there is none
   pub met_none : (r : Option ZoneView) → IfNone r (HasMember (record z { bounds = bounds }) → ⊥) → IfNone r (HaveNoCommon z w)

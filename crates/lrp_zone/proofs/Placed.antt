@@ -156,5 +156,5 @@ module _ (z : ZoneView) (valid : IsZone z) (places : List ℕ) (rs : List ℤ) (
   }
 
   -- the same for a zone that is this one
-  pub spread_to : length bs ≡ 81 → (w : ZoneView) → w ≡ long → IsSpread z places rs w
-  spread_to size w h = rw h (spread_is size)
+  pub spread_to : (w : ZoneView) → IsZone w → w ≡ long → IsSpread z places rs w
+  spread_to w zone h = rw h (spread_is (subst IsZone h zone).size)

@@ -112,9 +112,9 @@ module _ (z : ZoneView) (k : ℕ) (n : ℤ) (rs : List ℤ) (bs : List (Option �
   }
 
   -- the same for the result of a call
-  pub refined_some : length bs ≡ 81 → (o : Option ZoneView) → IfSome o (λ y. y ≡ fine) → IfSome o (λ y. IsRefined z n rs y)
-  refined_some size None h = tt
-  refined_some size (Some y) h = rw h (refined_is size)
+  pub refined_some : (o : Option ZoneView) → IfSome o IsZone → IfSome o (λ y. y ≡ fine) → IfSome o (λ y. IsRefined z n rs y)
+  refined_some None zone h = tt
+  refined_some (Some y) zone h = rw h (refined_is (subst IsZone h zone).size)
 
   -- and where there are none
   pub refined_empty : (o : Option ZoneView) → IfNone o (HasMember fine → ⊥) → IfNone o (HasNoRefined z n rs)

@@ -14,7 +14,7 @@ pub loop-cell-init : goal.loop-cell-init
 loop-cell-init g c =
     let answer = c.args.answer.now in
     record {
-      so_far = none_done (entry_lines answer.head.columns answer.domain answer.store) (entries_of answer.store) c.into_iter-cell-iterator.result (g.S.Sink.written c.args.out.now) (c.into_iter-cell-iterator.ensures.into_iter_gives ∙ c.entries-cell-items.ensures);
+      so_far = none_done (entry_lines answer.head.columns answer.domain answer.store) (entries_of answer.store) c.into_iter-cell-iterator.result (g.S.Sink.written c.args.out.now) (c.into_iter-cell-iterator.ensures.into_iter_gives ∙ c.entries-cell-items.ensures.value);
       later = omega arith;
     }
 

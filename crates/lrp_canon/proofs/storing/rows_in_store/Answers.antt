@@ -43,7 +43,7 @@ loop-group-preserved c =
     record {
       done = c.loop-group.invariant.done ++ c.in-Some.group ∷ [];
       keys = append_assoc c.loop-group.invariant.done (c.in-Some.group ∷ []) c.next.new.self ∙ ap (λ xs. c.loop-group.invariant.done ++ xs) (sym c.in-Some.ensures.steps) ∙ c.loop-group.invariant.keys;
-      valid = c.shape.ensures.valid;
+      valid = added.valid c.loop-group.invariant.valid;
       shape = same_shape c.in-Some.group c.in_ok-rows.rows.items c.loop-group.store c.add_rows.new.out added ∙ c.loop-group.invariant.shape;
       period = same_period c.in-Some.group c.in_ok-rows.rows.items c.loop-group.store c.add_rows.new.out added ∙ c.loop-group.invariant.period;
       holds = holds_next c.args.periods c.args.shape c.args.groups.now.lists c.requires.groups (keys_apart c.args.groups.now.lists) c.cells-group-items.ensures.filled c.loop-group.invariant.done c.in-Some.group c.next.new.self c.loop-group.group-iterator c.in-Some.ensures.steps c.loop-group.invariant.keys

@@ -18,4 +18,4 @@ unreachable-requires c = some_meets c.args.period c.args.row.now c.requires.row 
 
 pub returns : goal.returns
 returns c = zone_is c.args.period c.args.row.now c.requires.row c.requires.high _ (to_z_pos w64 c.args.period (omega (arith, c.requires.high))) _ (ap (λ r. r ∷ []) (residue_word c.args.row.now.residue c.args.period c.requires.row.below c.requires.high)) (c.low_bound.result ∷ c.high_bound.result ∷ [])
-    (rw (c.low_bound.ensures, c.high_bound.ensures) refl) c.in-Some.zone c.columns.ensures.valid c.in-Some.ensures.some
+    (rw (c.low_bound.ensures, c.high_bound.ensures) refl) c.in-Some.zone c.in-Some.ensures.valid c.in-Some.ensures.some

@@ -17,4 +17,4 @@ loop-place-preserved c = elim c.match-entry_at.branch [
 pub returns : goal.returns
 returns c =
     subst (λ es. ArePacked c.args.piece.now.cell c.args.piece.now.zone.bounds es) (sym c.shrink_to_fit.ensures.items)
-    (all_first c.args.piece.now.cell c.args.piece.now.zone.bounds c.loop-place.place c.loop-place.entries.items (omega (arith, c.loop-place.auto.place-end, c.loop-place-test.false)) c.requires.texts c.requires.residues c.columns.ensures.valid.size c.loop-place.invariant)
+    (all_first c.args.piece.now.cell c.args.piece.now.zone.bounds c.loop-place.place c.loop-place.entries.items (omega (arith, c.loop-place.auto.place-end, c.loop-place-test.false)) c.requires c.loop-place.invariant)

@@ -7,11 +7,8 @@ use Rattle.lrp_packed.proofs.stores.PackedStore.of.Goals as goal
 pub loop-piece-init : goal.loop-piece-init
 loop-piece-init c = packing_none c.args.store.now _ _ c.in_ok-zones.ensures.items (subst (λ l. ArePieces c.args.store.now l) (sym c.into_iter-piece-iterator.ensures.into_iter_gives) c.of-piece-items.ensures)
 
-pub of-requires-clause-texts : goal.of-requires-clause-texts
-of-requires-clause-texts c = (sizes_of c.args.store.now c.shape-shape.ensures.valid c.loop-piece.piece-iterator c.next.new.self c.in-Some.piece c.loop-piece.zones.items c.in-Some.ensures.steps c.loop-piece.invariant).0
-
-pub of-requires-clause-residues : goal.of-requires-clause-residues
-of-requires-clause-residues c = (sizes_of c.args.store.now c.shape-shape.ensures.valid c.loop-piece.piece-iterator c.next.new.self c.in-Some.piece c.loop-piece.zones.items c.in-Some.ensures.steps c.loop-piece.invariant).1
+pub of-requires : goal.of-requires
+of-requires c = sizes_of c.args.store.now c.shape-shape.ensures.valid c.loop-piece.piece-iterator c.next.new.self c.in-Some.piece c.loop-piece.zones.items c.in-Some.ensures.steps c.loop-piece.invariant
 
 pub loop-piece-preserved : goal.loop-piece-preserved
 loop-piece-preserved c = packing_more c.args.store.now c.loop-piece.piece-iterator c.next.new.self c.in-Some.piece c.in_ok-of.field-0 c.loop-piece.zones.items c.push.new.self.items c.in-Some.ensures.steps c.in_ok-of.ensures c.in_ok-push.ensures.items c.loop-piece.invariant

@@ -1,5 +1,4 @@
 -- The cell and the table that are written are those of the zone.
-use Rattle.std.proofs.Common.{◌≡◌}
 use Rattle.lrp_packed.proofs.Unpacked.{piece_again, seen, zone_again}
 use Rattle.lrp_packed.proofs.zones.PackedZone.piece.Goals as goal
 
