@@ -1,7 +1,7 @@
 -- The tuples for which a relation holds the values of an atom's terms.
 use Rattle.std.proofs.Common.{◌≡◌, ◌≢◌, ℕ, zero, suc, ◌+◌, ◌<◌, ◌≤◌, ◌^◌, ◌⊎◌, inl, inr, Bool, true, false, cond, List, [], ◌∷◌, ◌++◌, length, drop, map, refl, sym, ap, ap₂, subst, ◌∙◌, arith, get_or, Contains, to_z, of_z}
 use Rattle.std.specs.Int.{w64}
-use Rattle.std.specs.Prelude.{ℤ, pos, nat_abs, max, AllPairs, ◌+ℤ◌, ◌≤ℤ◌, flat_map}
+use Rattle.std.specs.Prelude.{ℤ, pos, nat_abs, max, All, AllPairs, ◌+ℤ◌, ◌≤ℤ◌, flat_map}
 use Rattle.std.specs.List.{AllByRecursion, AllZip}
 use Rattle.std.proofs.lemmas.Int.{ints}
 use Rattle.std.proofs.lemmas.Bool.{cases_lt}
@@ -42,11 +42,13 @@ use Rattle.lrp_tables.proofs.CellsNamed.{AreTuplesOf, env_of, env_times, env_tex
 use Rattle.lrp_tables.proofs.HeadNames.{pairs_apart}
 use Rattle.lrp_tables.proofs.Joining.{joint_differs, in_joint_right}
 use Rattle.lrp_tables.proofs.Named.{some_is}
-use Rattle.lrp_algebra.specs.Patterns.{IsOver, Suits}
+use Rattle.lrp_systems.specs.Parts.{Fits, system_reach}
+use Rattle.lrp_algebra.specs.Patterns.{parts_of, FitsInto, IsOver, Suits}
 use Rattle.lrp_algebra.specs.Rows.{bounds_reach, offsets_reach, CanBeRead, DividesPeriod, HasSmallPeriod, HasNoRow, IsOfRow, IsRowTuple}
 use Rattle.lrp_algebra.specs.declared.pattern.Pattern.{Pattern}
 use Rattle.lrp_algebra.proofs.Leaves.{joint_short}
-use Rattle.lrp_tables.proofs.Gathering.{IsGathering, gathering_none, gathering_more, gathering_refused, gathered}
+use Rattle.lrp_algebra.proofs.Parts.{added_nothing}
+use Rattle.lrp_tables.proofs.Gathering.{IsGathering, added_as, gathering_none, gathering_more, gathering_refused, gathered, refused_as}
 use Rattle.lrp_algebra.proofs.Steps.{over_tuples, has_texts, step_table, step_few, step_many, step_reach, empty_store, abs_is, positive, same_word}
 
 -- ---- one row
@@ -56,15 +58,15 @@ module _ (domain : List Text) (times texts : List Identifier) (terms : List Term
   RowTuples = IsOver shape (length domain) (IsRowTuple domain times texts terms row)
 
   -- no tuple is of a row without members
-  pub row_nothing : HasNoRow domain times texts terms row → (xs : List ℤ) (ns : List ℕ) → RowTuples xs ns → ⊥
+  row_nothing : HasNoRow domain times texts terms row → (xs : List ℤ) (ns : List ℕ) → RowTuples xs ns → ⊥
   row_nothing fails xs ns h = fails.none h.is.env ns h.is.texts_are h.is.is
 
   module _ (p : Pattern) (w : IsOfRow domain times texts terms row p) where
-    pub row_from : (xs : List ℤ) (ns : List ℕ) → RowTuples xs ns → IsOver shape (length domain) (Suits p) xs ns
+    row_from : (xs : List ℤ) (ns : List ℕ) → RowTuples xs ns → IsOver shape (length domain) (Suits p) xs ns
     row_from xs ns h = record { times_count = h.times_count; texts_count = h.texts_count; known = h.known; is = subst (λ l. Suits p l ns) (sym h.is.times_are) (w.from h.is.env ns h.is.texts_are h.is.is) }
 
     -- what suits the pattern is that of the tuple's own assignment
-    pub row_to : Ascends domain → AllPairs ◌≢◌ times → AllPairs ◌≢◌ texts → length times ≡ shape.times → length texts ≡ shape.texts → (xs : List ℤ) (ns : List ℕ) → IsOver shape (length domain) (Suits p) xs ns → RowTuples xs ns
+    row_to : Ascends domain → AllPairs ◌≢◌ times → AllPairs ◌≢◌ texts → length times ≡ shape.times → length texts ≡ shape.texts → (xs : List ℤ) (ns : List ℕ) → IsOver shape (length domain) (Suits p) xs ns → RowTuples xs ns
     row_to ascends td xd et ex xs ns h =
         let e : map (env_of domain ascends times texts td xd xs ns).times times ≡ xs = env_times domain ascends times texts td xd xs ns (h.times_count ∙ sym et) in
         let a : AreTexts domain ns (map (env_of domain ascends times texts td xd xs ns).texts texts) = env_texts domain ascends times texts td xd xs ns (h.texts_count ∙ sym ex) h.known in
@@ -250,10 +252,10 @@ module _ (domain : List Text) (ascends : Ascends domain) (relation : Relation) (
   pub texts_among : AreNamesAmong (flat_map texts_of_term terms) texts
   texts_among = subst (AreNamesAmong (flat_map texts_of_term terms)) (sym ex) (in_joint_right [] (flat_map texts_of_term terms))
 
-  pub differ_times : AllPairs ◌≢◌ times
+  differ_times : AllPairs ◌≢◌ times
   differ_times = subst (AllPairs ◌≢◌) (sym et) (joint_differs [] (flat_map times_of_term terms) (λ i j d l h. absurd (omega (arith, h))))
 
-  pub differ_texts : AllPairs ◌≢◌ texts
+  differ_texts : AllPairs ◌≢◌ texts
   differ_texts = subst (AllPairs ◌≢◌) (sym ex) (joint_differs [] (flat_map texts_of_term terms) (λ i j d l h. absurd (omega (arith, h))))
 
   pub names_differ : AllPairs ◌≢◌ (times ++ texts)
@@ -337,19 +339,19 @@ module _ (domain : List Text) (ascends : Ascends domain) (relation : Relation) (
       out_period : out.period ≡ k
       out_period = f.gathering.grown.period ∙ start_period
 
-      pub row_valid : IsStore out
+      row_valid : IsStore out
       row_valid = f.gathering.grown.valid
 
-      pub row_times : length times ≡ out.shape.times
+      row_times : length times ≡ out.shape.times
       row_times = ap (λ (q : Shape). q.times) (sym (same_shape ∙ start_shape))
 
-      pub row_texts : length texts ≡ out.shape.texts
+      row_texts : length texts ≡ out.shape.texts
       row_texts = ap (λ (q : Shape). q.texts) (sym (same_shape ∙ start_shape))
 
-      pub row_periods : AllByRecursion (DividesPeriod (pos out.period)) row.values
+      row_periods : AllByRecursion (DividesPeriod (pos out.period)) row.values
       row_periods = subst (λ n. AllByRecursion (DividesPeriod (pos n)) row.values) (sym out_period) (values_divide domain period one top (pos k) (sym (abs_is period one)) relation.columns row.values row_can.values)
 
-      pub row_room : bounds_reach row.bounds terms + out.period ≤ 2 ^ 62
+      row_room : bounds_reach row.bounds terms + out.period ≤ 2 ^ 62
       row_room = subst (λ n. bounds_reach row.bounds terms + n ≤ 2 ^ 62) (sym out_period) (by (bounds_reach row.bounds terms + k) high row_high room)
         where
           by : (a b : ℕ) → a ≤ b → b ≤ 2 ^ 62 → a ≤ 2 ^ 62
@@ -372,6 +374,32 @@ module _ (domain : List Text) (ascends : Ascends domain) (relation : Relation) (
           by : Contains (row ∷ drop (i + 1) relation.rows) l.row → OfRow xs ns ⊎ IsAtomTuple domain times texts terms (drop (i + 1) relation.rows) xs ns
           by (zero, lo, e) = inl (subst (λ (q : Shape). IsOver q (length domain) (IsRowTuple domain times texts terms row) xs ns) (sym same_shape) (record { times_count = h.times_count; texts_count = h.texts_count; known = h.known; is = subst (λ r. IsRowTuple domain times texts terms r xs ns) (sym e) l.is }))
           by (suc j, lo, e) = inr (record { row = l.row; listed = (j, omega (arith, lo), e); is = l.is })
+
+      -- nothing is added for a row without members
+      pub row_passed : HasNoRow domain times texts terms row → IsAdded OfRow cap (bounds_reach row.bounds terms + out.period) out out
+      row_passed fails = added_nothing cap (bounds_reach row.bounds terms + out.period) OfRow out row_valid (row_nothing domain times texts terms row out.shape fails)
+
+      -- and for any other one what its pattern asks for
+      module _ (p : Pattern) (w : IsOfRow domain times texts terms row p) (size : ℕ) (count : size ≡ length domain) where
+        pub row_fits : FitsInto p out
+        row_fits = record { fits = subst (λ n. All (Fits n out.period) (parts_of p)) row_times (w.fits out.period row_valid.period_low row_periods row_room); known = w.size }
+
+        abbrev Asked : ℕ → Set
+        Asked n = IsOver out.shape n (Suits p)
+
+        asked_reach : system_reach out.period (parts_of p) ≤ bounds_reach row.bounds terms + out.period
+        asked_reach = w.reach out.period (bounds_reach row.bounds terms + out.period) row_valid.period_low (omega arith)
+
+        asked_row : (xs : List ℤ) (ns : List ℕ) → Asked (length domain) xs ns → OfRow xs ns
+        asked_row = row_to domain times texts terms row out.shape p w ascends differ_times differ_texts row_times row_texts
+
+        pub row_added : (new : StoreView) → IsAdded (Asked size) cap (system_reach out.period (parts_of p)) out new → IsAdded OfRow cap (bounds_reach row.bounds terms + out.period) out new
+        row_added new a = added_as cap (Asked (length domain)) OfRow (system_reach out.period (parts_of p)) (bounds_reach row.bounds terms + out.period) asked_reach out new row_valid asked_row (row_from domain times texts terms row out.shape p w)
+            (subst (λ n. IsAdded (Asked n) cap (system_reach out.period (parts_of p)) out new) count a)
+
+        pub row_refused : (new : StoreView) → IsRefused (Asked size) cap (system_reach out.period (parts_of p)) out new → IsRefused OfRow cap (bounds_reach row.bounds terms + out.period) out new
+        row_refused new r = refused_as cap (Asked (length domain)) OfRow (system_reach out.period (parts_of p)) (bounds_reach row.bounds terms + out.period) asked_reach out new row_valid asked_row
+            (subst (λ n. IsRefused (Asked n) cap (system_reach out.period (parts_of p)) out new) count r)
 
       pub scanning_more : (new : StoreView) → IsAdded OfRow cap (bounds_reach row.bounds terms + out.period) out new → IsScanning domain times texts terms relation.rows (drop (i + 1) relation.rows) cap begun_high start new
       scanning_more new a = as_begun (drop (i + 1) relation.rows) new (record { gathering = gathering_more (IsOver start.shape (length domain) Atoms) cap high start (IsAtomTuple domain times texts terms (drop i relation.rows)) (IsAtomTuple domain times texts terms (drop (i + 1) relation.rows)) OfRow (bounds_reach row.bounds terms + out.period) out new f.gathering within to_atoms from_atoms a })

@@ -30,7 +30,7 @@ use Rattle.lrp_algebra.proofs.Cuts.{cut_front, cut_padded}
 use Rattle.lrp_algebra.proofs.Inserts.{length_insert, insert_removed, remove_inserted, get_inserted, zip_insert, zip_removed, all_inserted}
 use Rattle.lrp_tables.proofs.Named.{inserted, unchanged, others_all, others_fewer, pairs_right}
 use Rattle.lrp_tables.proofs.Passing.{nothing_at}
-use Rattle.lrp_algebra.proofs.TimeDropped.{spare_same, same_spare}
+use Rattle.lrp_algebra.proofs.TimeDropped.{copy_valid, spare_same, same_spare}
 
 -- the zone in the cell without the text has what is left of the tuples
 module _ (piece : Piece) (place size : ℕ) (s : StoreView) (is : IsStore s) (low : place ≤ s.shape.texts) (short : s.shape.texts < 8) (fits : FitsCell (record { times = s.shape.times; texts = s.shape.texts + 1 }) s.period piece) where
@@ -226,8 +226,18 @@ module _ (domain : List Text) (name : Identifier) (old : Table) (differ : AllPai
   either_dropped new times texts h is_old = elim h [
     | inl g ↦ texts_dropped domain name old new times texts differ is_old g.2.valid g.0 g.1 (length domain) refl g.2
     | inr g ↦ elim g.1 [
-      | inl k ↦ texts_copied domain name old new times texts differ is_old (subst IsStore (sym k.0) (other_spare old.store new.store.spare is_old)) g.0 k.0 k.1
+      | inl k ↦ texts_copied domain name old new times texts differ is_old (copy_valid old.store new.store is_old k.0) g.0 k.0 k.1
       | inr k ↦ texts_emptied domain name old new times texts differ is_old (emptied_valid old.store new.store is_old k.0 k.1 k.2) g.0 k.1 k.2 k.3
+    ]
+  ]
+
+  -- and what is left is a store
+  pub either_valid : (new : StoreView) → IsStoreWithoutName domain name old new → IsStore old.store → IsStore new
+  either_valid new h is_old = elim h [
+    | inl g ↦ g.2.valid
+    | inr g ↦ elim g.1 [
+      | inl k ↦ copy_valid old.store new is_old k.0
+      | inr k ↦ emptied_valid old.store new is_old k.0 k.1 k.2
     ]
   ]
 

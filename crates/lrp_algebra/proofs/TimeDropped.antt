@@ -83,6 +83,10 @@ same_spare s n xs ns h = record { cell = h.cell; table = h.table; held = h.held;
 pub spare_reach : (s : StoreView) (n high : ℕ) → HasReach s high → HasReach (record s { spare = n }) high
 spare_reach s n high r = record { each = λ c t h. r.each c t h }
 
+-- so a store's copy is one
+pub copy_valid : (s copy : StoreView) → IsStore s → copy ≡ record s { spare = copy.spare } → IsStore copy
+copy_valid s copy is same = subst IsStore (sym same) (other_spare s copy.spare is)
+
 -- the zone fits the store with one time column fewer
 pub fits_longer : (s out : StoreView) (place : ℕ) → place < s.shape.times → out.shape ≡ record { times = s.shape.times - 1; texts = s.shape.texts } → out.period ≡ s.period → (piece : Piece) → FitsCell s.shape s.period piece → FitsCell (record { times = out.shape.times + 1; texts = out.shape.texts }) out.period piece
 fits_longer s out place low shape period piece fits =
@@ -168,7 +172,7 @@ module _ (name : Identifier) (old : Table) (differ : AllPairs ◌≢◌ (old.var
   pub either_dropped : (new : Table) → new.vars.times ≡ without name old.vars.times → new.vars.texts ≡ old.vars.texts → StoreOf name old new.store → IsStore old.store → IsTimeDropped name old new
   either_dropped new times texts h is_old = elim h [
     | inl g ↦ table_dropped name old new times texts differ is_old g.2.valid g.0 g.1 g.2
-    | inr g ↦ table_copied name old new times texts differ is_old (subst IsStore (sym g.1) (other_spare old.store new.store.spare is_old)) g.0 g.1
+    | inr g ↦ table_copied name old new times texts differ is_old (copy_valid old.store new.store is_old g.1) g.0 g.1
   ]
 
   -- a column for each name

@@ -5,10 +5,10 @@ pub mod Conditions
 pub mod Patterns
 pub mod Rows
 pub mod Tables
+pub mod Gathered
 -- What functions inside say to one another.
 pub mod Columns
 pub mod Comparisons
 pub mod Fillings
-pub mod Gathered
 pub mod Indexes
 pub mod Tuples

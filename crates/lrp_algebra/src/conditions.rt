@@ -72,10 +72,7 @@ pub fn with_member(
         };
     }
     match Zone::of(point.period, &[residue], &[]) {
-        Some(zone) => {
-            zone.columns();
-            Ok(Some(pattern.with_zone(&zone, &[side.column])?))
-        }
+        Some(zone) => Ok(Some(pattern.with_zone(&zone, &[side.column])?)),
         None => Ok(None),
     }
 }

@@ -23,7 +23,8 @@ pub fn drop_data(
     name: &Name,
     domain: &Domain,
 ) -> Result<Table, Memory>
-    ensures { IfOk result (λ made. IsTextDropped domain.now name.now table.now made) }
+    ensures dropped { IfOk result (λ made. IsTextDropped domain.now name.now table.now made) }
+    ensures valid { IfOk result (λ made. IsStore made.store) }
 {
     let vars = Vars {
         times: table.vars.times.copy(alloc)?,

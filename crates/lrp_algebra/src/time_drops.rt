@@ -21,13 +21,13 @@ use std::alloc::Global;
 /// Where no column has the name, these are the assignments of the table.
 pub fn drop_time(alloc: Global, table: &Table, name: &Name) -> Result<Table, Memory>
     requires reach { HasReach table.now.store (2 ^ 61) }
-    ensures { IfOk result (λ made. IsTimeDropped name.now table.now made) }
+    ensures dropped { IfOk result (λ made. IsTimeDropped name.now table.now made) }
+    ensures valid { IfOk result (λ made. IsStore made.store) }
 {
     let vars = Vars {
         times: without(alloc, &table.vars.times, name)?,
         texts: table.vars.texts.copy(alloc)?,
     };
-    table.store.shape();
     let store = match place_of(&table.vars.times, name) {
         Some(place) => without_time(alloc, &table.store, place)?,
         None => table.store.copy(alloc)?,
@@ -39,7 +39,8 @@ pub fn drop_time(alloc: Global, table: &Table, name: &Name) -> Result<Table, Mem
 fn without_time(alloc: Global, store: &Store, place: usize) -> Result<Store, Memory>
     requires place { place < store.now.shape.times }
     requires reach { HasReach store.now (2 ^ 61) }
-    ensures { IfOk result (λ made. IsStoreWithoutTime place store.now made) }
+    ensures made { IfOk result (λ made. IsStoreWithoutTime place store.now made) }
+    ensures valid { IsStore store.now }
 {
     let shape = store.shape();
     let shape = Shape {
@@ -92,6 +93,5 @@ fn add_without_time(
         return Ok(());
     }
     let zone = piece.zone.drop_column(place + 1);
-    zone.columns();
     add_zone(&cell, &zone, wholes, out)
 }

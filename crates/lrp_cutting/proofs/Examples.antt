@@ -2,7 +2,7 @@
 use Rattle.std.proofs.Common.{◌≡◌, refl, List, [], ◌∷◌}
 use Rattle.std.specs.Prelude.{ℤ, pos, negsuc}
 use Rattle.lrp_model.specs.declared.relations.Bound.{Bound}
-use Rattle.lrp_cutting.specs.Cuts.{cuts}
+use Rattle.lrp_model.specs.Cuts.{cuts}
 
 -- x = 0, x = 2 and x = 4 with period 1 cut the line at -1, 0, 1, 2, 3 and 4
 abbrev instant : ℤ → ℤ → List Bound

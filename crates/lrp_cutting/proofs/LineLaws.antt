@@ -8,6 +8,7 @@ use Rattle.std.specs.Ordering.{int_cmp, is_lt, ordering_then}
 use Rattle.std.proofs.lemmas.Int.{ints}
 use Rattle.std.proofs.lemmas.List.Elements.{All-contains, Contains-get_or}
 use Rattle.std.proofs.lemmas.List.Sorted.{Contains-permutation, IsPermutation-sym}
+use Rattle.lrp_theory.proofs.Through.{AtMost-more}
 use Rattle.lrp_zone.specs.Zones.{ZoneView, IsZone, columns_of, reach_of}
 use Rattle.lrp_zone.specs.Pairs.{IsOfCell}
 use Rattle.lrp_store.specs.Settled.{InSome}
@@ -45,6 +46,13 @@ begin_in_order vs sorted = pairs_by_steps vs (λ k d l. record { each = not_befo
 -- a zone that stores bounds of at most h, and none where it has no column, is small
 pub small_zone : (w : ZoneView) (h : ℕ) → IsZone w → reach_of w ≤ h → reach_of w ≤ columns_of w * h → IsSmallZone w (columns_of w * h)
 small_zone w h is reach stored = record { stored = stored; closed = λ m c s. record { each = λ i j il jl ne. closed_small w is m c s h reach i j il jl ne } }
+
+-- what is small is small for more
+pub more_small : (w : ZoneView) (low high : ℕ) → low ≤ high → IsSmallZone w low → IsSmallZone w high
+more_small w low high le h = record {
+  stored = let s = h.stored in omega (arith, s);
+  closed = λ m c same. let k = h.closed m c same in record { each = λ i j il jl ne. AtMost-more low high _ le (k.each i j il jl ne) };
+}
 
 pub times_one : (n h r : ℕ) → n ≡ 1 → r ≤ h → r ≤ n * h
 times_one n h r e l = rw e (omega arith)

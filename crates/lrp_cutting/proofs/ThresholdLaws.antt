@@ -20,7 +20,7 @@ use Rattle.lrp_theory.specs.Divides.{Divides}
 use Rattle.lrp_theory.specs.Entries.{entry, node, AtMost}
 use Rattle.lrp_theory.proofs.Modulo.{Divides--, Divides-neg, Divides-self, Divides-is}
 use Rattle.lrp_model.specs.declared.relations.Bound.{Bound}
-use Rattle.lrp_cutting.specs.Cuts.{threshold, distinct, cuts}
+use Rattle.lrp_model.specs.Cuts.{threshold, distinct, cuts}
 use Rattle.lrp_zone.specs.Zones.{ZoneView, IsZone, IsTight, columns_of, reach_of}
 use Rattle.lrp_zone.specs.Pairs.{IsOfCell}
 use Rattle.lrp_zone.proofs.Reaches.{reach_small}

@@ -5,7 +5,7 @@ use Rattle.std.specs.List.Sorted.{IsStrictlySortedBy}
 use Rattle.std.specs.Ordering.{int_cmp}
 use Rattle.lrp_theory.specs.Entries.{entry}
 use Rattle.lrp_model.specs.declared.relations.Bound.{Bound}
-use Rattle.lrp_cutting.specs.Cuts.{cuts}
+use Rattle.lrp_model.specs.Cuts.{cuts}
 use Rattle.lrp_zone.specs.Zones.{ZoneView, columns_of}
 use Rattle.lrp_cutting.specs.declared.pairs.NodePair.{NodePair}
 

@@ -1,11 +1,11 @@
 -- The settled store has the tuples of the last table.
-use Rattle.std.proofs.Common.{◌≡◌, ◌↔◌, ◌≤◌, ◌<◌, ◌+◌, ◌*◌, ◌^◌, ℕ, zero, suc, cond, List, [], ◌∷◌, length, take, Option, Some, None, IsSome, unwrap_or, option_map, Contains, refl, sym, ap, ap₂, subst, ◌∙◌, arith, to_z, of_z, w64}
+use Rattle.std.proofs.Common.{◌≡◌, ◌↔◌, ◌≤◌, ◌<◌, ◌+◌, ◌*◌, ◌^◌, ℕ, zero, suc, List, [], ◌∷◌, length, take, Option, Some, None, IsSome, unwrap_or, option_map, Contains, refl, sym, ap, ap₂, subst, ◌∙◌, arith, to_z, of_z, w64}
 use Rattle.std.proofs.Math.Nat.{pow-succ', mul-le-mul_right, mul-le-mul_left}
 use Rattle.std.proofs.lemmas.Int.{ints}
-use Rattle.std.specs.Prelude.{ℤ, pos, neg_ℤ, ◌≤ℤ◌}
+use Rattle.std.proofs.lemmas.List.{length-take}
+use Rattle.std.specs.Prelude.{ℤ, pos}
 use Rattle.std.specs.FinMap as finite
-use Rattle.lrp_theory.specs.Entries.{AtMost}
-use Rattle.lrp_model.specs.Texts.{Text, Identifier}
+use Rattle.lrp_model.specs.Texts.{Text}
 use Rattle.lrp_model.specs.Rows.{Datum, times_of}
 use Rattle.lrp_model.specs.Formulas.{Question}
 use Rattle.lrp_model.specs.Core.{guarded, has_named_sort}
@@ -13,10 +13,7 @@ use Rattle.lrp_model.specs.Domains.{constants}
 use Rattle.lrp_model.specs.Satisfaction.{IsAnswer, structure}
 use Rattle.lrp_model.specs.Steps.{PlanStep, step_behind, step_at}
 use Rattle.lrp_model.specs.Plans.{plan, core_steps, query_reach}
-use Rattle.lrp_model.specs.Sorts.{is_time, time_count}
-use Rattle.lrp_model.proofs.ColumnCounts.{times_more, one_more, none_more}
-use Rattle.lrp_model.specs.declared.relations.Sort.{Sort}
-use Rattle.lrp_model.specs.declared.relations.Sort.TheVariants.{Time, Data, Named}
+use Rattle.lrp_model.specs.Sorts.{time_count}
 use Rattle.lrp_model.specs.declared.relations.Column.{Column}
 use Rattle.lrp_model.specs.declared.relations.Relation.{Relation}
 use Rattle.lrp_model.specs.declared.plans.Plan.{Plan}
@@ -30,10 +27,11 @@ use Rattle.lrp_store.specs.Settled.{AreSettled, InSome}
 use Rattle.lrp_store.specs.Tables.{AreNumbered, InAnswer}
 use Rattle.lrp_tables.specs.declared.table.Table.{Table}
 use Rattle.lrp_answers.specs.declared.answer.Answer.{Answer}
-use Rattle.lrp_tables.specs.Columns.{with_time_name, text_name, head_times, head_texts}
+use Rattle.lrp_tables.proofs.HeadCounts.{columns_counted, times_counted}
 use Rattle.lrp_cutting.specs.Settling.{IsSettlement, IsSmallZone}
 use Rattle.lrp_cutting.specs.Differences.{greatest_reach}
-use Rattle.lrp_cutting.proofs.Lists.{greatest_below}
+use Rattle.lrp_cutting.proofs.LineLaws.{more_small}
+use Rattle.lrp_cutting.proofs.Lists.{from_map, greatest_below, in_map}
 use Rattle.lrp_plan_laws.specs.Rising.{period_at}
 use Rattle.lrp_plan_laws.proofs.Elements.{step_made}
 use Rattle.lrp_plan_laws.proofs.SettledLaws.{sound}
@@ -42,45 +40,11 @@ use Rattle.lrp_eval.specs.Planned.{IsPlanOf, HasAnswers}
 use Rattle.lrp_eval.specs.Settling.{CanSettle, IsSettledStore}
 use Rattle.lrp_eval.specs.Answered.{IsAnswerOf}
 use Rattle.lrp_eval.proofs.CellCounts.{no_fewer}
-use Rattle.lrp_eval.proofs.SettleLaws.{table_of, zone_in}
-
--- ---- columns of a head
-
-one_time : (s : Sort) (n : ℕ) (v : Identifier) (ns : List Identifier) → n ≡ length ns → cond (is_time s) 1 0 + n ≡ length (with_time_name s v ns)
-one_time Time n v ns e = one_more n ∙ ap suc e
-one_time Data n v ns e = none_more n ∙ e
-one_time (Named name) n v ns e = none_more n ∙ e
-
-pub times_counted : (cs : List Column) → time_count cs ≡ length (head_times cs)
-times_counted [] = refl
-times_counted (c ∷ cs) = times_more c cs ∙ one_time c.sort (time_count cs) c.name (head_times cs) (times_counted cs)
-
-one_column : (s : Sort) (n : ℕ) (v : Identifier) (ns ms : List Identifier) → n ≡ length ns + length ms → suc n ≡ length (with_time_name s v ns) + length (text_name s v ms)
-one_column Time n v ns ms e = omega arith
-one_column Data n v ns ms e = omega arith
-one_column (Named name) n v ns ms e = omega arith
-
-pub columns_counted : (cs : List Column) → length cs ≡ length (head_times cs) + length (head_texts cs)
-columns_counted [] = refl
-columns_counted (c ∷ cs) = one_column c.sort (length cs) c.name (head_times cs) (head_texts cs) (columns_counted cs)
 
 -- ---- bounds
 
 fewer : {X : Type 0} (n : ℕ) (xs : List X) → length (take n xs) ≤ n
-fewer zero [] = omega arith
-fewer zero (x ∷ xs) = omega arith
-fewer (suc n) [] = omega arith
-fewer (suc n) (x ∷ xs) = let r : length (take n xs) ≤ n = fewer n xs in omega arith
-
-at_most : (o : Option ℤ) (low high : ℕ) → low ≤ high → AtMost low o → AtMost high o
-at_most None low high le h = tt
-at_most (Some a) low high le h = let p : neg_ℤ (pos low) ≤ℤ a = h.0 in let q : a ≤ℤ pos low = h.1 in (omega (arith, ints), omega (arith, ints))
-
-more_small : (z : ZoneView) (low high : ℕ) → low ≤ high → IsSmallZone z low → IsSmallZone z high
-more_small z low high le h = record {
-  stored = let s = h.stored in omega arith;
-  closed = λ m c same. let k = h.closed m c same in record { each = λ i j a b n. at_most _ low high le (k.each i j a b n) };
-}
+fewer n xs = omega (arith, length-take n xs)
 
 power : (m : ℕ) → m + 1 ≤ 2 ^ (m + 1)
 power zero = omega arith
@@ -110,25 +74,25 @@ settled_as z w zs o h =
 
 module _ (old new : StoreView) (h : IsSettledStore old new) where
   some_zone : (cell : Cell) (w : ZoneView) → Contains (zones_at new cell) w → (ts : List (List (Option ℤ))) → tables_at old cell ≡ ts → (z : ZoneView) × Contains (zones_at old cell) z
-  some_zone cell w c [] e = absurd (let t = table_of new cell (tables_at new cell) w c in contains_none t.0 (subst (λ l. Contains l t.0) (h.only cell e) t.1))
-  some_zone cell w c (t ∷ ts) e = (zone_of old cell t, zone_in old cell (tables_at old cell) t (subst (λ l. Contains l t) (sym e) (contains_first t ts)))
+  some_zone cell w c [] e = absurd (let t = from_map (zone_of new cell) (tables_at new cell) w c in contains_none t.0 (subst (λ l. Contains l t.0) (h.only cell e) t.1))
+  some_zone cell w c (t ∷ ts) e = (zone_of old cell t, in_map (zone_of old cell) (tables_at old cell) t (subst (λ l. Contains l t) (sym e) (contains_first t ts)))
 
   settlement : (cell : Cell) (w : ZoneView) → Contains (zones_at new cell) w → (z : ZoneView) × Contains (zones_at old cell) z × IsSettlement z (zones_at old cell) (zones_at new cell)
   settlement cell w c = let z = some_zone cell w c (tables_at old cell) refl in (z.0, z.1, h.cells cell z.0 z.1)
 
   to_old : (times : List ℤ) (texts : List ℕ) → InStore new times texts → InStore old times texts
   to_old times texts i =
-      let w : Contains (zones_at new i.cell) (zone_of new i.cell i.table) = zone_in new i.cell (tables_at new i.cell) i.table i.held in
+      let w : Contains (zones_at new i.cell) (zone_of new i.cell i.table) = in_map (zone_of new i.cell) (tables_at new i.cell) i.table i.held in
       let s = settlement i.cell (zone_of new i.cell i.table) w in
       let x : InSome (zones_at old i.cell) times = s.2.to times (record { zone = zone_of new i.cell i.table; listed = w; inside = i.inside }) in
-      let t = table_of old i.cell (tables_at old i.cell) x.zone x.listed in
+      let t = from_map (zone_of old i.cell) (tables_at old i.cell) x.zone x.listed in
       record { cell = i.cell; table = t.0; held = t.1; named = ap (λ sh. take sh.texts i.cell.texts) (sym h.shape) ∙ i.named; inside = subst (λ (z : ZoneView). IsMember z times) (sym t.2) x.inside }
 
   to_new : (times : List ℤ) (texts : List ℕ) → InStore old times texts → InStore new times texts
   to_new times texts i =
-      let w : Contains (zones_at old i.cell) (zone_of old i.cell i.table) = zone_in old i.cell (tables_at old i.cell) i.table i.held in
+      let w : Contains (zones_at old i.cell) (zone_of old i.cell i.table) = in_map (zone_of old i.cell) (tables_at old i.cell) i.table i.held in
       let x : InSome (zones_at new i.cell) times = (h.cells i.cell (zone_of old i.cell i.table) w).from times (record { zone = zone_of old i.cell i.table; listed = w; inside = i.inside }) in
-      let t = table_of new i.cell (tables_at new i.cell) x.zone x.listed in
+      let t = from_map (zone_of new i.cell) (tables_at new i.cell) x.zone x.listed in
       record { cell = i.cell; table = t.0; held = t.1; named = ap (λ sh. take sh.texts i.cell.texts) h.shape ∙ i.named; inside = subst (λ (z : ZoneView). IsMember z times) (sym t.2) x.inside }
 
   same_answers : (columns : List Column) (domain : List Text) (tuple : List Datum) → InAnswer columns domain new tuple ↔ InAnswer columns domain old tuple
@@ -158,8 +122,8 @@ module _ (old new : StoreView) (h : IsSettledStore old new) where
   small_new : (m R : ℕ) → old.shape.times ≡ m → HasReach old R → (cell : Cell) (w : ZoneView) → Contains (zones_at new cell) w → IsSmallZone w (m * R)
   small_new m R e r cell w c =
       let s = settlement cell w c in
-      let t = table_of old cell (tables_at old cell) s.0 s.1 in
-      let g : greatest_reach (zones_at old cell) ≤ R = greatest_below (zones_at old cell) R (λ z k. let u = table_of old cell (tables_at old cell) z k in subst (λ (v : ZoneView). reach_of v ≤ R) u.2 (r.each cell u.0 u.1)) in
+      let t = from_map (zone_of old cell) (tables_at old cell) s.0 s.1 in
+      let g : greatest_reach (zones_at old cell) ≤ R = greatest_below (zones_at old cell) R (λ z k. let u = from_map (zone_of old cell) (tables_at old cell) z k in subst (λ (v : ZoneView). reach_of v ≤ R) u.2 (r.each cell u.0 u.1)) in
       let f : columns_of s.0 ≤ m = subst (λ n. columns_of s.0 ≤ n) e (subst (λ (v : ZoneView). columns_of v ≤ old.shape.times) t.2 (fewer old.shape.times cell.residues)) in
       let a : columns_of s.0 * greatest_reach (zones_at old cell) ≤ columns_of s.0 * R = mul-le-mul_left (columns_of s.0) g in
       let b : columns_of s.0 * R ≤ m * R = mul-le-mul_right R f in
@@ -186,7 +150,7 @@ module _ (db : List Relation) (q : Question) (p : Plan) (h : IsPlanOf db q p) (c
 
   pub can_settle : CanSettle table.store
   can_settle cell z k =
-      let t = table_of table.store cell (tables_at table.store cell) z k in
+      let t = from_map (zone_of table.store cell) (tables_at table.store cell) z k in
       subst (λ (v : ZoneView). columns_of v * reach_of v + v.period ≤ 2 ^ 62) t.2
       (room (length (take table.store.shape.times cell.residues)) (time_count q.head) (reach_of (zone_of table.store cell t.0)) (query_reach db q) table.store.period
       (subst (λ n. length (take table.store.shape.times cell.residues) ≤ n) (sym times_are) (fewer table.store.shape.times cell.residues)) (a.reach.each cell t.0 t.1) (subst (λ k. k ≤ query_reach db q) (sym a.period) wide) h.reach)

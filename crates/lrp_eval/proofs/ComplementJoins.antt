@@ -11,7 +11,7 @@ use Rattle.lrp_model.specs.Rows.{time}
 use Rattle.lrp_model.specs.Satisfaction.{Assignment, with_value}
 use Rattle.lrp_model.specs.declared.formulas.Test.{Test}
 use Rattle.lrp_model.proofs.Decided.{contains_none}
-use Rattle.lrp_store.specs.Stores.{HasReach}
+use Rattle.lrp_store.specs.Stores.{HasReach, IsStore}
 use Rattle.lrp_tables.specs.declared.table.StepFault.{StepFault}
 use Rattle.lrp_tables.specs.declared.table.Table.{Table}
 use Rattle.lrp_tables.specs.Calls.{AreVariablesOf, CanBeCarried, CanMeet, tests_reach}
@@ -206,12 +206,13 @@ module _ {domain : List Text} {of : Sides} {name : Identifier} {period : ℤ} (c
           pub taken_minus : CanMinus period from_table taken
           taken_minus = record { low = can.low; high = twice can; left_period = can.from_period; right_period = taken_period; left_reach = from_reach; right_reach = taken_reach; columns = taken_columns }
 
-          pub narrowed_complement : (result : Result Table StepFault) → IsMinusResult cap period from_table taken result → IfOk result (IsUnbrokenTable domain of name period cap)
-          narrowed_complement (Ok made) is =
+          pub narrowed_complement : (result : Result Table StepFault) → IsMinusResult cap period from_table taken result → IfOk result (λ made. IsStore made.store) → IfOk result (IsUnbrokenTable domain of name period cap)
+          narrowed_complement (Ok made) is valid =
               let step = is.step domain can.ascends can.from_numbered in
               let m = step.table in
               record {
+                valid = valid;
                 is = record { times_are = m.times_are; texts_are = m.texts_are; period_is = m.period_is; sound = λ env h. to env (m.sound env h); whole = λ env h. m.whole env (from env h); numbered = m.numbered };
                 few = λ many. step.few (more_of cap domain (nat_abs period) from_table.vars.times from_table.vars.texts (IsUnbroken domain of name) (IsMinus domain from_table taken) from many);
               }
-          narrowed_complement (Err fault) is = tt
+          narrowed_complement (Err fault) is valid = tt

@@ -11,7 +11,7 @@ use Rattle.lrp_model.specs.Rows.{time}
 use Rattle.lrp_model.specs.Satisfaction.{Assignment, with_value}
 use Rattle.lrp_model.specs.declared.formulas.Test.{Test}
 use Rattle.lrp_model.proofs.Decided.{contains_first, contains_later}
-use Rattle.lrp_store.specs.Stores.{HasReach}
+use Rattle.lrp_store.specs.Stores.{HasReach, IsStore}
 use Rattle.lrp_store.specs.Tables.{StoreHolds}
 use Rattle.lrp_tables.specs.declared.table.StepFault.{StepFault}
 use Rattle.lrp_tables.specs.declared.table.Table.{Table}
@@ -168,12 +168,13 @@ module _ {domain : List Text} {of : Sides} {name : Identifier} {period : ℤ} (c
         pub taken_minus : CanMinus period from_table taken
         taken_minus = record { low = can.low; high = twice; left_period = can.from_period; right_period = taken_period; left_reach = from_small; right_reach = taken_reach; columns = taken_columns }
 
-        pub narrowed : (result : Result Table StepFault) → IsMinusResult cap period from_table taken result → IfOk result (IsUnbrokenTable domain of name period cap)
-        narrowed (Ok made) is =
+        pub narrowed : (result : Result Table StepFault) → IsMinusResult cap period from_table taken result → IfOk result (λ made. IsStore made.store) → IfOk result (IsUnbrokenTable domain of name period cap)
+        narrowed (Ok made) is valid =
             let step = is.step domain can.ascends can.from_numbered in
             let m = step.table in
             record {
+              valid = valid;
               is = record { times_are = m.times_are; texts_are = m.texts_are; period_is = m.period_is; sound = λ env h. to env (m.sound env h); whole = λ env h. m.whole env (from env h); numbered = m.numbered };
               few = λ many. step.few (more_of cap domain (nat_abs period) from_table.vars.times from_table.vars.texts (IsUnbroken domain of name) (IsMinus domain from_table taken) from many);
             }
-        narrowed (Err fault) is = tt
+        narrowed (Err fault) is valid = tt

@@ -9,10 +9,9 @@ use Rattle.lrp_model.specs.declared.tuples.Cell.{Cell}
 use Rattle.lrp_model.proofs.Decided.{cons_cases, contains_none}
 use Rattle.lrp_zone.specs.Zones.{ZoneView, magnitude_of, greatest_of, reach_of}
 use Rattle.lrp_store.specs.Stores.{StoreView, HasReach, tables_at, zone_of, zones_at}
-use Rattle.lrp_cutting.proofs.Lists.{below_or}
+use Rattle.lrp_cutting.proofs.Lists.{below_or, in_map}
 use Rattle.lrp_eval.specs.Together.{HasReachIn}
 use Rattle.lrp_store.proofs.ZoneCounts.{key_is}
-use Rattle.lrp_eval.proofs.SettleLaws.{zone_in}
 
 -- ---- one zone
 
@@ -47,7 +46,7 @@ more_within zones h n z at first own i y l e = elim (below_or i n) [
 -- all of them have
 pub all_within : (s : StoreView) (cell : Cell) (h n : ℕ) → n ≡ length (zones_at s cell) → AreFirstWithin (zones_at s cell) h n → HasReachIn s cell h
 all_within s cell h n whole first t k =
-    let i = zone_in s cell (tables_at s cell) t k in
+    let i = in_map (zone_of s cell) (tables_at s cell) t k in
     let l : i.0 < length (zones_at s cell) = i.1 in
     first i.0 (zone_of s cell t) (omega arith) (slice_get-get_or (zones_at s cell) i.0 (zone_of s cell t) i.1 ∙ ap Some i.2)
 

@@ -1,6 +1,6 @@
 -- What holds of the tables that a step reads: their periods, reaches, numbers and columns.
 use Rattle.std.proofs.Common.{◌≡◌, ◌≢◌, ◌↔◌, ◌≤◌, ◌^◌, ◌||◌, ⊎_elim, ℕ, zero, suc, Bool, true, false, cond, List, [], ◌∷◌, ◌++◌, length, Contains, refl, sym, subst, ◌∙◌, arith, bytes_eq, Option, Some, None, Result, Ok, Err, to_z, of_z, w64}
-use Rattle.std.specs.Prelude.{ℤ, pos, nat_abs, ◌≤ℤ◌, AllPairs, IfOk, IfSome}
+use Rattle.std.specs.Prelude.{ℤ, pos, ◌≤ℤ◌, AllPairs, IfOk, IfSome}
 use Rattle.std.specs.List.{AllByRecursion, list_any}
 use Rattle.std.specs.Cmp.Lexicographic.{bytes_decides}
 use Rattle.std.proofs.lemmas.Int.{ints}
@@ -43,10 +43,16 @@ ok_is P (Ok b) a e p = let same : b ≡ a = cc in subst P same p
 ok_is P (Err f) a e p = absurd (cc)
 
 -- what is found in a result that is tried
-pub found_ok : {A E F : Type 0} (P V W R : A → Type 0) (r : Result A E) (s : Result (Option A) F) → ((a : A) → P a → V a → W a → R a) → IfOk r P → IfOk s (λ o. IfSome o (λ a. (r ≡ Ok a) × V a × W a)) → IfOk s (λ o. IfSome o R)
-found_ok P V W R r (Ok (Some a)) f p x = f a (ok_is P r a x.0 p) x.1 x.2
-found_ok P V W R r (Ok None) f p x = tt
-found_ok P V W R r (Err e) f p x = tt
+pub found_ok : {A E F : Type 0} (P W R : A → Type 0) (r : Result A E) (s : Result (Option A) F) → ((a : A) → P a → W a → R a) → IfOk r P → IfOk s (λ o. IfSome o (λ a. (r ≡ Ok a) × W a)) → IfOk s (λ o. IfSome o R)
+found_ok P W R r (Ok (Some a)) f p x = f a (ok_is P r a x.0 p) x.1
+found_ok P W R r (Ok None) f p x = tt
+found_ok P W R r (Err e) f p x = tt
+
+-- what also holds of what is found
+pub found_also : {A E : Type 0} (P R : A → Type 0) (s : Result (Option A) E) → ((a : A) → P a → R a) → IfOk s (λ o. IfSome o P) → IfOk s (λ o. IfSome o R)
+found_also P R (Ok (Some a)) f x = f a x
+found_also P R (Ok None) f x = tt
+found_also P R (Err e) f x = tt
 
 pub some_ok : {A : Type 0} (P : A → Type 0) (o : Option A) (a : A) → o ≡ Some a → IfSome o P → P a
 some_ok P o a e p = value (subst (λ u. IfSome u P) e p)

@@ -1,6 +1,6 @@
 -- Cells are settled one after another.
-use Rattle.std.proofs.Common.{◌≡◌, ◌≢◌, ◌⊎◌, inl, inr, ⊎_elim, ◌≤◌, ◌<◌, ◌+◌, ℕ, zero, suc, List, [], ◌∷◌, ◌++◌, length, take, map, Option, unwrap_or, Contains, refl, sym, ap, subst, ◌∙◌, arith}
-use Rattle.std.specs.Prelude.{ℤ, AllPairs}
+use Rattle.std.proofs.Common.{◌≡◌, ◌≢◌, ◌⊎◌, inl, inr, ⊎_elim, ◌<◌, List, [], ◌∷◌, ◌++◌, length, take, map, unwrap_or, Contains, refl, sym, ap, subst, ◌∙◌, arith}
+use Rattle.std.specs.Prelude.{AllPairs}
 use Rattle.std.specs.FinMap.{get-empty}
 use Rattle.std.specs.FinMap as finite
 use Rattle.lrp_model.specs.declared.tuples.Cell.{Cell}
@@ -13,35 +13,17 @@ use Rattle.lrp_store.proofs.Held.{cell_or, cell_held}
 use Rattle.lrp_cutting.specs.Differences.{AreOfCell}
 use Rattle.lrp_cutting.specs.Settling.{IsLike, IsSettlement}
 use Rattle.lrp_cutting.specs.Settling.{AddsZones, SettlesCell}
-use Rattle.lrp_cutting.proofs.Lists.{some_in}
+use Rattle.lrp_cutting.proofs.Lists.{from_map, some_in}
 use Rattle.lrp_store.proofs.ZoneCounts.{first_differs, key_is, key_zone, keys_differ, rest_differ}
 use Rattle.lrp_eval.specs.Settling.{IsSettledStore}
 
 -- ---- the zones of a cell
 
-pub take_whole : {X : Type 0} (xs : List X) (n : ℕ) → length xs ≤ n → take n xs ≡ xs
-take_whole [] zero le = refl
-take_whole [] (suc n) le = refl
-take_whole (x ∷ xs) zero le = absurd (omega arith)
-take_whole (x ∷ xs) (suc n) le = ap (λ zs. x ∷ zs) (take_whole xs n (omega arith))
-
--- a zone of a cell is one of its tables
-pub table_of : (s : StoreView) (cell : Cell) (ts : List (List (Option ℤ))) (z : ZoneView) → Contains (map (zone_of s cell) ts) z → (t : List (Option ℤ)) × Contains ts t × (zone_of s cell t ≡ z)
-table_of s cell [] z c = absurd (contains_none z c)
-table_of s cell (t ∷ ts) z c =
-    ⊎_elim (λ e. (t, contains_first t ts, e)) (λ d. let r = table_of s cell ts z d in (r.0, contains_later t r.0 ts r.1, r.2)) (cons_cases (zone_of s cell t) z (map (zone_of s cell) ts) c)
-
-pub zone_in : (s : StoreView) (cell : Cell) (ts : List (List (Option ℤ))) (t : List (Option ℤ)) → Contains ts t → Contains (map (zone_of s cell) ts) (zone_of s cell t)
-zone_in s cell [] t c = absurd (contains_none t c)
-zone_in s cell (u ∷ us) t c =
-    ⊎_elim (λ e. subst (λ w. Contains (zone_of s cell u ∷ map (zone_of s cell) us) (zone_of s cell w)) e (contains_first (zone_of s cell u) (map (zone_of s cell) us)))
-    (λ d. contains_later (zone_of s cell u) (zone_of s cell t) (map (zone_of s cell) us) (zone_in s cell us t d)) (cons_cases u t us c)
-
 pub one_cell : (s : StoreView) (cell : Cell) (z : ZoneView) → Contains (zones_at s cell) z → AreOfCell z (zones_at s cell)
 one_cell s cell z c = record {
   each = λ w d.
-      let a = table_of s cell (tables_at s cell) z c in
-      let b = table_of s cell (tables_at s cell) w d in
+      let a = from_map (zone_of s cell) (tables_at s cell) z c in
+      let b = from_map (zone_of s cell) (tables_at s cell) w d in
       record { period = sym (ap (λ (v : ZoneView). v.period) b.2) ∙ ap (λ (v : ZoneView). v.period) a.2; residues = sym (ap (λ (v : ZoneView). v.residues) b.2) ∙ ap (λ (v : ZoneView). v.residues) a.2 };
 }
 
@@ -57,7 +39,6 @@ zones_back s cell (w ∷ ws) h =
 
 -- the cells that are left are different and not held, and each other one is settled
 pub record IsSettling (old new : StoreView) (left : List Cell) : Type 0 where
-  pub valid : IsStore new
   pub shape : new.shape ≡ old.shape
   pub period_is : new.period ≡ old.period
   pub cells : (cell : Cell) (z : ZoneView) → Contains (zones_at old cell) z → Contains left cell ⊎ IsSettlement z (zones_at old cell) (zones_at new cell)
@@ -67,15 +48,15 @@ pub record IsSettling (old new : StoreView) (left : List Cell) : Type 0 where
   pub held : (cell : Cell) → Contains left cell → (z : ZoneView) × Contains (zones_at old cell) z
 
 -- one cell more
-pub settling_more : (s old new : StoreView) (left rest : List Cell) (c : Cell) → left ≡ c ∷ rest → IsSettling s old left → IsStore new → SettlesCell c s old new → IsSettling s new rest
-settling_more s old new left rest c el h valid settles =
+pub settling_more : (s old new : StoreView) (left rest : List Cell) (c : Cell) → left ≡ c ∷ rest → IsSettling s old left → SettlesCell c s old new → IsSettling s new rest
+settling_more s old new left rest c el h settles =
     let g : IsSettling s old (c ∷ rest) = subst (λ l. IsSettling s old l) el h in
     let adds : AddsZones c settles.made old new = settles.adds in
     let shape : new.shape ≡ s.shape = adds.shape ∙ g.shape in
     let period : new.period ≡ s.period = adds.period ∙ g.period_is in
     let own : (z : ZoneView) → Contains (zones_at s c) z → IsSettlement z (zones_at s c) (zones_at new c) = λ z k.
     let i : IsSettlement z (zones_at s c) settles.made = settles.settled z k in
-    let t = table_of s c (tables_at s c) z k in
+    let t = from_map (zone_of s c) (tables_at s c) z k in
     let b : tables_at new c ≡ map (λ w. w.bounds) settles.made = adds.here ∙ ap (λ l. l ++ map (λ w. w.bounds) settles.made) (g.fresh c (contains_first c rest)) in
     let e : zones_at new c ≡ settles.made =
     ap (map (zone_of new c)) b ∙ zones_back new c settles.made (λ w m. let o : IsOfCell z w = (i.zones w m).1 in (
@@ -84,7 +65,6 @@ settling_more s old new left rest c el h valid settles =
     )) in
     subst (λ zs. IsSettlement z (zones_at s c) zs) (sym e) i in
     record {
-      valid = valid;
       shape = shape;
       period_is = period;
       cells = λ cell z k. ⊎_elim
@@ -95,7 +75,7 @@ settling_more s old new left rest c el h valid settles =
           (g.cells cell z k))
           (cell_or cell c);
       only = λ cell none. ⊎_elim
-          (λ same. absurd (let w = g.held c (contains_first c rest) in let t = table_of s c (tables_at s c) w.0 w.1 in contains_none t.0 (subst (λ l. Contains l t.0) (subst (λ d. tables_at s d ≡ []) same.0 none) t.1)))
+          (λ same. absurd (let w = g.held c (contains_first c rest) in let t = from_map (zone_of s c) (tables_at s c) w.0 w.1 in contains_none t.0 (subst (λ l. Contains l t.0) (subst (λ d. tables_at s d ≡ []) same.0 none) t.1)))
           (λ apart. adds.others cell apart.0 ∙ g.only cell none)
           (cell_or cell c);
       fresh = λ cell k. adds.others cell (first_differs c rest g.differ cell k) ∙ g.fresh cell (contains_later c cell rest k);
@@ -109,9 +89,9 @@ settling_more s old new left rest c el h valid settles =
         ∙ ap (λ sh. map (λ t. record { period = new.period; residues = take sh.times cell.residues; bounds = t }) (tables_at new cell)) (sym settles.adds.shape)
 
 -- all cells are settled
-pub settled_all : (s new : StoreView) (left : List Cell) → left ≡ [] → IsSettling s new left → IsSettledStore s new
-settled_all s new left none h = record {
-  valid = h.valid;
+pub settled_all : (s new : StoreView) (left : List Cell) → left ≡ [] → IsStore new → IsSettling s new left → IsSettledStore s new
+settled_all s new left none valid h = record {
+  valid = valid;
   shape = h.shape;
   period_is = h.period_is;
   cells = λ cell z k. ⊎_elim (λ l. absurd (contains_none cell (subst (λ cs. Contains cs cell) none l))) (λ d. d) (h.cells cell z k);
@@ -120,12 +100,11 @@ settled_all s new left none h = record {
 
 -- ---- before the first cell
 
-pub settling_none : (s new : StoreView) (left : List Cell) → IsStore s → IsStore new → new.shape ≡ s.shape → new.period ≡ s.period → new.tables ≡ finite.empty → left ≡ finite.keys s.tables → IsSettling s new left
-settling_none s new left is valid shape period empty keys = record {
-  valid = valid;
+pub settling_none : (s new : StoreView) (left : List Cell) → IsStore s → new.shape ≡ s.shape → new.period ≡ s.period → new.tables ≡ finite.empty → left ≡ finite.keys s.tables → IsSettling s new left
+settling_none s new left is shape period empty keys = record {
   shape = shape;
   period_is = period;
-  cells = λ cell z k. let t = table_of s cell (tables_at s cell) z k in inl (subst (λ cs. Contains cs cell) (sym keys) (key_is s cell t.0 t.1));
+  cells = λ cell z k. let t = from_map (zone_of s cell) (tables_at s cell) z k in inl (subst (λ cs. Contains cs cell) (sym keys) (key_is s cell t.0 t.1));
   only = λ cell none. nothing cell;
   fresh = λ cell k. nothing cell;
   differ = subst (λ cs. AllPairs ◌≢◌ cs) (sym keys) (keys_differ s);
@@ -140,7 +119,7 @@ pub cell_of : (s old : StoreView) (c : Cell) (zones made : List ZoneView) → Is
     → ((z : ZoneView) → Contains zones z → IsSettlement z zones made) → (w : ZoneView) → Contains made w → (w.period ≡ old.period) × (w.residues ≡ take old.shape.times c.residues)
 cell_of s old c zones made like ez some settle w m =
     let z = some_in zones some in
-    let t = table_of s c (tables_at s c) z.0 (subst (λ zs. Contains zs z.0) ez z.1) in
+    let t = from_map (zone_of s c) (tables_at s c) z.0 (subst (λ zs. Contains zs z.0) ez z.1) in
     let o : IsOfCell z.0 w = ((settle z.0 z.1).zones w m).1 in (
       o.period ∙ sym (ap (λ (v : ZoneView). v.period) t.2) ∙ sym like.period,
       o.residues ∙ sym (ap (λ (v : ZoneView). v.residues) t.2) ∙ sym (ap (λ sh. take sh.times c.residues) like.shape),
@@ -149,7 +128,7 @@ cell_of s old c zones made like ez some settle w m =
 pub proper_cell : (s : StoreView) → IsStore s → (c : Cell) → 0 < length (zones_at s c) → IsCellOf s.shape s.period c
 proper_cell s is c some =
     let z = some_in (zones_at s c) some in
-    let t = table_of s c (tables_at s c) z.0 z.1 in
+    let t = from_map (zone_of s c) (tables_at s c) z.0 z.1 in
     cell_held s is c t.0 t.1
 
 pub some_zone : (s old : StoreView) (left rest : List Cell) (c : Cell) → left ≡ c ∷ rest → IsSettling s old left → 0 < length (zones_at s c)

@@ -11,10 +11,9 @@ use Rattle.lrp_store.proofs.Held.{zone_held}
 use Rattle.lrp_cutting.specs.Intervals.{IsFarBelow}
 use Rattle.lrp_cutting.specs.Settling.{IsSettlement}
 use Rattle.lrp_cutting.proofs.IntervalLaws.{intervals}
-use Rattle.lrp_cutting.proofs.Lists.{in_one, one_in, pairs_one}
+use Rattle.lrp_cutting.proofs.Lists.{from_map, in_one, one_in, pairs_one}
 use Rattle.lrp_cutting.proofs.SettlingLaws.{one_settled, settled_alone, settled_none}
 use Rattle.lrp_eval.specs.Settling.{HasSingleZones, IsSettledStore}
-use Rattle.lrp_eval.proofs.SettleLaws.{table_of}
 
 -- ---- one zone alone
 only : {X : Type 0} (xs : List X) (x : X) → length xs ≤ 1 → Contains xs x → xs ≡ x ∷ []
@@ -48,7 +47,7 @@ singles_settled s is h = record {
   shape = refl;
   period_is = refl;
   cells = λ cell z c.
-      let t : (t : List (Option ℤ)) × Contains (tables_at s cell) t × (zone_of s cell t ≡ z) = table_of s cell (tables_at s cell) z c in
+      let t : (t : List (Option ℤ)) × Contains (tables_at s cell) t × (zone_of s cell t ≡ z) = from_map (zone_of s cell) (tables_at s cell) z c in
       let valid : IsZone z = subst IsZone t.2 (zone_held s is cell t.0 t.1) in
       let short : length (zones_at s cell) ≤ 1 = let n : length (zones_at s cell) ≡ length (tables_at s cell) = length-map (tables_at s cell) (zone_of s cell) in let l : length (tables_at s cell) ≤ 1 = h cell in omega arith in
       let one : zones_at s cell ≡ z ∷ [] = only (zones_at s cell) z short c in

@@ -4,12 +4,12 @@ use Rattle.std.specs.FinMap as finite
 use Rattle.lrp_model.specs.declared.tuples.Cell.{Cell}
 use Rattle.lrp_model.proofs.Decided.{cons_cases, contains_none}
 use Rattle.lrp_zone.specs.Zones.{ZoneView, columns_of, reach_of}
-use Rattle.lrp_store.specs.Stores.{StoreView, IsStore, tables_at, zones_at}
+use Rattle.lrp_store.specs.Stores.{StoreView, IsStore, tables_at, zone_of, zones_at}
 use Rattle.lrp_cutting.specs.Settling.{IsSettlement}
 use Rattle.lrp_cutting.proofs.SettledLaws.{zone_on_line}
 use Rattle.lrp_eval.specs.Settling.{CanSettle, IsSettledStore}
 use Rattle.lrp_store.proofs.ZoneCounts.{key_is}
-use Rattle.lrp_eval.proofs.SettleLaws.{table_of}
+use Rattle.lrp_cutting.proofs.Lists.{from_map}
 
 -- the zones of the cell are a settlement of themselves
 abbrev pub StandsSettled : StoreView → Cell → Type 0
@@ -36,7 +36,7 @@ standing_all s left is none h = record {
   shape = refl;
   period_is = refl;
   cells = λ cell z k.
-      let t = table_of s cell (tables_at s cell) z k in
+      let t = from_map (zone_of s cell) (tables_at s cell) z k in
       ⊎_elim (λ l. absurd (contains_none cell (subst (λ cs. Contains cs cell) none l))) (λ d. d z k) (h.each cell (key_is s cell t.0 t.1));
   only = λ cell empty. empty;
 }

@@ -1,6 +1,8 @@
 // The answer of a plan.
 ghost use Rattle.std.specs.Prelude.{IfOk, IfErr};
+ghost use Rattle.lrp_model.specs.DataTexts.{IsDomain};
 ghost use Rattle.lrp_model.specs.Formulas.{Question};
+ghost use Rattle.lrp_store.specs.Stores.{IsStore};
 ghost use Rattle.lrp_eval.specs.Answered.{IsAnswerOf};
 ghost use Rattle.lrp_eval.specs.Planned.{IsEvalCause, IsPlanOf, IsSomePlan};
 
@@ -23,12 +25,15 @@ pub fn answer(
     requires plan { IsSomePlan database.now plan.now }
     ensures answer { IfOk result (λ made. (q : Question) → IsPlanOf database.now q plan.now
         → IsAnswerOf database.now q cap made) }
+    ensures valid { IfOk result (λ made. IsStore made.store) }
+    ensures domain { IfOk result (λ made. IsDomain made.domain) }
     ensures fault { IfErr result (λ fault. IsEvalCause database.now plan.now cap fault) }
 {
     let table = run_steps(alloc, plan, database, cap)?;
     let store = settled(alloc, table.store)?;
     let head = plan.head.copy(alloc)?;
     let domain = plan.domain.copy(alloc)?;
+    prove_eq!(domain.len(), plan.domain.len());
     let period = store.period();
     Ok(Answer {
         head,

@@ -46,13 +46,10 @@ pub(crate) fn small_complement(
         cap: most.min(setting.cap / ways),
     };
     match complement(&few, sides.right) {
-        Ok(outside) => {
-            outside.store.shape();
-            match product_within(outside.store.len(), u64::from(ways), setting.cap) {
-                Some(_) => Some(outside),
-                None => None,
-            }
-        }
+        Ok(outside) => match product_within(outside.store.len(), u64::from(ways), setting.cap) {
+            Some(_) => Some(outside),
+            None => None,
+        },
         Err(_) => None,
     }
 }

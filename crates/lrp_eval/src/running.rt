@@ -60,14 +60,10 @@ pub(crate) fn run_step(
         }
         StepKind::Complement { of } => complement(setting, operand(tables, *of)),
         StepKind::DropTime { of, name } => {
-            let made = drop_time(setting.alloc, operand(tables, *of), name)?;
-            made.store.shape();
-            Ok(made)
+            Ok(drop_time(setting.alloc, operand(tables, *of), name)?)
         }
         StepKind::DropData { of, name } => {
-            let made = drop_data(setting.alloc, operand(tables, *of), name, setting.domain)?;
-            made.store.shape();
-            Ok(made)
+            Ok(drop_data(setting.alloc, operand(tables, *of), name, setting.domain)?)
         }
         StepKind::Extend { of } => extend(setting, operand(tables, *of), head),
     }

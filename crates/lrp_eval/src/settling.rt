@@ -58,8 +58,8 @@ fn settled_cells(alloc: Global, store: &Store) -> Result<Store, Memory>
     let mut made = Store::new(alloc, store.shape(), store.period());
     for cell in store.cells() {
         settle_cell(alloc, store, &cell, &mut made)?;
-        made.shape();
     }
+    prove_eq!(made.shape().times, store.shape().times);
     Ok(made)
 }
 

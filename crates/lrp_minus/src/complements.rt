@@ -1,4 +1,6 @@
 // Complements of tables.
+ghost use Rattle.std.specs.Prelude.{IfOk};
+ghost use Rattle.lrp_store.specs.Stores.{IsStore};
 ghost use Rattle.lrp_tables.specs.Steps.{CanComplement, IsComplementResult};
 
 use crate::absences::{Absences, fill_texts};
@@ -11,7 +13,9 @@ use lrp_tables::{Setting, StepFault, Table, Vars};
 /// `TooManyCells` comes exactly where they inhabit more than the setting's number of cells of the table's period.
 pub fn complement(setting: &Setting<'_>, table: &Table) -> Result<Table, StepFault>
     requires { CanComplement table.now }
-    ensures { IsComplementResult setting.now.cap setting.now.domain.now table.now result }
+    ensures complement { IsComplementResult setting.now.cap setting.now.domain.now table.now
+        result }
+    ensures valid { IfOk result (λ made. IsStore made.store) }
 {
     let alloc = setting.alloc;
     let vars = Vars {

@@ -1,5 +1,6 @@
 // Differences of tables.
-ghost use Rattle.std.specs.Prelude.{◌≡◌, OnOk, Err};
+ghost use Rattle.std.specs.Prelude.{◌≡◌, IfOk, OnOk, Err};
+ghost use Rattle.lrp_store.specs.Stores.{IsStore};
 ghost use Rattle.lrp_tables.specs.Steps.{CanMinus, IsMinusResult};
 ghost use Rattle.lrp_minus.specs.Cutters.{CanSubtractIn, CanTakeIn, IsCellOfLeft, IsDifferenceAdded, IsDifferenceRefused, IsInDifference, IsInDifferenceAt, IsSameAdded, IsSameRefused};
 
@@ -30,7 +31,8 @@ pub fn minus(
     period: i64,
 ) -> Result<Table, StepFault>
     requires { CanMinus period left.now right.now }
-    ensures { IsMinusResult setting.now.cap period left.now right.now result }
+    ensures difference { IsMinusResult setting.now.cap period left.now right.now result }
+    ensures valid { IfOk result (λ made. IsStore made.store) }
 {
     let alloc = setting.alloc;
     let vars = Vars {

@@ -11,3 +11,4 @@ mod taking;
 
 pub use complements::complement;
 pub use differences::minus;
+pub use lrp_cutting::{pieces, settle};

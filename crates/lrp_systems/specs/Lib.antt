@@ -6,11 +6,11 @@ pub mod Aligned
 pub mod Parts
 pub mod Residues
 pub mod Windows
--- What functions inside say to one another.
 pub mod Fronts
 pub mod Wholes
 pub mod Choices
 pub mod Frames
+-- What functions inside say to one another.
 pub mod FrontCodes
 pub mod Joint
 pub mod Pieces

@@ -11,7 +11,7 @@ pub add_zones-requires-clause-period : goal.add_zones-requires-clause-period
 add_zones-requires-clause-period c = (c.is_alike.ensures (search rules)).period
 
 pub add_store-requires-clause-adds : goal.add_store-requires-clause-adds
-add_store-requires-clause-adds c = record { valid = c.requires.valid; fits = free_fits c.args.wanted.pattern.now c.requires.free c.args.out.now.shape.times c.args.out.now.period; known = free_known c.args.wanted.pattern.now c.requires.free }
+add_store-requires-clause-adds c = record { valid = c.requires.valid; fits = record { fits = free_fits c.args.wanted.pattern.now c.requires.free c.args.out.now.shape.times c.args.out.now.period; known = free_known c.args.wanted.pattern.now c.requires.free } }
 
 pub returns-then-is_alike-clause-ok : goal.returns-then-is_alike-clause-ok
 returns-then-is_alike-clause-ok c = add_ok c.add_zones.result _ _

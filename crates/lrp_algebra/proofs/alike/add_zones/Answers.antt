@@ -6,7 +6,7 @@ use Rattle.lrp_algebra.proofs.Likeness.{IsTaking, pieces_of, entries_pieces, tak
 use Rattle.lrp_algebra.proofs.alike.add_zones.Goals as goal
 
 pub loop-cell-init : goal.loop-cell-init
-loop-cell-init c = taking_none c.args.store.now c.args.out.now c.requires.held c.requires.valid c.requires.shape c.requires.period c.args.cap _ (entries_pieces c.args.store.now c.requires.held _ (c.into_iter-cell-iterator.ensures.into_iter_gives ∙ c.entries-cell-items.ensures))
+loop-cell-init c = taking_none c.args.store.now c.args.out.now c.requires.held c.requires.valid c.requires.shape c.requires.period c.args.cap _ (entries_pieces c.args.store.now c.requires.held _ (c.into_iter-cell-iterator.ensures.into_iter_gives ∙ c.entries-cell-items.ensures.value))
 
 pub loop-zone-init : goal.loop-zone-init
 loop-zone-init c =

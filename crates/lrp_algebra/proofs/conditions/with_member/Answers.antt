@@ -38,7 +38,7 @@ returns-in_ok-with_zone-in-Some c = λ domain texts.
     let r : to_z w64 (of_z w64 c.shifted-residue.result) ≡ c.shifted-residue.result = word_is c.shifted-residue.result (omega (arith, ints, is.low)) (omega (arith, ints, is.high, c.requires.high)) in
     let positive : 0 < c.side_of-side.result.column = omega (arith, c.if-side-eq0.false) in
     member_test domain c.args.times.now texts c.args.term.now c.args.point c.side_of-side.result c.side_of-side.ensures.value c.side_of-side.ensures.column c.requires.low c.shifted-residue.result is
-    (shift_words c.shifted-residue.result c.args.point.period _ c.args.point.offset _ c.side_of-side.result.plus _ k o p c.shifted-residue.ensures.to) (shift_back c.shifted-residue.result c.args.point.period _ c.args.point.offset _ c.side_of-side.result.plus _ k o p c.shifted-residue.ensures.from) c.args.pattern c.requires.known c.in-Some.zone c.columns.ensures.valid (of_words _ c.args.point.period _ c.shifted-residue.result c.in-Some.zone k r c.in-Some.ensures.some) positive _ c.in_ok-with_zone-in-Some.ensures
+    (shift_words c.shifted-residue.result c.args.point.period _ c.args.point.offset _ c.side_of-side.result.plus _ k o p c.shifted-residue.ensures.to) (shift_back c.shifted-residue.result c.args.point.period _ c.args.point.offset _ c.side_of-side.result.plus _ k o p c.shifted-residue.ensures.from) c.args.pattern c.requires.known c.in-Some.zone c.in-Some.ensures.valid (of_words _ c.args.point.period _ c.shifted-residue.result c.in-Some.zone k r c.in-Some.ensures.some) positive _ c.in_ok-with_zone-in-Some.ensures
 
 pub returns-in-None : goal.returns-in-None
 returns-in-None c = λ domain texts.

@@ -47,7 +47,7 @@ add_store-requires c =
     let w : IsWithTest c.args.setting.now.domain.now c.args.table.now.vars.times c.args.table.now.vars.texts c.args.test.now c.new-all.result c.in-Some.pattern = subst (λ l. IsWithTest c.args.setting.now.domain.now l c.args.table.now.vars.texts c.args.test.now c.new-all.result c.in-Some.pattern) c.in_ok-copy.ensures (subst (λ l. IsWithTest c.args.setting.now.domain.now c.in_ok-copy.field-0 l c.args.test.now c.new-all.result c.in-Some.pattern) c.in_ok-copy-2.ensures (subst (λ o. MatchOption o (HasNoTest c.args.setting.now.domain.now c.in_ok-copy.field-0 c.in_ok-copy-2.field-0 c.args.test.now c.new-all.result) (IsWithTest c.args.setting.now.domain.now c.in_ok-copy.field-0 c.in_ok-copy-2.field-0 c.args.test.now c.new-all.result)) c.in-Some.is c.in_ok-pattern.ensures)) in
     let t : ArePlacesOf c.args.table.now.vars.times c.args.table.now.vars.times c.in_ok-places.places.times = subst (λ l. ArePlacesOf c.args.table.now.vars.times l c.in_ok-places.places.times) c.in_ok-copy.ensures c.in_ok-places.ensures.times in
     let x : ArePlacesOf c.args.table.now.vars.texts c.args.table.now.vars.texts c.in_ok-places.places.texts = subst (λ l. ArePlacesOf c.args.table.now.vars.texts l c.in_ok-places.places.texts) c.in_ok-copy-2.ensures c.in_ok-places.ensures.texts in
-    record { stands = select_stands c.args.setting.now.domain.now c.len-size.ensures.ascending c.args.table.now c.in_ok-places.ensures.valid c.args.test.now c.args.period c.requires.low c.requires.carried c.requires.test_small c.new-all.result c.new-all.ensures c.len-size.result c.len-size.ensures.count low c.args.setting.now.cap c.store_over-out.result fresh c.in-Some.pattern w c.in_ok-places.places t x c.requires.divides c.requires.reach; adds = record { valid = c.store_over-out.ensures.valid; fits = select_fits c.args.setting.now.domain.now c.len-size.ensures.ascending c.args.table.now c.in_ok-places.ensures.valid c.args.test.now c.args.period c.requires.low c.requires.carried c.requires.test_small c.new-all.result c.new-all.ensures c.len-size.result c.len-size.ensures.count low c.args.setting.now.cap c.store_over-out.result fresh c.in-Some.pattern w c.in_ok-places.places t x c.requires.divides c.requires.reach; known = w.size } }
+    record { stands = select_stands c.args.setting.now.domain.now c.len-size.ensures.ascending c.args.table.now c.in_ok-places.ensures.valid c.args.test.now c.args.period c.requires.low c.requires.carried c.requires.test_small c.new-all.result c.new-all.ensures c.len-size.result c.len-size.ensures.count low c.args.setting.now.cap c.store_over-out.result fresh c.in-Some.pattern w c.in_ok-places.places t x c.requires.divides c.requires.reach; adds = record { valid = c.store_over-out.ensures.valid; fits = record { fits = select_fits c.args.setting.now.domain.now c.len-size.ensures.ascending c.args.table.now c.in_ok-places.ensures.valid c.args.test.now c.args.period c.requires.low c.requires.carried c.requires.test_small c.new-all.result c.new-all.ensures c.len-size.result c.len-size.ensures.count low c.args.setting.now.cap c.store_over-out.result fresh c.in-Some.pattern w c.in_ok-places.places t x c.requires.divides c.requires.reach; known = w.size } } }
 
 pub invariant_of-result : goal.invariant_of-result
 invariant_of-result c =

@@ -39,7 +39,7 @@ pub add_pattern-requires : goal.add_pattern-requires
 add_pattern-requires c =
     let fresh = fresh_by c.store_over-out.result c.in_ok-vars.vars.times (test_times c.args.test.now) c.in_ok-vars.vars.texts (test_names c.args.test.now) (nat_abs (to_z w64 (of_z w64 c.period_of.result))) (nat_abs (test_period c.args.test.now)) c.store_over-out.ensures.made c.in_ok-vars.ensures.times c.in_ok-vars.ensures.texts (test_word c.args.test.now c.period_of.result c.requires.low c.requires.reach c.period_of.ensures) in
     let w : IsWithTest c.args.setting.now.domain.now (test_times c.args.test.now) (test_names c.args.test.now) c.args.test.now c.new-all.result c.in-Some.pattern = subst (λ l. IsWithTest c.args.setting.now.domain.now l (test_names c.args.test.now) c.args.test.now c.new-all.result c.in-Some.pattern) c.in_ok-vars.ensures.times (subst (λ l. IsWithTest c.args.setting.now.domain.now c.in_ok-vars.vars.times l c.args.test.now c.new-all.result c.in-Some.pattern) c.in_ok-vars.ensures.texts (subst (λ o. MatchOption o (HasNoTest c.args.setting.now.domain.now c.in_ok-vars.vars.times c.in_ok-vars.vars.texts c.args.test.now c.new-all.result) (IsWithTest c.args.setting.now.domain.now c.in_ok-vars.vars.times c.in_ok-vars.vars.texts c.args.test.now c.new-all.result)) c.in-Some.is c.in_ok-pattern.ensures)) in
-    record { valid = c.store_over-out.ensures.valid; fits = leaf_fits c.args.setting.now.domain.now c.len-size.ensures.ascending c.args.test.now c.requires.low c.new-all.result c.new-all.ensures c.len-size.result c.len-size.ensures.count c.args.setting.now.cap c.store_over-out.result fresh c.in-Some.pattern w; known = w.size }
+    record { fits = leaf_fits c.args.setting.now.domain.now c.len-size.ensures.ascending c.args.test.now c.requires.low c.new-all.result c.new-all.ensures c.len-size.result c.len-size.ensures.count c.args.setting.now.cap c.store_over-out.result fresh c.in-Some.pattern w; known = w.size }
 
 pub invariant_of-result : goal.invariant_of-result
 invariant_of-result c =

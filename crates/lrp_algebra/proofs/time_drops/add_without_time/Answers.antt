@@ -15,13 +15,13 @@ returns-then-has c = record {
 
 pub add_zone-requires : goal.add_zone-requires
 add_zone-requires c =
-    let z = time_dropped c.args.piece.now c.args.place c.args.out.now c.requires.valid c.requires.place c.requires.wide c.requires.fits c.drop_column-zone.result c.columns.ensures.valid c.drop_column-zone.ensures c.without_residue.result c.without_residue.ensures in
+    let z = time_dropped c.args.piece.now c.args.place c.args.out.now c.requires.valid c.requires.place c.requires.wide c.requires.fits c.drop_column-zone.result c.drop_column-zone.ensures.valid c.drop_column-zone.ensures.dropped c.without_residue.result c.without_residue.ensures in
     record { period = z.period; residues = z.residues; texts = z.texts; times = z.times; wholes = c.requires.wholes }
 
 pub returns : goal.returns
 returns c = record {
   ok = new_added _ c.args.out.now c.requires.valid (record { texts = c.args.piece.now.cell.texts; residues = c.without_residue.result }) c.drop_column-zone.result (2 * reach_of c.args.piece.now.zone)
-      (time_dropped c.args.piece.now c.args.place c.args.out.now c.requires.valid c.requires.place c.requires.wide c.requires.fits c.drop_column-zone.result c.columns.ensures.valid c.drop_column-zone.ensures c.without_residue.result c.without_residue.ensures)
+      (time_dropped c.args.piece.now c.args.place c.args.out.now c.requires.valid c.requires.place c.requires.wide c.requires.fits c.drop_column-zone.result c.drop_column-zone.ensures.valid c.drop_column-zone.ensures.dropped c.without_residue.result c.without_residue.ensures)
       4294967295 c.add_zone.new.out c.add_zone.result c.add_zone.ensures.ok;
   wholes = c.add_zone.ensures.wholes;
 }

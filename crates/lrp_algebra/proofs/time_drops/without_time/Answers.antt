@@ -50,8 +50,8 @@ loop-piece-preserved c =
 pub add_without_time-requires-clause-wholes : goal.add_without_time-requires-clause-wholes
 add_without_time-requires-clause-wholes c = c.loop-piece.invariant.1
 
-pub returns : goal.returns
-returns c =
+pub returns-clause-made : goal.returns-clause-made
+returns-clause-made c =
     let grown = c.loop-piece.invariant.0.grown (2 ^ 61) c.requires.reach in
     let a = ap (λ v. v.period) c.new-out.ensures in
     let h : c.args.store.now.period ≤ 2 ^ 62 = c.shape-shape.ensures.valid.period_high in

@@ -1,5 +1,5 @@
 -- The last table's store is settled.
-use Rattle.std.proofs.Common.{refl, ap, subst, sym, ◌∙◌}
+use Rattle.std.proofs.Common.{arith, refl, ap, subst, sym, ◌∙◌}
 use Rattle.lrp_model.specs.declared.formulas.Head.{Head}
 use Rattle.lrp_model.specs.Sorts.{time_count}
 use Rattle.std.proofs.Common.{length}
@@ -35,3 +35,9 @@ pub returns-clause-answer : goal.returns-clause-answer
 returns-clause-answer c = λ q h. answer_of c.args.database.now q c.args.plan.now h c.args.cap c.in_ok-table.table (c.in_ok-table.ensures.table q h) c.in_ok-table.table.times_named c.in_ok-table.table.texts_named
     c.in_ok-store.store c.in_ok-store.ensures c.in_ok-table.ensures.valid _ (ap (λ (x : Head). x.columns) c.in_ok-head.ensures ∙ h.is.head) (c.in_ok-domain.ensures ∙ h.is.domain)
     (word_is c.in_ok-store.store.period c.period-period.result c.period-period.ensures c.in_ok-store.ensures.valid.period_high) refl
+
+pub returns-clause-valid : goal.returns-clause-valid
+returns-clause-valid c = c.in_ok-store.ensures.valid
+
+pub returns-clause-domain : goal.returns-clause-domain
+returns-clause-domain c = record { whole = c.len.ensures.whole; ascends = c.len.ensures.ascending; few = omega (arith, c.len.ensures.count) }

@@ -1,9 +1,8 @@
 -- One column more.
-use Rattle.std.proofs.Common.{◌≡◌, ◌+◌, ◌*◌, ◌++◌, ◌∷◌, [], length, ◌≤◌, take, refl, ap, sym, subst, ◌∙◌}
+use Rattle.std.proofs.Common.{◌≡◌, ◌+◌, ◌*◌, ◌++◌, ◌∷◌, [], length, ◌≤◌, take, take_all, refl, ap, sym, subst, ◌∙◌}
 use Rattle.lrp_cutting.proofs.Lists.{front_more}
 use Rattle.lrp_eval.specs.Together.{ways_for}
 use Rattle.lrp_eval.proofs.ComplementCounts.{same_count, ways_none, ways_some, ways_step}
-use Rattle.lrp_eval.proofs.SettleLaws.{take_whole}
 use Rattle.lrp_eval.proofs.complementing.choices.Goals.{then-is_none+in-Some, else-is_none}
 use Rattle.lrp_eval.proofs.complementing.choices.Goals as goal
 
@@ -20,4 +19,4 @@ loop-name-preserved c =
     ])
 
 pub returns : goal.returns
-returns c = c.loop-name.invariant ∙ ap (ways_for c.args.others.now c.args.period) (take_whole c.args.names.now c.loop-name.name-index (subst (λ ns. length ns ≤ c.loop-name.name-index) c.as_slice-name-items.ensures c.loop-name-test.false))
+returns c = c.loop-name.invariant ∙ ap (ways_for c.args.others.now c.args.period) (take_all c.loop-name.name-index c.args.names.now (subst (λ ns. length ns ≤ c.loop-name.name-index) c.as_slice-name-items.ensures c.loop-name-test.false))

@@ -14,8 +14,8 @@ pub drop_time-requires : goal.drop_time-requires
 drop_time-requires c = record { reach = rest_reach (worded _ _ _ _ c.requires.narrow) (worded_complement _ _ _ _ _ _ c.requires.narrow c.requires.outside) c.new-tests.ensures c.in_ok-part.ensures c.in_ok-rest.ensures }
 
 pub minus-requires : goal.minus-requires
-minus-requires c = taken_minus (worded _ _ _ _ c.requires.narrow) (worded_complement _ _ _ _ _ _ c.requires.narrow c.requires.outside) c.new-tests.ensures c.in_ok-part.ensures c.in_ok-rest.ensures c.in_ok-taken.ensures
+minus-requires c = taken_minus (worded _ _ _ _ c.requires.narrow) (worded_complement _ _ _ _ _ _ c.requires.narrow c.requires.outside) c.new-tests.ensures c.in_ok-part.ensures c.in_ok-rest.ensures c.in_ok-taken.ensures.dropped
 
 pub returns : goal.returns
 returns c = if_ok _ _ c.minus.result (λ made is. unworded _ _ _ _ _ made c.requires.narrow is)
-    (narrowed_complement (worded _ _ _ _ c.requires.narrow) (worded_complement _ _ _ _ _ _ c.requires.narrow c.requires.outside) c.new-tests.ensures c.in_ok-part.ensures c.in_ok-rest.ensures c.in_ok-taken.ensures c.minus.result c.minus.ensures)
+    (narrowed_complement (worded _ _ _ _ c.requires.narrow) (worded_complement _ _ _ _ _ _ c.requires.narrow c.requires.outside) c.new-tests.ensures c.in_ok-part.ensures c.in_ok-rest.ensures c.in_ok-taken.ensures.dropped c.minus.result c.minus.ensures.difference c.minus.ensures.valid)

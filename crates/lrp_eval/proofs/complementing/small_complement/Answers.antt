@@ -11,6 +11,6 @@ complement-requires c = record {
 }
 
 pub returns-in-Some-product_within : goal.returns-in-Some-product_within
-returns-in-Some-product_within c = complement_is c.args.setting.now.domain.now c.args.sides.now c.args.period c.args.setting.now.cap c.in-Ok.outside c.requires c.shape.ensures.valid (c.is_plain.ensures.period c.if-not-is_plain.false) (c.is_plain.ensures.texts c.if-not-is_plain.false)
-    c.in-Ok.ensures.table c.in-Ok.ensures.reach
+returns-in-Some-product_within c = complement_is c.args.setting.now.domain.now c.args.sides.now c.args.period c.args.setting.now.cap c.in-Ok.outside c.requires c.in-Ok.ensures.valid (c.is_plain.ensures.period c.if-not-is_plain.false) (c.is_plain.ensures.texts c.if-not-is_plain.false)
+    c.in-Ok.ensures.complement.table c.in-Ok.ensures.complement.reach
     (subst (λ n. n ≤ c.args.setting.now.cap) (c.in-Some-product_within.ensures.0 ∙ ap₂ (λ a b. a * b) c.len-in-Ok.ensures (c.from.ensures ∙ c.in-Some.ensures)) c.in-Some-product_within.ensures.1)

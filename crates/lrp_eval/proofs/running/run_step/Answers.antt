@@ -110,7 +110,7 @@ pub minus-requires : goal.minus-requires
 minus-requires c = can_minus (worded (as_kind _ c.requires.next.2 c.in-Minus.is)) c.operand-left-in-Minus.ensures c.operand-right-in-Minus.ensures
 
 pub returns-in-Minus : goal.returns-in-Minus
-returns-in-Minus c = λ q e n. minus_ran (worded (as_kind _ n c.in-Minus.is)) c.operand-left-in-Minus.ensures c.operand-right-in-Minus.ensures c.minus.result c.minus.ensures
+returns-in-Minus c = λ q e n. minus_ran (worded (as_kind _ n c.in-Minus.is)) c.operand-left-in-Minus.ensures c.operand-right-in-Minus.ensures c.minus.result c.minus.ensures.difference
 
 -- ---- complements
 
@@ -124,7 +124,7 @@ pub complement-requires : goal.complement-requires
 complement-requires c = can_complement (as_kind _ c.requires.next.2 c.in-Complement.is) c.operand-in-Complement.ensures
 
 pub returns-in-Complement : goal.returns-in-Complement
-returns-in-Complement c = λ q e n. complement_ran (as_kind _ n c.in-Complement.is) c.operand-in-Complement.ensures c.complement.result c.complement.ensures
+returns-in-Complement c = λ q e n. complement_ran (as_kind _ n c.in-Complement.is) c.operand-in-Complement.ensures c.complement.result c.complement.ensures.complement
 
 -- ---- columns that go
 
@@ -137,8 +137,8 @@ operand-requires-in-DropTime-clause-high c = let n = as_kind _ c.requires.next.2
 pub drop_time-requires : goal.drop_time-requires
 drop_time-requires c = record { reach = drop_time_reach (as_kind _ c.requires.next.2 c.in-DropTime.is) c.operand-in-DropTime.ensures }
 
-pub returns-in_ok-made-in-DropTime : goal.returns-in_ok-made-in-DropTime
-returns-in_ok-made-in-DropTime c = λ q e n. record { table = drop_time_run (as_kind _ n c.in-DropTime.is) c.operand-in-DropTime.ensures c.shape.ensures.valid c.in_ok-made-in-DropTime.ensures; many = λ x. cc }
+pub returns-in_ok-drop_time-in-DropTime : goal.returns-in_ok-drop_time-in-DropTime
+returns-in_ok-drop_time-in-DropTime c = λ q e n. let made = c.in_ok-drop_time-in-DropTime.ensures in record { table = drop_time_run (as_kind _ n c.in-DropTime.is) c.operand-in-DropTime.ensures made.valid made.dropped; many = λ x. cc }
 
 pub operand-requires-in-DropData-clause-low : goal.operand-requires-in-DropData-clause-low
 operand-requires-in-DropData-clause-low c = (earlier (as_kind _ c.requires.next.2 c.in-DropData.is)).0.0
@@ -146,8 +146,8 @@ operand-requires-in-DropData-clause-low c = (earlier (as_kind _ c.requires.next.
 pub operand-requires-in-DropData-clause-high : goal.operand-requires-in-DropData-clause-high
 operand-requires-in-DropData-clause-high c = let n = as_kind _ c.requires.next.2 c.in-DropData.is in within n _ (earlier n).0
 
-pub returns-in_ok-made-in-DropData : goal.returns-in_ok-made-in-DropData
-returns-in_ok-made-in-DropData c = λ q e n. record { table = drop_data_run (as_kind _ n c.in-DropData.is) c.operand-in-DropData.ensures c.shape-in-DropData.ensures.valid c.in_ok-made-in-DropData.ensures; many = λ x. cc }
+pub returns-in_ok-drop_data-in-DropData : goal.returns-in_ok-drop_data-in-DropData
+returns-in_ok-drop_data-in-DropData c = λ q e n. let made = c.in_ok-drop_data-in-DropData.ensures in record { table = drop_data_run (as_kind _ n c.in-DropData.is) c.operand-in-DropData.ensures made.valid made.dropped; many = λ x. cc }
 
 -- ---- the step `head`
 

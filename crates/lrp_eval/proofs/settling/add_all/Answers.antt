@@ -1,18 +1,14 @@
 -- One zone more.
-use Rattle.std.proofs.Common.{◌≡◌, ◌<◌, ℕ, List, length, get_or, take, ap, sym, subst, ◌∙◌, Contains}
+use Rattle.std.proofs.Common.{List, take, take_all, ap, sym, subst, ◌∙◌}
 use Rattle.std.specs.Prelude.{pos}
 use Rattle.lrp_zone.specs.Zones.{ZoneView}
 use Rattle.lrp_model.specs.declared.tuples.Shape.{Shape}
 use Rattle.lrp_store.specs.Stores.{StoreView, IsPadded}
 use Rattle.lrp_cutting.specs.Settling.{AddsZones}
 use Rattle.lrp_cutting.proofs.AddingLaws.{none_added, one_added}
-use Rattle.lrp_eval.proofs.SettleLaws.{take_whole}
+use Rattle.lrp_cutting.proofs.Lists.{read}
 use Rattle.lrp_eval.proofs.settling.add_all.Goals as goal
 use Rattle.lrp_theory.proofs.Members.{front_more}
-
--- what is read at a place is in the list
-read : (xs : List ZoneView) (i : ℕ) (x : ZoneView) → i < length xs → x ≡ get_or xs i x → Contains xs x
-read xs i x l e = (i, l, sym e)
 
 pub loop-zone-init : goal.loop-zone-init
 loop-zone-init c = none_added c.args.cell.now c.args.store.now
@@ -34,4 +30,4 @@ loop-zone-preserved c = one_added c.args.cell.now _ _ c.zone-item.result c.args.
     (ap (λ (s : StoreView). s.shape) c.add.ensures.rest) (ap (λ (s : StoreView). s.period) c.add.ensures.rest)
 
 pub returns : goal.returns
-returns c = subst (λ (zs : List ZoneView). AddsZones c.args.cell.now zs c.args.store.now c.loop-zone.store) (take_whole _ _ c.loop-zone-test.false) c.loop-zone.invariant
+returns c = subst (λ (zs : List ZoneView). AddsZones c.args.cell.now zs c.args.store.now c.loop-zone.store) (take_all _ _ c.loop-zone-test.false) c.loop-zone.invariant

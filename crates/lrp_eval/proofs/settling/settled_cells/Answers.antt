@@ -1,11 +1,8 @@
 -- One cell more is settled.
-use Rattle.std.proofs.Common.{◌≡◌, ◌≤◌, ◌^◌, ℕ, ap, subst, sym, ◌∙◌, to_z, of_z, w64}
+use Rattle.std.proofs.Common.{◌≡◌, ◌≤◌, ◌^◌, ℕ, ap, arith, ◌∙◌, to_z, of_z, w64}
 use Rattle.std.specs.Prelude.{ℤ, pos, nat_abs}
 use Rattle.std.proofs.lemmas.Int.{ints}
-use Rattle.std.proofs.Common.{arith}
-use Rattle.lrp_model.specs.declared.tuples.Shape.{Shape}
-use Rattle.lrp_store.specs.Stores.{IsStore, StoreView}
-use Rattle.lrp_store.proofs.Held.{new_store}
+use Rattle.lrp_store.specs.Stores.{StoreView}
 use Rattle.lrp_eval.proofs.SettleLaws.{settling_none, settling_more, settled_all, some_zone}
 use Rattle.lrp_eval.proofs.settling.settled_cells.Goals as goal
 
@@ -15,12 +12,7 @@ word_is p z e h = omega (arith, ints)
 
 pub loop-cell-init : goal.loop-cell-init
 loop-cell-init c =
-    let valid = c.shape.ensures.valid in
-    let period : nat_abs (to_z w64 (of_z w64 c.period.result)) ≡ c.args.store.now.period = word_is c.args.store.now.period c.period.result c.period.ensures valid.period_high in
-    let times : c.shape.result.times ≤ 8 = subst (λ (h : Shape). h.times ≤ 8) (sym c.shape.ensures.value) valid.times in
-    let texts : c.shape.result.texts ≤ 8 = subst (λ (h : Shape). h.texts ≤ 8) (sym c.shape.ensures.value) valid.texts in
-    let begun : IsStore c.new-made.result = subst IsStore (sym c.new-made.ensures) (new_store _ _ times texts (omega (arith, period, valid.period_low)) (omega (arith, period, valid.period_high))) in
-    settling_none c.args.store.now c.new-made.result c.into_iter-cell-iterator.result valid begun
+    settling_none c.args.store.now c.new-made.result c.into_iter-cell-iterator.result c.shape.ensures.valid
     (ap (λ (v : StoreView). v.shape) c.new-made.ensures ∙ c.shape.ensures.value)
     (ap (λ (v : StoreView). v.period) c.new-made.ensures ∙ word_is c.args.store.now.period c.period.result c.period.ensures c.shape.ensures.valid.period_high)
     (ap (λ (v : StoreView). v.tables) c.new-made.ensures)
@@ -34,7 +26,7 @@ settle_cell-requires c = record {
 }
 
 pub loop-cell-preserved : goal.loop-cell-preserved
-loop-cell-preserved c = settling_more c.args.store.now c.loop-cell.made c.settle_cell.new.made c.loop-cell.cell-iterator c.next.new.self c.in-Some.cell c.in-Some.ensures.steps c.loop-cell.invariant c.shape-in-loop-cell.ensures.valid c.in_ok-settle_cell.ensures
+loop-cell-preserved c = settling_more c.args.store.now c.loop-cell.made c.settle_cell.new.made c.loop-cell.cell-iterator c.next.new.self c.in-Some.cell c.in-Some.ensures.steps c.loop-cell.invariant c.in_ok-settle_cell.ensures
 
 pub returns : goal.returns
-returns c = settled_all c.args.store.now c.loop-cell.made c.loop-cell.cell-iterator c.in-None.ensures.steps.0 c.loop-cell.invariant
+returns c = settled_all c.args.store.now c.loop-cell.made c.loop-cell.cell-iterator c.in-None.ensures.steps.0 c.shape-2.ensures.valid c.loop-cell.invariant

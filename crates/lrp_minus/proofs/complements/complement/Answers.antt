@@ -15,8 +15,8 @@ fill_texts-requires-clause-fill c =
       turned = record { period = c.requires.period; reach = c.requires.reach };
     }
 
-pub returns-in-Ok : goal.returns-in-Ok
-returns-in-Ok c =
+pub returns-in-Ok-clause-complement : goal.returns-in-Ok-clause-complement
+returns-in-Ok-clause-complement c =
     let fresh : c.new-out.result ≡ fresh_store c.args.table.now.store = fresh_by c.args.table.now.store c.new-out.result _ _ c.new-out.ensures c.shape.ensures.value (ap nat_abs (period_word c.args.table.now.store c.shape.ensures.valid c.period.result c.period.ensures)) in
     record {
       table = complement_table c.args.setting.now.domain.now c.len.ensures.ascending c.args.table.now c.len.result c.len.ensures.count (replicate 8 0) c.args.setting.now.cap c.new-out.result c.fill_texts.new.out fresh (fresh_valid c.args.table.now.store c.shape.ensures.valid c.new-out.result fresh) _ (c.in-Ok.ensures.ok _ c.requires.reach) _ c.in_ok-copy.ensures c.in_ok-copy-2.ensures refl;
@@ -25,8 +25,11 @@ returns-in-Ok c =
       many = λ e. cc;
     }
 
-pub returns-in-Err-TooManyCells : goal.returns-in-Err-TooManyCells
-returns-in-Err-TooManyCells c =
+pub returns-in-Ok-clause-valid : goal.returns-in-Ok-clause-valid
+returns-in-Ok-clause-valid c = (c.in-Ok.ensures.ok _ c.requires.reach).grown.valid
+
+pub returns-in-Err-TooManyCells-clause-complement : goal.returns-in-Err-TooManyCells-clause-complement
+returns-in-Err-TooManyCells-clause-complement c =
     let fresh : c.new-out.result ≡ fresh_store c.args.table.now.store = fresh_by c.args.table.now.store c.new-out.result _ _ c.new-out.ensures c.shape.ensures.value (ap nat_abs (period_word c.args.table.now.store c.shape.ensures.valid c.period.result c.period.ensures)) in
     record {
       table = tt;

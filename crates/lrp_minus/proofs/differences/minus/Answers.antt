@@ -26,8 +26,8 @@ add_difference-requires c =
           (subst (λ (k : ℤ). Divides (pos c.args.right.now.store.period) k) (passed_pos c.args.period c.requires.low) c.requires.right_period) c.requires.high c.requires.left_reach c.requires.right_reach);
     }
 
-pub returns-in-Ok : goal.returns-in-Ok
-returns-in-Ok c =
+pub returns-in-Ok-clause-difference : goal.returns-in-Ok-clause-difference
+returns-in-Ok-clause-difference c =
     let fresh : c.new-out.result ≡ without_cells c.args.left.now.store.shape (nat_abs c.args.period) = started c.new-out.result _ _ _ _ c.new-out.ensures c.shape-2.ensures.value (passed_abs c.args.period c.requires.low c.requires.high) in
     let within : (high : ℕ) → BothReach c.args.left.now c.args.right.now high → HasReach c.add_difference.new.out (high + 2 * nat_abs c.args.period) =
     λ high h. minus_reach c.args.left.now c.args.right.now c.shape.ensures.valid c.in_ok-places.places c.in_ok-places.ensures.times c.in_ok-places.ensures.texts (nat_abs c.args.period) c.args.setting.now.cap c.new-out.result c.add_difference.new.out fresh high
@@ -42,8 +42,11 @@ returns-in-Ok c =
       };
     }
 
-pub returns-in-Err-TooManyCells : goal.returns-in-Err-TooManyCells
-returns-in-Err-TooManyCells c =
+pub returns-in-Ok-clause-valid : goal.returns-in-Ok-clause-valid
+returns-in-Ok-clause-valid c = (c.in-Ok.ensures.ok _ c.requires.left_reach c.requires.right_reach).grown.valid
+
+pub returns-in-Err-TooManyCells-clause-difference : goal.returns-in-Err-TooManyCells-clause-difference
+returns-in-Err-TooManyCells-clause-difference c =
     let fresh : c.new-out.result ≡ without_cells c.args.left.now.store.shape (nat_abs c.args.period) = started c.new-out.result _ _ _ _ c.new-out.ensures c.shape-2.ensures.value (passed_abs c.args.period c.requires.low c.requires.high) in
     record {
       reach = tt;
