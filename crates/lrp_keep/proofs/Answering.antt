@@ -7,9 +7,10 @@ use Rattle.lrp_model.specs.declared.tuples.Shape.{Shape}
 use Rattle.lrp_store.specs.Stores.{HasReach, InStore, IsStore, StoreView}
 use Rattle.lrp_tables.proofs.Passing.{nothing_at}
 use Rattle.lrp_tables.specs.Columns.{head_texts, head_times}
+use Rattle.lrp_cutting.specs.Settling.{IsLike}
 use Rattle.lrp_parts.specs.Derivations.{HoldsIn, Levels}
 use Rattle.lrp_keep.specs.States.{IsKeeping, levels_of}
-use Rattle.lrp_keep.specs.Taken.{AreAlike, HasTakenSome, HeldHaveReach}
+use Rattle.lrp_keep.specs.Taken.{HasTakenSome, HeldHaveReach, IsLikeLast}
 use Rattle.lrp_keep.specs.Unions.{HoldsAll}
 use Rattle.lrp_keep.specs.declared.kept_query.KeptQuery.{KeptQuery}
 use Rattle.lrp_keep.specs.declared.states.State.{State}
@@ -37,27 +38,27 @@ module _ (of : KeptQuery) (s : State) (is : IsKeeping of s) (start : StoreView) 
   nothing xs ns i = nothing_at start empty i.cell i.table i.held
 
   -- what is held of whole choices is over the head, too
-  pub alike : (now : StoreView) → now.shape ≡ start.shape → now.period ≡ start.period → (i : ℕ) (levels : Levels) → slice_get all i ≡ Some levels → AreAlike levels now
-  alike now shape period i levels there keys value held =
-      let d = found of.disjuncts.items i (let l : i < length all = within all i levels there in let n : length all ≡ length of.disjuncts.items = is.state.derived.count in omega (arith, l, n)) in
-      let w = is.state.derived.each i d.0 levels d.1 there in
-      let x = w.sound.each (length levels - 1) keys value held in
-      let low : 0 < length d.0.atoms.items = (is.state.can i d.0 d.1).some in
-      let size : length levels ≡ length d.0.atoms.items = w.sound.count in
-      let own : length keys ≡ length levels - 1 + 1 = x.0 in
-      let a = x.1.answers (omega (arith, low, size, own)) in
-      record {
-        shape = λ store e.
-            let same : store ≡ a.2.made.store = same_Some store a.0 (sym e ∙ a.1) ∙ sym a.2.store in
-            shape ∙ shape_is store a.2.made.store same (sym a.2.made.times_named ∙ ap length a.2.table.times_are) (sym a.2.made.texts_named ∙ ap length a.2.table.texts_are);
-        period = λ store e.
-            let same : store ≡ a.2.made.store = same_Some store a.0 (sym e ∙ a.1) ∙ sym a.2.store in
-            period ∙ period_is ∙ sym (ap (λ (t : StoreView). t.period) same ∙ a.2.table.period_is);
-      }
+  pub alike : (now : StoreView) → IsStore now → now.shape ≡ start.shape → now.period ≡ start.period → (i : ℕ) (levels : Levels) → slice_get all i ≡ Some levels → IsLikeLast levels now
+  alike now valid_now shape period i levels there = record { valid = valid_now; each = each_like }
     where
       shape_is : (store made : StoreView) → store ≡ made → made.shape.times ≡ length (head_times of.query.now.head.columns) → made.shape.texts ≡ length (head_texts of.query.now.head.columns) → start.shape ≡ store.shape
       shape_is store made same t x =
           ap (λ n. as_shape n start.shape.texts) (times_are ∙ sym t) ∙ ap (λ n. as_shape made.shape.times n) (texts_are ∙ sym x) ∙ ap (λ (v : StoreView). v.shape) (sym same)
+
+      each_like : (keys : List ℕ) (store : StoreView) → HoldsIn levels (length levels - 1) keys (Some store) → IsLike store now
+      each_like keys store held =
+          let d = found of.disjuncts.items i (let l : i < length all = within all i levels there in let n : length all ≡ length of.disjuncts.items = is.state.derived.count in omega (arith, l, n)) in
+          let w = is.state.derived.each i d.0 levels d.1 there in
+          let x = w.sound.each (length levels - 1) keys (Some store) held in
+          let low : 0 < length d.0.atoms.items = (is.state.can i d.0 d.1).some in
+          let size : length levels ≡ length d.0.atoms.items = w.sound.count in
+          let own : length keys ≡ length levels - 1 + 1 = x.0 in
+          let a = x.1.answers (omega (arith, low, size, own)) in
+          let same : store ≡ a.2.made.store = same_Some store a.0 a.1 ∙ sym a.2.store in
+          record {
+            shape = shape ∙ shape_is store a.2.made.store same (sym a.2.made.times_named ∙ ap length a.2.table.times_are) (sym a.2.made.texts_named ∙ ap length a.2.table.texts_are);
+            period = period ∙ period_is ∙ sym (ap (λ (t : StoreView). t.period) same ∙ a.2.table.period_is);
+          }
 
   module _ (final : StoreView) (taken : HasTakenSome (HoldsAmong all (length all)) start final) where
     pub all_hold : HoldsAll all of.domain final

@@ -2,6 +2,7 @@
 use Rattle.std.proofs.Common.{◌≡◌, ℕ, true, List, length, map, Contains, Some, sym, ap, ap₂, subst, ◌∙◌}
 use Rattle.std.specs.Prelude.{◌&&◌, reverse, slice_get}
 use Rattle.std.specs.List.{AllByRecursion}
+use Rattle.std.proofs.lemmas.Bool.{and_parts}
 use Rattle.slab.specs.Slab.{get}
 use Rattle.lrp_model.specs.Checked.{plain_question}
 use Rattle.lrp_model.specs.DatabaseMeaning.{column_of}
@@ -25,11 +26,11 @@ use Rattle.lrp_keep.specs.States.{IsAnswerOfState, IsKeeping, ground_at, levels_
 use Rattle.lrp_kept.specs.declared.disjuncts.Disjunct.{Disjunct}
 use Rattle.lrp_keep.specs.declared.kept_query.KeptQuery.{KeptQuery}
 use Rattle.lrp_keep.specs.declared.states.State.{State}
-use Rattle.lrp_parts.proofs.Behind.{each_true}
 use Rattle.lrp_keep.proofs.KeptAnswers.{IsWholeAt, RestsOn, answer_from, answer_to, one_passes, zip_back}
 use Rattle.lrp_keep.proofs.LowRows.{kept_low}
 use Rattle.lrp_keep.proofs.Resting.{rests_on}
-use Rattle.lrp_keep.proofs.SmallAnswers.{small_zones, times_counted}
+use Rattle.lrp_keep.proofs.SmallAnswers.{small_zones}
+use Rattle.lrp_tables.proofs.HeadCounts.{times_counted}
 use Rattle.lrp_keep.proofs.WholeAtoms.{is_whole_at}
 
 -- each disjunct of a query in kept form is whole
@@ -38,8 +39,8 @@ whole_each names q ds kept are i d at =
     let x = zip_back (IsDisjunctOf names) (listed_disjuncts q) ds i d are.each at in
     let f = x.0 in
     let good : is_disjunct q.head f ≡ true = one_passes (is_disjunct q.head) (query_disjuncts q) f kept x.1 in
-    let first = each_true (is_conjunctive (kept_elements f) && all_occur (kept_elements f) (head_variables q.head)) (all_occur (kept_elements f) (bound_variables f)) good in
-    is_whole_at names f d x.2 (each_true (is_conjunctive (kept_elements f)) (all_occur (kept_elements f) (head_variables q.head)) first.0).0
+    let first = and_parts (is_conjunctive (kept_elements f) && all_occur (kept_elements f) (head_variables q.head)) (all_occur (kept_elements f) (bound_variables f)) good in
+    is_whole_at names f d x.2 (and_parts (is_conjunctive (kept_elements f)) (all_occur (kept_elements f) (head_variables q.head)) first.0).0
 
 module _ (of : KeptQuery) (s : State) (is : IsKeeping of s) where
   abbrev g : Ground

@@ -1,6 +1,7 @@
 -- What kept form says of each disjunct, and what the kept reach reads of relations.
 use Rattle.std.proofs.Common.{◌≡◌, ◌+◌, ◌*◌, ◌^◌, ℕ, true, false, not, List, [], ◌∷◌, ◌++◌, length, map, flat_map, refl, ap, ap₂, bytes_eq, Contains}
 use Rattle.std.specs.Prelude.{◌&&◌, if◌then◌else◌}
+use Rattle.std.proofs.lemmas.Bool.{and_parts}
 use mathlib.Core.Path.{fun_ext}
 use Rattle.lrp_model.specs.Formulas.{Form, Question}
 use Rattle.lrp_model.specs.Sorts.{time_count}
@@ -12,19 +13,18 @@ use Rattle.lrp_kept.specs.Choices.{disjunct_tests, listed_disjuncts}
 use Rattle.lrp_kept.specs.KeptForm.{all_occur, all_pass, bound_variables, kept_elements, is_atom, is_conjunctive, is_disjunct, is_kept, is_neither, query_disjuncts, some_passes, tested_variables}
 use Rattle.lrp_kept.specs.Limits.{kept_reach, most_of, scaled_kept_reach, time_quantifiers, number_beside}
 use Rattle.lrp_model.specs.Variables.{head_variables}
-use Rattle.lrp_parts.proofs.Behind.{each_true}
 use Rattle.lrp_keep.proofs.KeptAnswers.{not_true, one_passes}
 
 pub conjunctive_of : (q : Question) → is_kept q ≡ true → (f : Form) → Contains (listed_disjuncts q) f → is_conjunctive (kept_elements f) ≡ true
 conjunctive_of q kept f c =
     let good : is_disjunct q.head f ≡ true = one_passes (is_disjunct q.head) (query_disjuncts q) f kept c in
-    let two = each_true (is_conjunctive (kept_elements f) && all_occur (kept_elements f) (head_variables q.head)) (all_occur (kept_elements f) (bound_variables f)) good in
-    (each_true (is_conjunctive (kept_elements f)) (all_occur (kept_elements f) (head_variables q.head)) two.0).0
+    let two = and_parts (is_conjunctive (kept_elements f) && all_occur (kept_elements f) (head_variables q.head)) (all_occur (kept_elements f) (bound_variables f)) good in
+    (and_parts (is_conjunctive (kept_elements f)) (all_occur (kept_elements f) (head_variables q.head)) two.0).0
 
 pub literal_in : (f : Form) → is_conjunctive (kept_elements f) ≡ true → some_passes is_neither (kept_elements f) ≡ false
 literal_in f e =
-    let a = each_true (not (some_passes is_neither (kept_elements f)) && some_passes is_atom (kept_elements f)) (all_pass (λ g. all_occur (kept_elements f) (tested_variables g)) (kept_elements f)) e in
-    not_true (some_passes is_neither (kept_elements f)) (each_true (not (some_passes is_neither (kept_elements f))) (some_passes is_atom (kept_elements f)) a.0).0
+    let a = and_parts (not (some_passes is_neither (kept_elements f)) && some_passes is_atom (kept_elements f)) (all_pass (λ g. all_occur (kept_elements f) (tested_variables g)) (kept_elements f)) e in
+    not_true (some_passes is_neither (kept_elements f)) (and_parts (not (some_passes is_neither (kept_elements f))) (some_passes is_atom (kept_elements f)) a.0).0
 
 pub literal_of : (q : Question) → is_kept q ≡ true → (f : Form) → Contains (listed_disjuncts q) f → some_passes is_neither (kept_elements f) ≡ false
 literal_of q kept f c = literal_in f (conjunctive_of q kept f c)

@@ -1,20 +1,17 @@
 -- The numbers of texts in a store of answers are numbers of the domain.
-use Rattle.std.proofs.Common.{◌≡◌, ◌<◌, ◌+◌, ◌-◌, ℕ, suc, List, [], ◌∷◌, length, take, Option, Some, None, Contains, inl, inr, refl, sym, ap, subst, ◌∙◌, arith}
+use Rattle.std.proofs.Common.{◌≡◌, ◌<◌, ◌+◌, ◌-◌, ℕ, List, [], ◌∷◌, length, take, Option, Some, None, Contains, inl, inr, refl, sym, ap, subst, ◌∙◌, arith}
 use Rattle.std.specs.Prelude.{ℤ, IsSome, slice_get, slice_index, unwrap_or}
 use Rattle.std.specs.FinMap as finite
 use Rattle.std.proofs.lemmas.List.{get_or-take}
 use Rattle.std.proofs.lemmas.Option.{same_Some}
-use Rattle.lrp_model.specs.Texts.{Identifier, Text}
-use Rattle.lrp_model.specs.declared.relations.Column.{Column}
-use Rattle.lrp_model.specs.declared.relations.Sort.{Sort}
-use Rattle.lrp_model.specs.declared.relations.Sort.TheVariants.{Time, Data, Named}
+use Rattle.lrp_model.specs.Texts.{Text}
 use Rattle.lrp_model.specs.declared.tuples.Shape.{Shape}
 use Rattle.lrp_store.specs.Stores.{InStore, IsStore, StoreView, tables_at}
 use Rattle.lrp_store.specs.Tables.{AreNumbered}
 use Rattle.lrp_store.proofs.Aligning.{head_in}
 use Rattle.lrp_store.proofs.Held.{Table, zone_held}
 use Rattle.lrp_tables.proofs.Passing.{nothing_at}
-use Rattle.lrp_tables.specs.Columns.{head_texts, head_times, text_name, with_time_name}
+use Rattle.lrp_tables.specs.Columns.{head_texts, head_times}
 use Rattle.lrp_parts.specs.Derivations.{HoldsIn, Levels}
 use Rattle.lrp_keep.specs.States.{IsKeeping, levels_of}
 use Rattle.lrp_keep.specs.Taken.{HasTakenSome}
@@ -70,17 +67,6 @@ module _ (of : KeptQuery) (s : State) (is : IsKeeping of s) (start : StoreView) 
   all_numbered final taken = numbered_by of.domain final taken.valid (λ xs ns h i lt. elim (taken.to xs ns h) [
     | inl was ↦ absurd (nothing_at start empty was.cell was.table was.held)
     | inr x ↦
-        let shape : start.shape ≡ x.store.shape = (alike of s is start valid empty times_are texts_are period_is start refl refl x.is.0 x.is.1 x.is.3 x.keys (Some x.store) x.is.4).shape x.store refl in
+        let shape : start.shape ≡ x.store.shape = ((alike of s is start valid empty times_are texts_are period_is start valid refl refl x.is.0 x.is.1 x.is.3).each x.keys x.store x.is.4).shape in
         tuple_numbered of.domain x.store xs ns (held_numbered x.is.0 x.is.1 x.is.3 x.keys x.store x.is.4) x.inside i (subst (λ (h : Shape). i < h.texts) (taken.shape ∙ shape) lt)
   ])
-
--- ---- columns
-
-one_column : (s : Sort) (n : ℕ) (v : Identifier) (ns ms : List Identifier) → n ≡ length ns + length ms → suc n ≡ length (with_time_name s v ns) + length (text_name s v ms)
-one_column Time n v ns ms e = omega (arith, e)
-one_column Data n v ns ms e = omega (arith, e)
-one_column (Named name) n v ns ms e = omega (arith, e)
-
-pub columns_counted : (cs : List Column) → length cs ≡ length (head_times cs) + length (head_texts cs)
-columns_counted [] = refl
-columns_counted (c ∷ cs) = one_column c.sort (length cs) c.name (head_times cs) (head_texts cs) (columns_counted cs)

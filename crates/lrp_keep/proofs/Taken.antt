@@ -1,6 +1,7 @@
 -- Stores are taken into one, value after value.
 use Rattle.std.proofs.Common.{◌≡◌, ◌<◌, ◌+◌, ◌-◌, ◌^◌, inl, inr, ℕ, zero, suc, List, [], ◌∷◌, length, take, Option, Some, None, refl, sym, ap, subst, ◌∙◌, arith}
 use Rattle.std.specs.Prelude.{ℤ, IsSome, slice_get}
+use Rattle.lrp_cutting.specs.Settling.{IsPlaceOf}
 use Rattle.lrp_holdings.specs.Holdings.{Held, HoldingsView, Holds, held_at}
 use Rattle.lrp_store.specs.Stores.{HasReach, InStore, IsStore, StoreView}
 use Rattle.lrp_tables.specs.Passes.{IsMadeFrom}
@@ -19,13 +20,13 @@ use Rattle.lrp_holdings.proofs.Chained.{none_some, some_is}
 -- ---- one zone
 
 -- a zone in its own cell has its own tuples
-pub same_zone : (piece : Piece) (s : StoreView) → IsZone piece.zone → FitsCell s.shape s.period piece → IsZoneOf (IsMadeFrom StaysSame (InPiece s.shape.texts piece)) s piece.cell piece.zone (reach_of piece.zone)
-same_zone piece s is fits = record {
-  zone = is;
-  period = fits.period_is;
-  residues = fits.residues;
-  texts = fits.cell.texts;
-  times = fits.cell.residues;
+pub same_zone : (piece : Piece) (s : StoreView) → IsPlaceOf s piece.cell piece.zone → IsZoneOf (IsMadeFrom StaysSame (InPiece s.shape.texts piece)) s piece.cell piece.zone (reach_of piece.zone)
+same_zone piece s of = record {
+  zone = of.zone;
+  period = of.period;
+  residues = of.residues;
+  texts = of.texts;
+  times = of.times;
   to = λ xs m. record { old_times = xs; old_texts = take s.shape.texts piece.cell.texts; is = record { member = m; same = refl }; made = record { times_are = refl; texts_are = refl } };
   from = λ xs ns h. (subst (λ ys. IsMember piece.zone ys) (sym h.made.times_are) h.is.member, h.is.same ∙ sym h.made.texts_are);
   low = omega arith;
@@ -33,9 +34,11 @@ same_zone piece s is fits = record {
 
 -- ---- one store
 
--- the zones of a store in one of its shape and period
-pub fits_there : (piece : Piece) (from out : StoreView) → out.shape ≡ from.shape → out.period ≡ from.period → FitsCell from.shape from.period piece → FitsCell out.shape out.period piece
-fits_there piece from out e f h = rw e (rw f h)
+-- the zones of a store have their place in one of its shape and period
+pub fits_there : (piece : Piece) (from out : StoreView) → out.shape ≡ from.shape → out.period ≡ from.period → IsZone piece.zone × FitsCell from.shape from.period piece → IsPlaceOf out piece.cell piece.zone
+fits_there piece from out e f h =
+    let fits : FitsCell out.shape out.period piece = rw e (rw f h.1) in
+    record { zone = h.0; period = fits.period_is; residues = fits.residues; texts = fits.cell.texts; times = fits.cell.residues }
 
 module _ (from start out : StoreView) (p : IsPassing StaysSame (λ high. high) (2 ^ 32 - 1) from start out []) (any : HasReach from (2 ^ 62)) where
   -- with no zone left all tuples were taken

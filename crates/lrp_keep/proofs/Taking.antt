@@ -1,11 +1,11 @@
 -- What calls take that may fail: a value, a slot, the last level.
-use Rattle.std.proofs.Common.{◌≡◌, ◌<◌, ◌≤◌, ◌+◌, ◌-◌, ℕ, [], ◌∷◌, length, Option, inl, Result, Ok, Err, Some, None, refl, sym, subst, ◌∙◌, arith}
+use Rattle.std.proofs.Common.{◌≡◌, ◌<◌, ◌≤◌, ◌+◌, ◌-◌, ℕ, List, [], ◌∷◌, length, Option, inl, Result, Ok, Err, Some, None, refl, sym, ap, subst, ◌∙◌, arith}
 use Rattle.std.specs.Prelude.{IsSome, MatchOption, OnOk, slice_get}
 use Rattle.std.specs.Option.{option_map}
 use Rattle.lrp_holdings.specs.Holdings.{Held, HoldingsView, held_at}
 use Rattle.lrp_store.specs.Stores.{IsStore, StoreView}
 use Rattle.lrp_parts.specs.Derivations.{HoldsIn, Levels}
-use Rattle.lrp_keep.specs.Taken.{AreAlike, HasTaken, HasTakenSome, HasTakenValue, IsLikeStored}
+use Rattle.lrp_keep.specs.Taken.{HasTaken, HasTakenSome, HasTakenValue, IsLikeHeld, IsLikeLast, IsLikeValue}
 use Rattle.lrp_keep.proofs.Taken.{HoldsBelow, all_below, last_level, nothing_taken, one_below, one_taken, skip_below}
 use Rattle.lrp_holdings.proofs.Chained.{none_some, some_is}
 
@@ -25,10 +25,13 @@ held_there : (o : Option (Held (Option StoreView))) (value : Option StoreView) �
 held_there None value e = absurd (none_some value (sym e))
 held_there (Some x) value e = (x, refl, some_is x.value value (sym e))
 
-pub alike_slot : (h : HoldingsView (Option StoreView)) (slot : ℕ) (value : Option StoreView) (out : StoreView) → Some value ≡ option_map (λ x. x.value) (held_at h slot) → AreAlike (h ∷ []) out → IsLikeStored value out
-alike_slot h slot value out e alike =
+pub alike_slot : (h : HoldingsView (Option StoreView)) (slot : ℕ) (value : Option StoreView) (out : StoreView) → Some value ≡ option_map (λ x. x.value) (held_at h slot) → IsLikeHeld (HoldsIn (h ∷ []) 0) out → IsLikeValue value out
+alike_slot h slot value out e like =
     let x = held_there (held_at h slot) value e in
-    subst (λ v. IsLikeStored v out) x.2 (alike x.0.owners x.0.value (h, refl, (slot, x.1)))
+    record {
+      valid = like.valid;
+      each = λ keys store is. like.each x.0.owners store (h, refl, (slot, x.1 ∙ ap (λ v. Some (record { owners = x.0.owners; value = v })) (x.2 ∙ sym is.is)));
+    }
 
 pub taken_slot : {X Y : Type 0} (o : Result X Y) (h : HoldingsView (Option StoreView)) (slot : ℕ) (value : Option StoreView) (old new : StoreView) → Some value ≡ option_map (λ x. x.value) (held_at h slot) → OnOk o (HasTakenValue value old new) → OnOk o (MatchOption (held_at h slot) (new ≡ old) (λ held. HasTakenValue held.value old new))
 taken_slot (Ok y) h slot value old new e t =
@@ -45,8 +48,11 @@ no_slot h slot old e = by (held_at h slot) e
 
 -- ---- slot after slot
 
-pub alike_still : (h : HoldingsView (Option StoreView)) (old now : StoreView) → now.shape ≡ old.shape → now.period ≡ old.period → AreAlike (h ∷ []) old → AreAlike (h ∷ []) now
-alike_still h old now shape period alike keys value held = record { shape = λ s e. shape ∙ (alike keys value held).shape s e; period = λ s e. period ∙ (alike keys value held).period s e }
+pub alike_still : (held : List ℕ → Option StoreView → Type 0) (old now : StoreView) → IsStore now → now.shape ≡ old.shape → now.period ≡ old.period → IsLikeHeld held old → IsLikeHeld held now
+alike_still held old now valid shape period like = record {
+  valid = valid;
+  each = λ keys store is. record { shape = shape ∙ (like.each keys store is).shape; period = period ∙ (like.each keys store is).period };
+}
 
 pub one_slot : (h : HoldingsView (Option StoreView)) (slot : ℕ) (old now new : StoreView) → HasTakenSome (HoldsBelow h slot) old now → MatchOption (held_at h slot) (new ≡ now) (λ held. HasTakenValue held.value now new) → HasTakenSome (HoldsBelow h (slot + 1)) old new
 one_slot h slot old now new t m = by (held_at h slot) refl m
@@ -60,8 +66,8 @@ slots_done h count slots old new le low t = all_below h count old new (λ slot i
 
 -- ---- the last level
 
-pub last_alike : (levels : Levels) (h : HoldingsView (Option StoreView)) (out : StoreView) → Some h ≡ slice_get levels (length levels - 1) → AreAlike levels out → AreAlike (h ∷ []) out
-last_alike levels h out at alike keys value held = alike keys value (held.0, sym at ∙ held.1, held.2)
+pub last_alike : (levels : Levels) (h : HoldingsView (Option StoreView)) (out : StoreView) → Some h ≡ slice_get levels (length levels - 1) → IsLikeLast levels out → IsLikeHeld (HoldsIn (h ∷ []) 0) out
+last_alike levels h out at like = record { valid = like.valid; each = λ keys store held. like.each keys store (held.0, sym at ∙ held.1, held.2) }
 
 pub last_taken : {X Y : Type 0} (o : Result X Y) (levels : Levels) (h : HoldingsView (Option StoreView)) (old new : StoreView) → Some h ≡ slice_get levels (length levels - 1) → OnOk o (HasTakenSome (HoldsIn (h ∷ []) 0) old new) → OnOk o (HasTakenSome (HoldsIn levels (length levels - 1)) old new)
 last_taken (Ok x) levels h old new at t = last_level levels h old new (sym at) t

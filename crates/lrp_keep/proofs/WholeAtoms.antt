@@ -1,61 +1,30 @@
 -- The last atom of a disjunct in kept form: its tests are all, and its texts are of the atoms' terms.
-use Rattle.std.proofs.Common.{◌≡◌, ◌≤◌, ◌<◌, ◌-◌, ℕ, suc, Bool, true, false, not, List, [], ◌∷◌, ◌++◌, length, get_or, flat_map, Contains, Option, Some, None, ◌⊎◌, inl, inr, refl, sym, ap, subst, ◌∙◌, bytes_eq, length-append, arith}
-use Rattle.std.specs.Prelude.{◌&&◌, ◌||◌, filter, slice_get}
-use Rattle.std.specs.List.{AllZip, list_all, list_any}
-use Rattle.std.proofs.lemmas.Bool.{false≢true}
+use Rattle.std.proofs.Common.{◌≡◌, ◌≤◌, ◌<◌, ◌-◌, ℕ, suc, true, false, not, List, [], ◌∷◌, ◌++◌, length, get_or, flat_map, Contains, Option, Some, None, inl, inr, refl, sym, ap, subst, ◌∙◌, length-append, arith}
+use Rattle.std.specs.Prelude.{◌&&◌, filter, slice_get}
+use Rattle.std.specs.List.{AllZip}
+use Rattle.std.proofs.lemmas.Bool.{and_parts, false≢true, or_cases}
 use Rattle.std.proofs.lemmas.Option.{slice_get_within, slice_get-get_or}
 use Rattle.lrp_model.specs.Formulas.{Form, Forms, atom, test, sorted, negation, conjunction, disjunction, implication, exists, forall, no_forms, form}
 use Rattle.lrp_model.specs.Texts.{Identifier}
-use Rattle.lrp_model.specs.Variables.{Variable, time_variable, data_variable, is_among, variables_of_data, variables_of_term, variables_of_test, variables_of_time}
-use Rattle.lrp_model.specs.declared.formulas.DataTerm.{DataTerm}
-use Rattle.lrp_model.specs.declared.formulas.DataTerm.TheVariants.{Var as data_var, Const as data_const}
-use Rattle.lrp_model.specs.declared.formulas.TimeTerm.{TimeTerm}
-use Rattle.lrp_model.specs.declared.formulas.TimeTerm.TheVariants.{Var as time_var, Int as time_int}
+use Rattle.lrp_model.specs.Variables.{Variable, time_variable, data_variable, is_among, variables_of_term, variables_of_test}
 use Rattle.lrp_model.specs.declared.formulas.Term.{Term}
-use Rattle.lrp_model.specs.declared.formulas.Term.TheVariants.{Time as time_term, Data as data_term}
 use Rattle.lrp_model.specs.declared.formulas.Test.{Test}
-use Rattle.lrp_model.specs.declared.formulas.Test.TheVariants.{Compare, Member, Equal}
-use Rattle.lrp_model.proofs.Decided.{cons_cases, contains_first, contains_later, contains_none}
+use Rattle.lrp_model.proofs.Decided.{cons_cases, contains_first, contains_none}
 use Rattle.lrp_plan_laws.specs.Atoms.{Atom, atoms, atoms_each}
 use Rattle.lrp_plan_laws.proofs.Members.{in_left, in_right}
-use Rattle.lrp_plan_laws.proofs.SortedNames.{same_name}
-use Rattle.lrp_tables.specs.Columns.{names_of_data, names_of_time, texts_of_term, times_of_term}
-use Rattle.lrp_tables.proofs.Joining.{found_in}
+use Rattle.lrp_tables.specs.Columns.{texts_of_term, times_of_term}
 use Rattle.lrp_kept.specs.Choices.{tests_among}
 use Rattle.lrp_parts.specs.Derivations.{last_atom, atom_tests, atom_texts}
 use Rattle.lrp_kept.specs.Disjuncts.{IsAtomOf, IsDisjunctOf, is_test_covered}
 use Rattle.lrp_kept.specs.KeptForm.{all_occur, all_pass, kept_elements, is_atom, is_atom_with, is_conjunctive, is_neither, some_passes, tested_variables}
 use Rattle.lrp_kept.specs.declared.disjuncts.Disjunct.{Disjunct}
 use Rattle.lrp_kept.specs.declared.disjuncts.JoinedAtom.{JoinedAtom}
-use Rattle.lrp_parts.proofs.Behind.{both_true, each_true, in_kept, kept_test, own_tests, own_texts, own_times, rises, some_terms}
+use Rattle.lrp_parts.proofs.Behind.{in_kept, kept_test, own_tests, own_texts, own_times, rises, some_terms}
 use Rattle.lrp_kept.proofs.DisjunctAtoms.{atoms_are}
+use Rattle.lrp_kept.proofs.PartVariables.{all_covered, text_among, time_among}
 use Rattle.lrp_keep.proofs.KeptAnswers.{IsWholeAt, zip_at}
 
 -- ---- variables in atoms
-
-or_cases : (a b : Bool) → (a || b) ≡ true → (a ≡ true) ⊎ (b ≡ true)
-or_cases true b e = inl refl
-or_cases false b e = inr e
-
-time_among : (ts : List Term) (v : Identifier) → is_among (flat_map variables_of_term ts) (time_variable v) ≡ true → Contains (flat_map times_of_term ts) v
-time_among [] v e = absurd (false≢true e)
-time_among (data_term (data_var w) ∷ ts) v e = time_among ts v e
-time_among (data_term (data_const t) ∷ ts) v e = time_among ts v e
-time_among (time_term (time_int x) ∷ ts) v e = time_among ts v e
-time_among (time_term (time_var w plus) ∷ ts) v e = elim (or_cases (bytes_eq v w) (is_among (flat_map variables_of_term ts) (time_variable v)) e) [
-  | inl s ↦ subst (λ x. Contains (x ∷ flat_map times_of_term ts) v) (same_name v w s) (contains_first v (flat_map times_of_term ts))
-  | inr k ↦ contains_later w v (flat_map times_of_term ts) (time_among ts v k)
-]
-
-text_among : (ts : List Term) (v : Identifier) → is_among (flat_map variables_of_term ts) (data_variable v) ≡ true → Contains (flat_map texts_of_term ts) v
-text_among [] v e = absurd (false≢true e)
-text_among (time_term (time_var w plus) ∷ ts) v e = text_among ts v e
-text_among (time_term (time_int x) ∷ ts) v e = text_among ts v e
-text_among (data_term (data_const t) ∷ ts) v e = text_among ts v e
-text_among (data_term (data_var w) ∷ ts) v e = elim (or_cases (bytes_eq v w) (is_among (flat_map variables_of_term ts) (data_variable v)) e) [
-  | inl s ↦ subst (λ x. Contains (x ∷ flat_map texts_of_term ts) v) (same_name v w s) (contains_first v (flat_map texts_of_term ts))
-  | inr k ↦ contains_later w v (flat_map texts_of_term ts) (text_among ts v k)
-]
 
 -- a variable that occurs in an atom among formulas is a name of one of their atoms
 module _ (variable : Identifier → Variable) (names : Term → List Identifier) (among : (ts : List Term) (v : Identifier) → is_among (flat_map variables_of_term ts) (variable v) ≡ true → Contains (flat_map names ts) v) where
@@ -99,7 +68,7 @@ some_atom (form (forall v s f) fs) e = let r = some_atom fs e in let l = length-
 test_occurs : (fs gs : Forms) (t : Test) → all_pass (λ g. all_occur fs (tested_variables g)) gs ≡ true → Contains (tests_among gs) t → all_occur fs (variables_of_test t) ≡ true
 test_occurs fs no_forms t e c = absurd (contains_none t c)
 test_occurs fs (form (test u) gs) t e c =
-    let r = each_true (all_occur fs (variables_of_test u)) (all_pass (λ g. all_occur fs (tested_variables g)) gs) e in
+    let r = and_parts (all_occur fs (variables_of_test u)) (all_pass (λ g. all_occur fs (tested_variables g)) gs) e in
     elim (cons_cases u t (tests_among gs) c) [ inl s ↦ subst (λ x. all_occur fs (variables_of_test x) ≡ true) s r.0 | inr d ↦ test_occurs fs gs t r.1 d ]
 test_occurs fs (form (atom name terms) gs) t e c = test_occurs fs gs t e c
 test_occurs fs (form (sorted s v) gs) t e c = test_occurs fs gs t e c
@@ -109,36 +78,6 @@ test_occurs fs (form (disjunction hs) gs) t e c = test_occurs fs gs t e c
 test_occurs fs (form (implication f g) gs) t e c = test_occurs fs gs t e c
 test_occurs fs (form (exists v s f) gs) t e c = test_occurs fs gs t e c
 test_occurs fs (form (forall v s f) gs) t e c = test_occurs fs gs t e c
-
-all_both : {X : Type 0} (p : X → Bool) (xs ys : List X) → list_all p (xs ++ ys) ≡ true → (list_all p xs ≡ true) × (list_all p ys ≡ true)
-all_both p [] ys e = (refl, e)
-all_both p (x ∷ xs) ys e =
-    let r = each_true (p x) (list_all p (xs ++ ys)) e in
-    let s = all_both p xs ys r.1 in
-    (both_true (p x) (list_all p xs) r.0 s.0, s.1)
-
-all_joined : {X : Type 0} (p : X → Bool) (xs ys : List X) → list_all p xs ≡ true → list_all p ys ≡ true → list_all p (xs ++ ys) ≡ true
-all_joined p [] ys e f = f
-all_joined p (x ∷ xs) ys e f = let r = each_true (p x) (list_all p xs) e in both_true (p x) (list_all p (xs ++ ys)) r.0 (all_joined p xs ys r.1 f)
-
--- a test whose variables occur is covered by the names that occur
-module _ (fs : Forms) (ts xs : List Identifier) (times : (v : Identifier) → some_passes (is_atom_with (time_variable v)) fs ≡ true → Contains ts v) (texts : (v : Identifier) → some_passes (is_atom_with (data_variable v)) fs ≡ true → Contains xs v) where
-  time_covered : (t : TimeTerm) → all_occur fs (variables_of_time t) ≡ true → list_all (λ v. list_any (bytes_eq v) ts) (names_of_time t) ≡ true
-  time_covered (time_int x) e = refl
-  time_covered (time_var v plus) e = both_true (list_any (bytes_eq v) ts) true (found_in v ts (times v (each_true (some_passes (is_atom_with (time_variable v)) fs) true e).0)) refl
-
-  text_covered : (t : DataTerm) → all_occur fs (variables_of_data t) ≡ true → list_all (λ v. list_any (bytes_eq v) xs) (names_of_data t) ≡ true
-  text_covered (data_const t) e = refl
-  text_covered (data_var v) e = both_true (list_any (bytes_eq v) xs) true (found_in v xs (texts v (each_true (some_passes (is_atom_with (data_variable v)) fs) true e).0)) refl
-
-  is_all_covered : (t : Test) → all_occur fs (variables_of_test t) ≡ true → is_test_covered ts xs t ≡ true
-  is_all_covered (Compare left op right) e =
-      let r = all_both (λ v. some_passes (is_atom_with v) fs) (variables_of_time left) (variables_of_time right) e in
-      both_true (list_all (λ v. list_any (bytes_eq v) ts) (names_of_time left ++ names_of_time right)) true (all_joined (λ v. list_any (bytes_eq v) ts) (names_of_time left) (names_of_time right) (time_covered left r.0) (time_covered right r.1)) refl
-  is_all_covered (Member term point) e = both_true (list_all (λ v. list_any (bytes_eq v) ts) (names_of_time term)) true (time_covered term e) refl
-  is_all_covered (Equal left right) e =
-      let r = all_both (λ v. some_passes (is_atom_with v) fs) (variables_of_data left) (variables_of_data right) e in
-      all_joined (λ v. list_any (bytes_eq v) xs) (names_of_data left) (names_of_data right) (text_covered left r.0) (text_covered right r.1)
 
 -- ---- the last atom
 
@@ -158,10 +97,10 @@ zip_length R (z ∷ xs) (w ∷ ys) h = ap suc (zip_length R xs ys h.1)
 
 module _ (names : List Identifier) (f : Form) (d : Disjunct) (is : IsDisjunctOf names f d) (kept : is_conjunctive (kept_elements f) ≡ true) where
   tested_too : (not (some_passes is_neither (kept_elements f)) && some_passes is_atom (kept_elements f) ≡ true) × (all_pass (λ g. all_occur (kept_elements f) (tested_variables g)) (kept_elements f) ≡ true)
-  tested_too = each_true (not (some_passes is_neither (kept_elements f)) && some_passes is_atom (kept_elements f)) (all_pass (λ g. all_occur (kept_elements f) (tested_variables g)) (kept_elements f)) kept
+  tested_too = and_parts (not (some_passes is_neither (kept_elements f)) && some_passes is_atom (kept_elements f)) (all_pass (λ g. all_occur (kept_elements f) (tested_variables g)) (kept_elements f)) kept
 
   has_atom : some_passes is_atom (kept_elements f) ≡ true
-  has_atom = (each_true (not (some_passes is_neither (kept_elements f))) (some_passes is_atom (kept_elements f)) tested_too.0).1
+  has_atom = (and_parts (not (some_passes is_neither (kept_elements f))) (some_passes is_atom (kept_elements f)) tested_too.0).1
 
   all_tested : all_pass (λ g. all_occur (kept_elements f) (tested_variables g)) (kept_elements f) ≡ true
   all_tested = tested_too.1
@@ -202,7 +141,7 @@ module _ (names : List Identifier) (f : Form) (d : Disjunct) (is : IsDisjunctOf 
     tested : (t : Test) → Contains d.tests t → Contains last.tests t
     tested t c =
         let occurs = test_occurs (kept_elements f) (kept_elements f) t all_tested (subst (λ ts. Contains ts t) is.tests_are c) in
-        subst (λ ts. Contains ts t) (sym last_tests) (kept_test (is_test_covered last.vars.times last.vars.texts) d.tests t c (is_all_covered (kept_elements f) last.vars.times last.vars.texts time_known text_known t occurs))
+        subst (λ ts. Contains ts t) (sym last_tests) (kept_test (is_test_covered last.vars.times last.vars.texts) d.tests t c (all_covered (λ v. some_passes (is_atom_with v) (kept_elements f)) last.vars.times last.vars.texts time_known text_known t occurs))
 
     whole_at : IsWholeAt d
     whole_at = record {

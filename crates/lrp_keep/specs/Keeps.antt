@@ -152,11 +152,6 @@ pub record CanBeKept (q : Question) (db : List Relation) (domain : List Text) : 
   pub known : AllByRecursion (Contains domain) (constants db q)
   pub rows : AllByRecursion (λ r. AllByRecursion (CanBeHeld domain r.columns) r.rows) db
 
--- what each keeper keeps: the same of the rows now held, and the limits
-pub record IsKeep (k : KeepView) : Type 0 where
-  pub can : CanBeKept (question_of k.query) k.relations k.domain
-  pub limits : StaysWithinLimits k
-
 -- the relation is one of the keeper's, and the row can be held in it
 pub record CanBeAdded (k : KeepView) (name : Identifier) (row : Row) : Type 0 where
   pub relation : Relation

@@ -1,5 +1,6 @@
 -- The tuples of stores, taken into one.
 use Rattle.std.specs.Prelude.{◌≡◌, ◌⊎◌, ◌-◌, ◌^◌, ℕ, ℤ, List, length, MatchOption, Option, Some}
+use Rattle.lrp_cutting.specs.Settling.{IsLike}
 use Rattle.lrp_holdings.specs.Holdings.{HoldingsView, held_at}
 use Rattle.lrp_zone.specs.Zones.{reach_of}
 use Rattle.lrp_tables.specs.Passes.{IsMadeFrom}
@@ -61,11 +62,14 @@ HasTakenSlot h slot old new = MatchOption (held_at h slot) (new ≡ old) (λ hel
 abbrev pub HasTakenPiece : Piece → StoreView → StoreView → Type 0
 HasTakenPiece piece old new = IsAdded (IsMadeFrom StaysSame (InPiece old.shape.texts piece)) (2 ^ 32 - 1) (reach_of piece.zone) old new
 
--- a store has the shape and the period of another one
-pub record IsLikeStored (value : Option StoreView) (s : StoreView) : Type 0 where
-  pub shape : (store : StoreView) → value ≡ Some store → s.shape ≡ store.shape
-  pub period : (store : StoreView) → value ≡ Some store → s.period ≡ store.period
+-- a store with the shape and the period of each value that is held
+pub record IsLikeHeld (held : List ℕ → Option StoreView → Type 0) (s : StoreView) : Type 0 where
+  pub valid : IsStore s
+  pub each : (keys : List ℕ) (store : StoreView) → held keys (Some store) → IsLike store s
 
--- each of those that the last level holds has
-abbrev pub AreAlike : Levels → StoreView → Type 0
-AreAlike levels s = (keys : List ℕ) (value : Option StoreView) → HoldsIn levels (length levels - 1) keys value → IsLikeStored value s
+-- with those of one value, and of each that the last level holds
+abbrev pub IsLikeValue : Option StoreView → StoreView → Type 0
+IsLikeValue value s = IsLikeHeld (IsValue value) s
+
+abbrev pub IsLikeLast : Levels → StoreView → Type 0
+IsLikeLast levels s = IsLikeHeld (HoldsIn levels (length levels - 1)) s

@@ -73,7 +73,6 @@ impl<'a> Keep<'a> {
             (opened query.now database.now domain.now cap)) }
         ensures fault { IfErr result (IsPastLimit (opened query.now database.now domain.now cap)) }
     {
-        database.relations();
         domain.len();
         let rows = HeldRows::of(alloc, database)?;
         let of = KeptQuery::of(alloc, query, domain, cap, &rows)?;

@@ -227,7 +227,6 @@ impl State {
         let vars = head_vars(of.alloc, &of.query.head)?;
         let period = self.period.number as i64;
         let mut store = store_over(of.alloc, &vars, period);
-        store.shape();
         for derived in &self.derived {
             add_derived(derived, &mut store)?;
         }

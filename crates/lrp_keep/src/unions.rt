@@ -1,8 +1,9 @@
 // The answers of all choices in one store.
 ghost use Rattle.std.specs.Prelude.{◌≡◌, ◌-◌, ◌^◌, ◌∷◌, [], OnOk};
-ghost use Rattle.lrp_tables.specs.Pieces.{FitsCell};
+ghost use Rattle.lrp_cutting.specs.Settling.{IsLike, IsPlaceOf};
 ghost use Rattle.lrp_parts.specs.Derivations.{HoldsIn};
-ghost use Rattle.lrp_keep.specs.Taken.{AreAlike, HasTaken, HasTakenLast, HasTakenPiece, HasTakenSlot, HasTakenSome, HasTakenValue, IsLikeStored};
+ghost use Rattle.lrp_store.specs.Stores.{IsStore};
+ghost use Rattle.lrp_keep.specs.Taken.{HasTaken, HasTakenLast, HasTakenPiece, HasTakenSlot, HasTakenSome, HasTakenValue, IsLikeHeld, IsLikeLast, IsLikeValue};
 
 use lrp_holdings::Holdings;
 use lrp_model::Memory;
@@ -13,10 +14,9 @@ use lrp_tables::Piece;
 
 /// Adds the answers of each whole choice of a disjunct.
 pub(crate) fn add_derived(derived: &Derived, out: &mut Store) -> Result<(), Memory>
-    requires { AreAlike derived.now.levels.items out.old }
+    requires { IsLikeLast derived.now.levels.items out.old }
     ensures { OnOk result (HasTakenLast derived.now.levels.items out.old out.new) }
 {
-    out.shape();
     match derived.choices() {
         Some(choices) => add_choices(choices, out),
         None => Ok(()),
@@ -24,10 +24,9 @@ pub(crate) fn add_derived(derived: &Derived, out: &mut Store) -> Result<(), Memo
 }
 
 fn add_choices(choices: &Holdings<Option<PackedStore>>, out: &mut Store) -> Result<(), Memory>
-    requires { AreAlike (choices.now ∷ []) out.old }
+    requires { IsLikeHeld (HoldsIn (choices.now ∷ []) 0) out.old }
     ensures { OnOk result (HasTakenSome (HoldsIn (choices.now ∷ []) 0) out.old out.new) }
 {
-    out.shape();
     for slot in 0..choices.slots() {
         add_slot(choices, slot, out)?;
     }
@@ -40,7 +39,7 @@ fn add_slot(
     slot: usize,
     out: &mut Store,
 ) -> Result<(), Memory>
-    requires { AreAlike (choices.now ∷ []) out.old }
+    requires { IsLikeHeld (HoldsIn (choices.now ∷ []) 0) out.old }
     ensures { OnOk result (HasTakenSlot choices.now slot out.old out.new) }
 {
     match choices.value(slot) {
@@ -50,10 +49,9 @@ fn add_slot(
 }
 
 fn add_answers(answers: &Option<PackedStore>, out: &mut Store) -> Result<(), Memory>
-    requires { IsLikeStored answers.now out.old }
+    requires { IsLikeValue answers.now out.old }
     ensures { OnOk result (HasTakenValue answers.now out.old out.new) }
 {
-    out.shape();
     match answers {
         Some(store) => add_all(store, out),
         None => Ok(()),
@@ -62,11 +60,10 @@ fn add_answers(answers: &Option<PackedStore>, out: &mut Store) -> Result<(), Mem
 
 // Adds the tuples of a store to another one of its period and shape.
 fn add_all(from: &PackedStore, out: &mut Store) -> Result<(), Memory>
-    requires shape { out.old.shape ≡ from.now.shape }
-    requires period { out.old.period ≡ from.now.period }
+    requires valid { IsStore out.old }
+    requires like { IsLike from.now out.old }
     ensures { OnOk result (HasTaken from.now out.old out.new) }
 {
-    out.shape();
     for piece in from.pieces() {
         match add_piece(&piece, out) {
             Ok(()) => {}
@@ -80,10 +77,9 @@ fn add_all(from: &PackedStore, out: &mut Store) -> Result<(), Memory>
 
 // Adds the tuples of a zone. Many choices may have one and the same zone, which is added once where it comes at once.
 fn add_piece(piece: &Piece, out: &mut Store) -> Result<(), StoreFault>
-    requires { FitsCell out.old.shape out.old.period piece.now }
+    requires valid { IsStore out.old }
+    requires place { IsPlaceOf out.old piece.now.cell piece.now.zone }
     ensures { OnOk result (HasTakenPiece piece.now out.old out.new) }
 {
-    out.shape();
-    piece.zone.columns();
     out.add_new(&piece.cell, &piece.zone, u32::MAX)
 }

@@ -1,27 +1,24 @@
 -- The atoms of a disjunct: rows that match them give each text variable a text of its binder's sort.
-use Rattle.std.proofs.Common.{◌≡◌, ◌≢◌, ◌<◌, Bool, true, false, List, [], ◌∷◌, ◌++◌, flat_map, Contains, Option, Some, None, ◌⊎◌, inl, inr, refl, sym, ap, subst, ◌∙◌, bytes_eq, append-nil, arith}
-use Rattle.std.specs.Prelude.{◌||◌, MatchOption}
+use Rattle.std.proofs.Common.{◌≡◌, ◌≢◌, ◌<◌, true, false, List, [], ◌∷◌, ◌++◌, flat_map, Contains, Option, Some, None, inl, inr, refl, sym, ap, subst, ◌∙◌, append-nil, arith}
+use Rattle.std.specs.Prelude.{MatchOption}
 use Rattle.std.specs.List.{AllByRecursion, AllZip}
+use Rattle.std.proofs.lemmas.Bool.{or_cases}
 use Rattle.lrp_model.specs.Domains.{database_texts}
 use Rattle.lrp_model.specs.Formulas.{Form, Forms, atom, test, sorted, negation, conjunction, disjunction, implication, exists, forall, no_forms, form}
 use Rattle.lrp_model.specs.Rows.{relation_named, rows_in, rows_of}
 use Rattle.lrp_model.specs.Satisfaction.{Assignment}
 use Rattle.lrp_model.specs.Texts.{Identifier}
 use Rattle.lrp_model.specs.Variables.{data_variable, is_among, variables_of_term}
-use Rattle.lrp_model.specs.declared.formulas.DataTerm.TheVariants.{Var as data_var, Const as data_const}
-use Rattle.lrp_model.specs.declared.formulas.TimeTerm.TheVariants.{Var as time_var, Int as time_int}
-use Rattle.lrp_model.specs.declared.formulas.Term.{Term}
-use Rattle.lrp_model.specs.declared.formulas.Term.TheVariants.{Time as time_term, Data as data_term}
 use Rattle.lrp_model.specs.declared.relations.Column.{Column}
 use Rattle.lrp_model.specs.declared.relations.Relation.{Relation}
 use Rattle.lrp_model.specs.declared.relations.Row.{Row}
 use Rattle.lrp_model.proofs.Decided.{cons_cases, contains_first, contains_later}
 use Rattle.lrp_plan_laws.specs.Atoms.{Atom, atoms, atoms_each}
-use Rattle.lrp_plan_laws.proofs.SortedNames.{same_name}
 use Rattle.lrp_tables.specs.Columns.{texts_of_term}
 use Rattle.lrp_kept.specs.Choices.{Matches}
 use Rattle.lrp_kept.specs.KeptForm.{kept_elements, is_atom_with, is_neither, some_passes}
 use Rattle.lrp_kept.specs.SortedForms.{AreSortedForms, IsSortedAtom, IsSortedForm, binders_at}
+use Rattle.lrp_kept.proofs.PartVariables.{text_among}
 use Rattle.lrp_kept.proofs.MatchedTexts.{in_database, named_listed, text_in_row}
 
 -- ---- elements
@@ -99,28 +96,13 @@ own_names_at (forall v s f) db bs h own = own
 
 -- ---- occurrences
 
-pub or_cases : (a b : Bool) → (a || b) ≡ true → (a ≡ true) ⊎ (b ≡ true)
-or_cases true b e = inl refl
-or_cases false b e = inr e
-
--- a text variable among those of terms is a name of theirs
-name_among : (ts : List Term) (v : Identifier) → is_among (flat_map variables_of_term ts) (data_variable v) ≡ true → Contains (flat_map texts_of_term ts) v
-name_among [] v e = cc
-name_among (time_term (time_var w plus) ∷ ts) v e = name_among ts v e
-name_among (time_term (time_int x) ∷ ts) v e = name_among ts v e
-name_among (data_term (data_const t) ∷ ts) v e = name_among ts v e
-name_among (data_term (data_var w) ∷ ts) v e = elim (or_cases (bytes_eq v w) (is_among (flat_map variables_of_term ts) (data_variable v)) e) [
-  | inl s ↦ subst (λ x. Contains (x ∷ flat_map texts_of_term ts) v) (same_name v w s) (contains_first v (flat_map texts_of_term ts))
-  | inr k ↦ contains_later w v (flat_map texts_of_term ts) (name_among ts v k)
-]
-
 -- a text variable that occurs in an atom among formulas
 atom_with : (fs : Forms) (v : Identifier) → some_passes is_neither fs ≡ false → some_passes (is_atom_with (data_variable v)) fs ≡ true → (a : Atom) × Contains (atoms_each fs) a × Contains (flat_map texts_of_term a.terms) v
 atom_with no_forms v n e = cc
 atom_with (form (atom name terms) fs) v n e =
     let a : Atom = record { name = name; terms = terms } in
     elim (or_cases (is_among (flat_map variables_of_term terms) (data_variable v)) (some_passes (is_atom_with (data_variable v)) fs) e) [
-      | inl s ↦ (a, contains_first a (atoms_each fs), name_among terms v s)
+      | inl s ↦ (a, contains_first a (atoms_each fs), text_among terms v s)
       | inr k ↦ let r = atom_with fs v n k in (r.0, contains_later a r.0 (atoms_each fs) r.1, r.2)
     ]
 atom_with (form (test t) fs) v n e = atom_with fs v n e

@@ -4,7 +4,7 @@ ghost use Rattle.lrp_theory.specs.Entries.{node};
 ghost use Rattle.lrp_tables.specs.Columns.{times_of_term, texts_of_term};
 ghost use Rattle.lrp_tables.specs.Tables.{AreNamesAmong};
 ghost use Rattle.lrp_algebra.specs.Rows.{CanBeRead};
-ghost use Rattle.lrp_zone.specs.Zones.{columns_of, IsMember};
+ghost use Rattle.lrp_zone.specs.Zones.{columns_of, IsMember, IsZone};
 ghost use Rattle.lrp_kept.specs.Outlines.{AreFirstKnown, AreNarrowed, IsFull, IsInOutline, IsOutlineFor, IsOutlineOf};
 ghost use Rattle.lrp_kept.specs.Spans.{IsAtLeast, IsAtMost, IsInSpan, IsOfPoint};
 
@@ -120,10 +120,10 @@ fn narrow(times: &mut [ColumnSpan; 8], placed: &Placed, count: usize)
 fn narrow_at(times: &mut [ColumnSpan; 8], placed: &Placed, i: usize, count: usize)
     requires size { length times.old ≡ 8 }
     requires few { count ≤ 8 }
+    requires zone { IsZone placed.now.zone }
     requires column { i < columns_of placed.now.zone }
     ensures { AreNarrowed times.old placed.now count times.new }
 {
-    placed.zone.columns();
     let place = placed.places[i];
     if place == 0 || place > count {
         return;

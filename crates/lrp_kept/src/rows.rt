@@ -1,6 +1,7 @@
 // The rows that are held.
 ghost use Rattle.std.specs.Prelude.{◌≡◌, ◌↔◌, ◌<◌, false, [], ◌∷◌, ◌++◌, length, Contains, slice_get, Some, IfSome, IfNone, IfOk, IsTrue, OnErr, OnOk, MatchOption};
 ghost use Rattle.slab.specs.Slab.{get};
+ghost use Rattle.lrp_model.specs.Kept.{AreKept};
 ghost use Rattle.lrp_kept.specs.Keys.{IsSketchOf, keys_at, keys_of};
 ghost use Rattle.lrp_kept.specs.EqualRows.{AreEqualRows};
 ghost use Rattle.lrp_kept.specs.Held.{names_of};
@@ -81,7 +82,10 @@ impl Drop for HeldRows {
 impl HeldRows {
     /// The relations of a database, of which no row is held yet.
     pub fn of(alloc: Global, database: &Database) -> Result<HeldRows, Memory>
-        ensures { IfOk result (IsEmptyOf database.now) }
+        ensures empty { IfOk result (IsEmptyOf database.now) }
+
+        // A caller learns here what each database keeps.
+        ensures kept { AreKept database.now }
     {
         let mut relations = Vec::new(alloc);
         for i in 0..database.relations() {

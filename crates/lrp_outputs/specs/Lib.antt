@@ -10,8 +10,8 @@ pub mod Statuses
 pub mod Spots
 pub mod SmallAnswers
 pub mod Outputs
--- What functions inside say to one another.
 pub mod Known
+-- What functions inside say to one another.
 pub mod Rooms
 pub mod Refusals
 pub mod Carried

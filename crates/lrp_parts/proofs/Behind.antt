@@ -1,8 +1,8 @@
 -- The variables and the tests of a disjunct's atoms, each atom behind the others.
 use Rattle.std.proofs.Common.{◌≡◌, ◌≤◌, ◌<◌, ℕ, zero, suc, max, Bool, true, false, cond, List, [], ◌∷◌, ◌++◌, flat_map, Contains, Some, ◌⊎◌, inl, inr, refl, sym, ap, subst, ◌∙◌, bytes_eq, append_assoc, append-nil, arith}
-use Rattle.std.specs.Prelude.{◌&&◌, ◌||◌, filter, slice_get}
+use Rattle.std.specs.Prelude.{◌||◌, filter, slice_get}
 use Rattle.std.specs.List.{list_all, list_any}
-use Rattle.std.proofs.lemmas.Bool.{false≢true}
+use Rattle.std.proofs.lemmas.Bool.{and_from, and_parts, false≢true}
 use Rattle.std.proofs.lemmas.Option.{slice_get_within}
 use Rattle.lrp_model.specs.Reach.{test_reach}
 use Rattle.lrp_model.specs.Texts.{Identifier}
@@ -58,25 +58,16 @@ any_more : (v : Identifier) (ns more : List Identifier) → list_any (bytes_eq v
 any_more v [] more e = absurd (false≢true e)
 any_more v (n ∷ ns) more e = any_by (bytes_eq v n) (list_any (bytes_eq v) ns) (list_any (bytes_eq v) (ns ++ more)) e (λ f. any_more v ns more f)
 
-pub both_true : (a b : Bool) → a ≡ true → b ≡ true → (a && b) ≡ true
-both_true true true e f = refl
-both_true true false e f = absurd (false≢true f)
-both_true false b e f = absurd (false≢true e)
-
-pub each_true : (a b : Bool) → (a && b) ≡ true → (a ≡ true) × (b ≡ true)
-each_true true b e = (refl, e)
-each_true false b e = absurd (false≢true e)
-
 all_more : (ns more vs : List Identifier) → list_all (λ v. list_any (bytes_eq v) ns) vs ≡ true → list_all (λ v. list_any (bytes_eq v) (ns ++ more)) vs ≡ true
 all_more ns more [] e = refl
 all_more ns more (v ∷ vs) e =
-    let r = each_true (list_any (bytes_eq v) ns) (list_all (λ v. list_any (bytes_eq v) ns) vs) e in
-    both_true (list_any (bytes_eq v) (ns ++ more)) (list_all (λ v. list_any (bytes_eq v) (ns ++ more)) vs) (any_more v ns more r.0) (all_more ns more vs r.1)
+    let r = and_parts (list_any (bytes_eq v) ns) (list_all (λ v. list_any (bytes_eq v) ns) vs) e in
+    and_from (list_any (bytes_eq v) (ns ++ more)) (list_all (λ v. list_any (bytes_eq v) (ns ++ more)) vs) (any_more v ns more r.0) (all_more ns more vs r.1)
 
 pub covered_more : (ts more xs further : List Identifier) (t : Test) → is_test_covered ts xs t ≡ true → is_test_covered (ts ++ more) (xs ++ further) t ≡ true
 covered_more ts more xs further t e =
-    let r = each_true (list_all (λ v. list_any (bytes_eq v) ts) (times_of_test t)) (list_all (λ v. list_any (bytes_eq v) xs) (texts_of_test t)) e in
-    both_true (list_all (λ v. list_any (bytes_eq v) (ts ++ more)) (times_of_test t)) (list_all (λ v. list_any (bytes_eq v) (xs ++ further)) (texts_of_test t)) (all_more ts more (times_of_test t) r.0) (all_more xs further (texts_of_test t) r.1)
+    let r = and_parts (list_all (λ v. list_any (bytes_eq v) ts) (times_of_test t)) (list_all (λ v. list_any (bytes_eq v) xs) (texts_of_test t)) e in
+    and_from (list_all (λ v. list_any (bytes_eq v) (ts ++ more)) (times_of_test t)) (list_all (λ v. list_any (bytes_eq v) (xs ++ further)) (texts_of_test t)) (all_more ts more (times_of_test t) r.0) (all_more xs further (texts_of_test t) r.1)
 
 -- ---- atoms behind variables
 

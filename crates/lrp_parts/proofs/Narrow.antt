@@ -1,8 +1,8 @@
 -- The variables of a disjunct's atoms: they are few, no two are of one name, and each is of the head or bound.
 use Rattle.std.proofs.Common.{◌≡◌, ◌≢◌, ◌≤◌, ◌<◌, ℕ, zero, suc, Bool, true, false, not, cond, List, [], ◌∷◌, ◌++◌, length, flat_map, filter, Contains, Some, ◌⊎◌, inl, inr, refl, sym, ap, subst, ◌∙◌, bytes_eq, append-nil, arith}
-use Rattle.std.specs.Prelude.{◌||◌, pos, ◌≤ℤ◌, AllPairs, slice_get}
+use Rattle.std.specs.Prelude.{pos, ◌≤ℤ◌, AllPairs, slice_get}
 use Rattle.std.specs.List.{AllZip, list_all, list_any}
-use Rattle.std.proofs.lemmas.Bool.{false≢true}
+use Rattle.std.proofs.lemmas.Bool.{and_parts, false≢true}
 use Rattle.std.proofs.lemmas.Option.{slice_get_within}
 use Rattle.lrp_theory.specs.Divides.{Divides}
 use Rattle.lrp_model.specs.Formulas.{Form, Forms, atom, test, sorted, negation, conjunction, disjunction, implication, exists, forall, no_forms, form}
@@ -30,9 +30,9 @@ use Rattle.lrp_kept.specs.Disjuncts.{AreJoined, IsAtomOf, IsDisjunctOf, bound_co
 use Rattle.lrp_kept.specs.KeptForm.{bound_variables, kept_elements, is_neither, some_passes}
 use Rattle.lrp_kept.specs.declared.disjuncts.Disjunct.{Disjunct}
 use Rattle.lrp_kept.specs.declared.disjuncts.JoinedAtom.{JoinedAtom}
-use Rattle.lrp_parts.proofs.Behind.{each_true, in_kept, own_tests, own_texts, own_times, some_terms}
+use Rattle.lrp_parts.proofs.Behind.{in_kept, own_tests, own_texts, own_times, some_terms}
 use Rattle.lrp_kept.proofs.DisjunctAtoms.{atoms_are}
-use Rattle.lrp_kept.proofs.PartVariables.{text_named, time_named}
+use Rattle.lrp_kept.proofs.PartVariables.{found_name, text_named, time_named}
 use Rattle.lrp_holdings.proofs.Chained.{some_is}
 
 -- ---- the variables of elements
@@ -71,22 +71,11 @@ distinct_from : (ns : List Identifier) → AllPairs ◌≢◌ ns → AreDistinct
 distinct_from [] h = tt
 distinct_from (n ∷ ns) h = (all_by (λ m. n ≢ m) ns (λ x c e. h 0 (suc c.0) x (omega arith) (let l : c.0 < length ns = c.1 in omega (arith, l)) (e ∙ sym c.2)), distinct_from ns (pairs_tail ◌≢◌ n ns h))
 
-or_cases : (a b : Bool) → (a || b) ≡ true → (a ≡ true) ⊎ (b ≡ true)
-or_cases true b e = inl refl
-or_cases false b e = inr e
-
-found : (v : Identifier) (ns : List Identifier) → list_any (bytes_eq v) ns ≡ true → Contains ns v
-found v [] e = absurd (false≢true e)
-found v (n ∷ ns) e = elim (or_cases (bytes_eq v n) (list_any (bytes_eq v) ns) e) [
-  | inl s ↦ subst (λ x. Contains (x ∷ ns) v) (same_name v n s) (contains_first v ns)
-  | inr k ↦ contains_later n v ns (found v ns k)
-]
-
 all_found : (ns vs : List Identifier) → list_all (λ v. list_any (bytes_eq v) ns) vs ≡ true → AreNamesAmong vs ns
 all_found ns [] e v c = absurd (contains_none v c)
 all_found ns (w ∷ vs) e v c =
-    let r = each_true (list_any (bytes_eq w) ns) (list_all (λ v. list_any (bytes_eq v) ns) vs) e in
-    elim (cons_cases w v vs c) [ inl s ↦ subst (λ x. Contains ns x) s (found w ns r.0) | inr d ↦ all_found ns vs r.1 v d ]
+    let r = and_parts (list_any (bytes_eq w) ns) (list_all (λ v. list_any (bytes_eq v) ns) vs) e in
+    elim (cons_cases w v vs c) [ inl s ↦ subst (λ x. Contains ns x) s (found_name ns w r.0) | inr d ↦ all_found ns vs r.1 v d ]
 
 -- ---- atoms
 
@@ -236,7 +225,7 @@ module _ (names : List Identifier) (f : Form) (d : Disjunct) (is : IsDisjunctOf 
     carried : (g : Ground) → ((t : Test) → Contains d.tests t → (pos 1 ≤ℤ test_period t) × Divides (test_period t) (pos g.period)) → (t : Test) → Contains a.tests t → CanBeCarried a.vars.times a.vars.texts (pos g.period) t
     carried g periods t c =
         let r = in_kept (is_test_covered a.vars.times a.vars.texts) d.tests t (subst (λ ts. Contains ts t) (own_tests d.tests [] [] d.atoms.items is.joined i a at) c) in
-        let e = each_true (list_all (λ v. list_any (bytes_eq v) a.vars.times) (times_of_test t)) (list_all (λ v. list_any (bytes_eq v) a.vars.texts) (texts_of_test t)) r.1 in
+        let e = and_parts (list_all (λ v. list_any (bytes_eq v) a.vars.times) (times_of_test t)) (list_all (λ v. list_any (bytes_eq v) a.vars.texts) (texts_of_test t)) r.1 in
         let p = periods t r.0 in
         record { times_known = all_found a.vars.times (times_of_test t) e.0; texts_known = all_found a.vars.texts (texts_of_test t) e.1; low = p.0; divides = p.1 }
 

@@ -16,6 +16,6 @@ mod serving;
 mod watching;
 
 pub use lrp_outputs::{Refusal, Status, WatchRefusal};
-pub use lrp_sample::{SampleTexts, sample_texts};
+pub use lrp_sample::{Texts, sample_texts};
 pub use lrp_words::{Command, Usage, read_words};
 pub use running::run;

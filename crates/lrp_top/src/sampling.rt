@@ -18,7 +18,7 @@ use lrp_answers::Answer;
 use lrp_eval::whole_pages_count_answers;
 use lrp_model::Memory;
 use lrp_outputs::{Output, Refusal, Report};
-use lrp_sample::{SampleTexts, sample_query_is_well_sorted, sample_texts, sample_texts_are_read};
+use lrp_sample::{Texts, sample_query_is_well_sorted, sample_texts, sample_texts_are_read};
 use lrp_sample_laws::{sample_has_few_answers, sample_has_few_cells, sample_is_within_limits};
 use std::alloc::Global;
 use std::marker::Brand;
@@ -46,7 +46,7 @@ fn question_of(alloc: Global, seed: u32, size: u32) -> Result<Question, Refusal>
     requires size { IsSampleSize size }
     ensures { IsSampleOrMemory seed size result }
 {
-    let SampleTexts { database, query } = sample_texts(alloc, seed, size)?;
+    let Texts { database, query } = sample_texts(alloc, seed, size)?;
     sample_texts_are_read();
     sample_query_is_well_sorted();
     sample_is_within_limits();

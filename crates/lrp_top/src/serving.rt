@@ -1,10 +1,12 @@
 // What a question is asked for: its plan, its answers, its least answer or a page.
 ghost use Rattle.std.specs.Prelude.{◌≡◌, false, true, IfOk, List, ℕ};
 ghost use Rattle.lrp_eval.specs.Answered.{IsAnswerOf};
+ghost use Rattle.lrp_model.specs.DataTexts.{IsDomain};
 ghost use Rattle.lrp_model.specs.Formulas.{Question as Queried, question_of};
 ghost use Rattle.lrp_model.specs.Sorts.{time_count};
 ghost use Rattle.lrp_model.specs.declared.relations.Relation.{Relation};
 ghost use Rattle.lrp_store.specs.Least.{HasRoom};
+ghost use Rattle.lrp_store.specs.Stores.{IsStore};
 ghost use Rattle.lrp_top.specs.Canonical.{IsCanonicalText};
 ghost use Rattle.lrp_top.specs.Due.{AreRowsCounted, IsAnswered, IsCounted, IsDecided, IsOutput};
 ghost use Rattle.lrp_outputs.specs.Outputs.{least_of as least_tuple, told, witness_text};
@@ -56,6 +58,8 @@ pub fn answers(alloc: Global, question: &Question, cap: u32) -> Result<Answer, R
     ensures answers { IfOk result (λ made. IsAnswerOf question.now.database.relations
         (question_of question.now.query.query) cap made) }
     ensures room { IfOk result (λ made. HasRoom made.store) }
+    ensures valid { IfOk result (λ made. IsStore made.store) }
+    ensures domain { IfOk result (λ made. IsDomain made.domain) }
 {
     match answer(alloc, &question.plan, &question.database.relations, cap) {
         Ok(answer) => {
@@ -96,8 +100,6 @@ fn all_answers(alloc: Global, question: &Question, cap: u32) -> Result<Output, R
 {
     match answers(alloc, question, cap) {
         Ok(answer) => {
-            answer.store.shape();
-            answer.domain.len();
             plan_rises();
             answers_are_texts();
             Ok(Output::Answer(WholeAnswer::new(answer)))
@@ -130,13 +132,13 @@ fn canonical_text(
     requires head { time_count question.now.query.query.head.columns ≡ 1 }
     requires answers { IsAnswerOf question.now.database.relations
         (question_of question.now.query.query) cap answer }
+    requires valid { IsStore answer.store }
+    requires domain { IsDomain answer.domain }
     ensures due { Then (AreRowsCounted question.now.database.relations
         (question_of question.now.query.query) cap)
         (λ counted. IsOutput (IsCanonicalText question.now.database.relations
         (question_of question.now.query.query))) (told result) }
 {
-    answer.store.shape();
-    answer.domain.len();
     plan_rises();
     steps_are_made();
     floors_keep_bounds();

@@ -10,4 +10,4 @@ pub returns-in-Some : goal.returns-in-Some
 returns-in-Some c = last_taken c.add_choices.result c.args.derived.now.levels.items c.in-Some.choices.now c.args.out.now c.add_choices.new.out (sym (ap option_copied c.in-Some.is) ∙ c.choices.ensures) c.add_choices.ensures
 
 pub returns-in-None : goal.returns-in-None
-returns-in-None c = no_level c.args.derived.now.levels.items c.args.out.now (sym (ap option_copied c.in-None.is) ∙ c.choices.ensures) c.shape.ensures.valid
+returns-in-None c = no_level c.args.derived.now.levels.items c.args.out.now (sym (ap option_copied c.in-None.is) ∙ c.choices.ensures) c.requires.valid

@@ -8,6 +8,6 @@ use Rattle.lrp_keep.proofs.unions.add_piece.Goals as goal
 
 pub returns : goal.returns
 returns c =
-    new_added (IsMadeFrom StaysSame (InPiece c.args.out.now.shape.texts c.args.piece.now)) c.args.out.now c.shape.ensures.valid c.args.piece.now.cell c.args.piece.now.zone (reach_of c.args.piece.now.zone)
-    (same_zone c.args.piece.now c.args.out.now c.columns.ensures.valid c.requires)
+    new_added (IsMadeFrom StaysSame (InPiece c.args.out.now.shape.texts c.args.piece.now)) c.args.out.now c.requires.valid c.args.piece.now.cell c.args.piece.now.zone (reach_of c.args.piece.now.zone)
+    (same_zone c.args.piece.now c.args.out.now c.requires.place)
     4294967295 c.add_new.new.self c.add_new.result c.add_new.ensures.ok

@@ -16,13 +16,13 @@ returns-in-Ok c =
         first = Ok tt;
         is = c.in-Ok.ensures.counted;
         next = subst (λ a. IsAnswerText db q (answer_text a)) (sym c.new.ensures) (subst (λ k. IsAnswerTextOf k db q (answer_text c.in-Ok.answer)) (period_of db q c.args.cap c.in-Ok.answer answered (c.plan_rises.ensures.last db q)) (c.answers_are_texts.ensures db q c.in-Ok.answer (record {
-          store = c.shape.ensures.valid;
-          ascends = c.len.ensures.ascending;
+          store = c.in-Ok.ensures.valid;
+          ascends = c.in-Ok.ensures.domain.ascends;
           head = answered.head;
           answers = answered.answers;
           settled = answered.settled;
           room = c.in-Ok.ensures.room;
-          texts = c.len.ensures.whole;
+          texts = c.in-Ok.ensures.domain.whole;
           columns = c.requires.ready.head;
         })));
       };

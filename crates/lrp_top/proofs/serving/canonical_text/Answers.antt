@@ -45,7 +45,7 @@ returns-in-Ok-Some c =
     let one = one_column db q c.args.cap a c.requires.answers c.requires.head in
     let same = same_sets (HoldsNumber made.store) (HoldsNumber a.store) (λ x ns h. is.same.sound _ ns h) (λ x ns h. is.same.whole _ ns h) in
     let least = period_named (HoldsNumber made.store) (HoldsNumber a.store) same made.store.period is.canonical.period in
-    let sets = numbered db q c.args.cap a c.requires.answers c.shape.ensures.valid c.len.ensures.ascending one in
+    let sets = numbered db q c.args.cap a c.requires.answers c.requires.valid c.requires.domain.ascends one in
     record {
       due = record {
         first = Ok tt;
@@ -56,12 +56,12 @@ returns-in-Ok-Some c =
           least = period_named (HoldsNumber a.store) (HasNumber db q) sets made.store.period least;
           text = subst (λ of. IsAnswerTextOf made.store.period db q (answer_text of)) (sym c.new.ensures) (c.answers_are_texts.ensures db q made (record {
             store = is.canonical.valid;
-            ascends = subst Ascends (sym domain) c.len.ensures.ascending;
+            ascends = subst Ascends (sym domain) c.requires.domain.ascends;
             head = ap (λ h. h.columns) head ∙ c.requires.answers.head;
             answers = answers_moved db q c.args.cap a c.requires.answers made head domain is.same;
             settled = is.canonical.settled;
             room = is.room;
-            texts = subst (AllByRecursion IsDataText) (sym domain) c.len.ensures.whole;
+            texts = subst (AllByRecursion IsDataText) (sym domain) c.requires.domain.whole;
             columns = c.requires.ready.head;
           }));
         };
@@ -78,7 +78,7 @@ returns-in-Ok-None c =
     record {
       due = record {
         first = Err (CanonRows c.args.cap);
-        is = (refl, (more.0, count_named (HoldsNumber a.store) (HasNumber db q) (numbered db q c.args.cap a c.requires.answers c.shape.ensures.valid c.len.ensures.ascending one) c.floors_keep_bounds.ensures.some more.0 more.2.rows, more.1));
+        is = (refl, (more.0, count_named (HoldsNumber a.store) (HasNumber db q) (numbered db q c.args.cap a c.requires.answers c.requires.valid c.requires.domain.ascends one) c.floors_keep_bounds.ensures.some more.0 more.2.rows, more.1));
         next = refl;
       };
     }

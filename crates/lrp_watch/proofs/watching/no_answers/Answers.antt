@@ -4,9 +4,8 @@ use Rattle.std.specs.Prelude.{pos}
 use Rattle.lrp_model.specs.Sorts.{time_count}
 use Rattle.lrp_model.specs.declared.formulas.Head.{Head}
 use Rattle.lrp_store.specs.Stores.{StoreView}
+use Rattle.lrp_tables.proofs.HeadCounts.{columns_counted, times_counted}
 use Rattle.lrp_tables.specs.Columns.{head_texts, head_times}
-use Rattle.lrp_keep.proofs.Numbered.{columns_counted}
-use Rattle.lrp_keep.proofs.SmallAnswers.{times_counted}
 use Rattle.lrp_watch.proofs.NoAnswers.{none_numbered}
 use Rattle.lrp_watch.proofs.watching.no_answers.Goals as goal
 
