@@ -10,7 +10,7 @@ ghost use Rattle.lrp_edits.specs.EditGathered.{AreEditsOf, AreHeadings, TakesEdi
 
 use crate::headings::heading_named;
 use lrp_database::Database;
-use lrp_model::{DbFault, DbKind, List, Located, Memory, Name, Place, RawRow, Row};
+use lrp_model::{Copies, DbFault, DbKind, List, Located, Memory, Name, Place, RawRow, Row};
 use lrp_rel::{Heading, meant_row, row_fault, sooner_of};
 use std::alloc::Global;
 
@@ -20,6 +20,16 @@ pub struct Edit {
     pub add: bool,
     pub relation: Name,
     pub row: Row,
+}
+
+impl Copies for Edit {
+    fn copy(&self, alloc: Global) -> Result<Self, Memory> {
+        Ok(Edit {
+            add: self.add,
+            relation: self.relation.copy(alloc)?,
+            row: self.row.copy(alloc)?,
+        })
+    }
 }
 
 /// An edit as it is written; the place of its row is that of the parenthesis.

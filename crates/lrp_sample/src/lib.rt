@@ -5,4 +5,4 @@ mod laws;
 mod texts;
 
 pub use laws::{sample_query_is_well_sorted, sample_texts_are_read};
-pub use texts::{SampleTexts, sample_texts};
+pub use texts::{Texts, sample_texts};

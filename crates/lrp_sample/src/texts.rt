@@ -4,14 +4,23 @@ ghost use Rattle.std.specs.String.{string_bytes};
 ghost use Rattle.lrp_sample.specs.Texts.{trip_line, sample_database, sample_query};
 ghost use Rattle.lrp_model.specs.Limits.{most_bytes};
 
-use lrp_model::{List, Memory};
+use lrp_model::{Copies, List, Memory};
 use std::alloc::Global;
 
 /// The text of a database of trips, and that of a query.
 #[derive(Drop)]
-pub struct SampleTexts {
+pub struct Texts {
     pub database: List<u8>,
     pub query: List<u8>,
+}
+
+impl Copies for Texts {
+    fn copy(&self, alloc: Global) -> Result<Self, Memory> {
+        Ok(Texts {
+            database: self.database.copy_bytes(alloc)?,
+            query: self.query.copy_bytes(alloc)?,
+        })
+    }
 }
 
 // The departures after whose arrival no trip leaves within 15 minutes.
@@ -54,7 +63,7 @@ fn database_text(alloc: Global, seed: u32, size: u32) -> Result<String, Memory>
 /// # Errors
 ///
 /// Memory was refused.
-pub fn sample_texts(alloc: Global, seed: u32, size: u32) -> Result<SampleTexts, Memory>
+pub fn sample_texts(alloc: Global, seed: u32, size: u32) -> Result<Texts, Memory>
     requires seed { seed ≤ 1000000 }
     requires size { size ≤ 500 }
     ensures database { IfOk result (λ texts. texts.database ≡ sample_database seed size) }
@@ -65,7 +74,7 @@ pub fn sample_texts(alloc: Global, seed: u32, size: u32) -> Result<SampleTexts, 
 {
     let database = database_text(alloc, seed, size)?;
     let query = String::from_str(alloc, QUERY)?;
-    Ok(SampleTexts {
+    Ok(Texts {
         database: List::from_vec(database.into_bytes()),
         query: List::from_vec(query.into_bytes()),
     })

@@ -1,5 +1,5 @@
 -- Formulas one after another: gathered, and written out.
-use Rattle.std.proofs.Common.{◌≡◌, ◌+◌, ◌<◌, ℕ, suc, cond, arith, List, [], ◌∷◌, ◌++◌, Vec, Box, Global, length, take, get_or, refl, ap, ap₂, sym, ◌∙◌, append_assoc, append-nil, rules}
+use Rattle.std.proofs.Common.{◌≡◌, ◌+◌, ◌<◌, ℕ, ℤ, suc, cond, arith, List, [], ◌∷◌, ◌++◌, Vec, Box, Global, length, take, get_or, refl, ap, ap₂, sym, ◌∙◌, append_assoc, append-nil, rules}
 use Rattle.std.specs.Prelude.{reverse, Result, Ok, Err, IfOk, OnOk}
 use Rattle.std.specs.Str.{bytes_eq}
 use Rattle.std.proofs.lemmas.List.{take_more, reverse-append, length-reverse}
@@ -8,19 +8,21 @@ use Rattle.lrp_model.specs.declared.tokens.Place.{Place}
 use Rattle.lrp_model.specs.declared.raw.RawFormula.{RawFormula}
 use Rattle.lrp_model.specs.RawQueries.{RawForm, RawForms, raw_form_of, raw_forms_of, raw_and, raw_or, raw_implies, raw, no_raws}
 use Rattle.lrp_tense.specs.declared.tree.TenseFormula.{TenseFormula}
-use Rattle.lrp_tense.specs.declared.tree.TenseKind.{TenseKind, And, Or, Implies, Since, Until, the_lemmas}
+use Rattle.lrp_tense.specs.declared.tree.TenseKind.{TenseKind, And, Or, Implies, Once, Always, Since, Until, the_lemmas}
+use Rattle.lrp_tense.specs.declared.words.Ranged.{Ranged}
+use Rattle.lrp_tense.specs.declared.words.Ranged.TheVariants.{Once as once_word, Always as always_word}
 use Rattle.lrp_tense.specs.declared.words.Paired.{Paired}
 use Rattle.lrp_tense.specs.declared.words.Paired.TheVariants.{Since as since_word, Until as until_word}
-use Rattle.lrp_tense.specs.declared.expansion.PairOperator.{PairOperator}
+use Rattle.lrp_tense.specs.declared.written_operators.PairOperator.{PairOperator}
 use Rattle.lrp_tense.specs.declared.expansion.Begun.{Begun}
-use Rattle.lrp_tense.specs.Trees.{Operator, TenseForm, TenseForms, operator_at, tense_kind, tense_form_of, tense_forms_of, tense_implies, tense, no_tenses}
+use Rattle.lrp_tense.specs.Trees.{Operator, TenseForm, TenseForms, operator_at, tense_kind, tense_form_of, tense_forms_of, tense_and, tense_or, tense_implies, tense, no_tenses}
 use Rattle.lrp_tense.specs.Expanding.{Naming, Renaming, present_name, operators, operators_each, moment_name, between_name}
 use Rattle.lrp_tense.specs.Named.{naming_of}
 use Rattle.lrp_tense.specs.Numbers.{Numbers, next_number, behind_one, behind_all, expanded_from, each_from}
 use Rattle.lrp_tense.specs.Scopes.{ScopeView, inside_variable, past, past_one, past_each, expanded_in, each_in, form_of_pair}
 use Rattle.lrp_tense.specs.Written.{operator_of, form_inside, pair_of}
 use Rattle.lrp_tense.specs.Begun.{IsBegun, pair_begun}
-use Rattle.lrp_tense.specs.Rules.{paired_form}
+use Rattle.lrp_tense.specs.Rules.{ranged_form, paired_form}
 use Rattle.lrp_tense.proofs.TenseViews.{tense_kind-And, tense_kind-Or}
 
 -- ---- members of a node
@@ -39,6 +41,13 @@ and_past f v fs a e i = ap (λ l. past_each a (tense_forms_of l)) i ∙ sym (ap 
 
 pub or_past : (f : TenseFormula) (v : Vec TenseFormula Global) (fs : List TenseFormula) (a : ScopeView) → f.kind ≡ Or v → fs ≡ v.items → past_each a (tense_forms_of fs) ≡ past a (tense_form_of f)
 or_past f v fs a e i = ap (λ l. past_each a (tense_forms_of l)) i ∙ sym (ap (λ k. past a (tense_kind k f.place)) e ∙ ap (past a) (tense_kind-Or v f.place))
+
+-- the node of an `and`, and of an `or`
+pub all_node : (f : TenseFormula) (v : Vec TenseFormula Global) (fs : List TenseFormula) → f.kind ≡ And v → fs ≡ v.items → tense_and f.place (tense_forms_of fs) ≡ tense_form_of f
+all_node f v fs e i = ap (λ l. tense_and f.place (tense_forms_of l)) i ∙ sym (ap (λ k. tense_kind k f.place) e ∙ tense_kind-And v f.place)
+
+pub any_node : (f : TenseFormula) (v : Vec TenseFormula Global) (fs : List TenseFormula) → f.kind ≡ Or v → fs ≡ v.items → tense_or f.place (tense_forms_of fs) ≡ tense_form_of f
+any_node f v fs e i = ap (λ l. tense_or f.place (tense_forms_of l)) i ∙ sym (ap (λ k. tense_kind k f.place) e ∙ tense_kind-Or v f.place)
 
 -- ---- results
 
@@ -65,6 +74,11 @@ tenses_append (f ∷ fs) gs = ap (tense (tense_form_of f)) (tenses_append fs gs)
 
 one_more : (fs : List TenseFormula) (i : ℕ) (f : TenseFormula) → i < length fs → f ≡ get_or fs i f → tense_forms_of (take (i + 1) fs) ≡ joined (tense_forms_of (take i fs)) (tense (tense_form_of f) no_tenses)
 one_more fs i f lt is = ap tense_forms_of (take_more fs i f lt ∙ ap (λ x. take i fs ++ x ∷ []) (sym is)) ∙ tenses_append (take i fs) (f ∷ [])
+
+-- copies of the formulas so far, and of one more
+pub copies_step : (fs gs hs : List TenseFormula) (i : ℕ) (f g : TenseFormula) → i < length fs → f ≡ get_or fs i f → hs ≡ gs ++ g ∷ [] → tense_forms_of gs ≡ tense_forms_of (take i fs) → tense_form_of g ≡ tense_form_of f → tense_forms_of hs ≡ tense_forms_of (take (i + 1) fs)
+copies_step fs gs hs i f g lt is e h k =
+    ap tense_forms_of e ∙ tenses_append gs (g ∷ []) ∙ ap₂ (λ x y. joined x (tense y no_tenses)) h k ∙ sym (one_more fs i f lt is)
 
 operators_join : (fs gs : TenseForms) → operators_each (joined fs gs) ≡ operators_each fs ++ operators_each gs
 unfolding joined
@@ -146,6 +160,23 @@ implies_joined s t p f g x e h = ap₂ (λ y a. raw_implies p y (expanded_in a g
 pub implies_past : (s t u : ScopeView) (p : Place) (f g : TenseForm) → t ≡ past s f → u ≡ past t g → u ≡ past s (tense_implies p f g)
 implies_past s t u p f g e h = h ∙ ap (λ a. past a g) e ∙ ap (λ (n : Numbers). record s { numbers = n }) (sym (behind_append s.numbers (operators f) (operators g)))
 
+-- ---- operators with an interval
+
+-- the kind of one's formula
+abbrev pub kind_of_range : Ranged → Identifier → Place → ℤ → ℤ → Box TenseFormula Global → TenseKind
+kind_of_range once_word = Once
+kind_of_range always_word = Always
+
+range_kind : (word : Ranged) (n : Identifier) (at p : Place) (from to : ℤ) (of : Box TenseFormula Global) → tense_kind (kind_of_range word n at from to of) p ≡ ranged_form word (operator_at p n at) from to (tense_form_of of.value)
+range_kind once_word n at p from to of = search (rules, the_lemmas)
+range_kind always_word n at p from to of = search (rules, the_lemmas)
+
+-- its node
+pub range_node : (word : Ranged) (f g : TenseFormula) (n : Identifier) (at : Place) (from to : ℤ) (of : Box TenseFormula Global) → f.kind ≡ kind_of_range word n at from to of → g ≡ of.value
+    → ranged_form word (operator_at f.place n at) from to (tense_form_of g) ≡ tense_form_of f
+range_node word f g n at from to of e eg =
+    ap (λ x. ranged_form word (operator_at f.place n at) from to (tense_form_of x)) eg ∙ sym (ap (λ k. tense_kind k f.place) e ∙ range_kind word n at f.place from to of)
+
 -- ---- operators over two formulas
 
 -- the kind of one's formula
@@ -158,11 +189,16 @@ pair_kind since_word n at p left right = search (rules, the_lemmas)
 pair_kind until_word n at p left right = search (rules, the_lemmas)
 
 -- its node
+pub paired_node : (word : Paired) (f g h : TenseFormula) (n : Identifier) (at : Place) (left right : Box TenseFormula Global) → f.kind ≡ kind_of_pair word n at left right → g ≡ left.value → h ≡ right.value
+    → paired_form word (operator_at f.place n at) (tense_form_of g) (tense_form_of h) ≡ tense_form_of f
+paired_node word f g h n at left right e el er =
+    ap₂ (λ x y. paired_form word (operator_at f.place n at) (tense_form_of x) (tense_form_of y)) el er ∙ sym (ap (λ k. tense_kind k f.place) e ∙ pair_kind word n at f.place left right)
+
+-- and where the operator is the program's
 pub pair_node : (f g h : TenseFormula) (p : PairOperator) (n : Identifier) (at : Place) (left right : Box TenseFormula Global)
     → operator_of p.at ≡ operator_at f.place n at → f.kind ≡ kind_of_pair p.word n at left right → g ≡ left.value → h ≡ right.value → pair_of p (tense_form_of g) (tense_form_of h) ≡ tense_form_of f
 pair_node f g h p n at left right there e el er =
-    ap (λ o. paired_form p.word o (tense_form_of g) (tense_form_of h)) there
-    ∙ ap₂ (λ x y. paired_form p.word (operator_at f.place n at) (tense_form_of x) (tense_form_of y)) el er ∙ sym (ap (λ k. tense_kind k f.place) e ∙ pair_kind p.word n at f.place left right)
+    ap (λ o. paired_form p.word o (tense_form_of g) (tense_form_of h)) there ∙ paired_node p.word f g h n at left right e el er
 
 -- with the next number it is what the expansion makes of it
 pair_next : (word : Paired) (s : ScopeView) (o : Operator) (f g : TenseForm)

@@ -1,7 +1,7 @@
 -- An operator over two formulas while the program expands it: its first formula is expanded.
 use Rattle.std.specs.Prelude.{◌≡◌}
 use Rattle.lrp_model.specs.RawQueries.{RawForm}
-use Rattle.lrp_tense.specs.declared.expansion.PairOperator.{PairOperator}
+use Rattle.lrp_tense.specs.declared.written_operators.PairOperator.{PairOperator}
 use Rattle.lrp_tense.specs.declared.expansion.Begun.{Begun}
 use Rattle.lrp_tense.specs.Trees.{TenseForm}
 use Rattle.lrp_tense.specs.Expanding.{present_name, moment_name, between_name}

@@ -2,7 +2,7 @@
 use Rattle.std.specs.Prelude.{ℕ, pos, Bool, List, map}
 use Rattle.lrp_model.specs.declared.faults.QueryFault.{QueryFault}
 use Rattle.lrp_model.specs.Tokens.{Tokens}
-use Rattle.lrp_model.specs.Refused.{TextOf, IsLawfulText, IsTextSaying}
+use Rattle.lrp_model.specs.Refused.{TextOf, IsTextSaying}
 use Rattle.lrp_model.specs.DatabaseMeaning.{integer_of}
 use Rattle.lrp_model.specs.QueryMeaning.{raw_term}
 use Rattle.lrp_model.specs.TextFaults.{IsTextFault}
@@ -40,10 +40,6 @@ abbrev pub tense_question : WrittenTenseQuery → TenseQuestion
 tense_question q = record { head = q.head; body = tense_form q.body }
 
 -- ---- what the bytes are
-
--- the bytes are a lawful text of the grammar, of this written tree
-abbrev pub IsTenseText : List ℕ → WrittenTenseQuery → Type 0
-IsTenseText = IsLawfulText tense_query_text FitsTenseQuery
 
 -- the bytes are a query, and this is what it says
 abbrev pub IsTenseQuery : List ℕ → TenseQuestion → Type 0

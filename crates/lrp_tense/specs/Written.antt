@@ -13,9 +13,9 @@ use Rattle.lrp_tense.specs.Expanding.{time_binder, name_term}
 use Rattle.lrp_tense.specs.Scopes.{form_of_range, form_of_pair}
 use Rattle.lrp_tense.specs.declared.words.Ranged.{Ranged}
 use Rattle.lrp_tense.specs.declared.words.Paired.{Paired}
-use Rattle.lrp_tense.specs.declared.expansion.Operator.{Operator as WrittenOperator}
-use Rattle.lrp_tense.specs.declared.expansion.RangeOperator.{RangeOperator}
-use Rattle.lrp_tense.specs.declared.expansion.PairOperator.{PairOperator}
+use Rattle.lrp_tense.specs.declared.written_operators.Operator.{Operator as WrittenOperator}
+use Rattle.lrp_tense.specs.declared.written_operators.RangeOperator.{RangeOperator}
+use Rattle.lrp_tense.specs.declared.written_operators.PairOperator.{PairOperator}
 use Rattle.lrp_tense.specs.declared.written_out.OperatorPlaces.{OperatorPlaces}
 use Rattle.lrp_tense.specs.declared.written_out.Inside.{Inside}
 use Rattle.lrp_tense.specs.declared.written_out.Comparand.{Comparand}

@@ -1,11 +1,11 @@
 // The query without operators that stands for one with them: each operator is written out by quantifiers over time.
 ghost use Rattle.std.specs.Prelude.{◌≡◌, ◌<◌, ◌^◌, [], length, IfOk, OnOk};
 ghost use Rattle.lrp_model.specs.RawQueries.{raw_form_of, raw_forms_of, raw_question_of, raw_not, raw_group, raw_implies};
-ghost use Rattle.lrp_tense.specs.Trees.{operator_at, tense_form_of, tense_forms_of, tense_question_of};
+ghost use Rattle.lrp_tense.specs.Trees.{tense_form_of, tense_forms_of, tense_question_of};
 ghost use Rattle.lrp_tense.specs.Expanding.{IsExpandable, operators, operator_number, expanded, expanded_question};
 ghost use Rattle.lrp_tense.specs.Counting.{ArePositions};
 ghost use Rattle.lrp_tense.specs.Laws.{KeepsMeaning};
-ghost use Rattle.lrp_tense.specs.Written.{operator_of, form_inside, joined_form, quantified_form, range_of};
+ghost use Rattle.lrp_tense.specs.Written.{form_inside, joined_form, quantified_form, range_of};
 ghost use Rattle.lrp_tense.specs.Numbers.{met, expanded_from};
 ghost use Rattle.lrp_tense.specs.Scopes.{expanded_in, each_in, past, past_one, past_each, inside_variable};
 ghost use Rattle.lrp_tense.specs.Begun.{IsBegun, pair_begun};
@@ -14,36 +14,13 @@ use crate::counting::{is_ascending, positions_of};
 use crate::renaming::{atom, comparison, membership};
 use crate::scope::{Moments, OperatorScope};
 use crate::words::{Paired, Ranged};
+use crate::written_operators::{PairOperator, RangeOperator, written};
 use crate::written_out::{
-    Connective, Inside, OperatorPlaces, Quantifier, boxed, denied, grouped, implied, joined,
-    quantified,
+    Connective, Inside, Quantifier, boxed, denied, grouped, implied, joined, quantified,
 };
 use crate::{TenseFormula, TenseKind, TenseQuery};
 use lrp_model::{Copies, Memory, Name, Place, RawColumn, RawFormula, RawQuery};
 use std::alloc::Global;
-
-/// An operator as it is written: where it stands, and its variable.
-#[derive(Clone, Copy)]
-pub struct Operator<'a> {
-    pub places: OperatorPlaces,
-    pub name: &'a Name,
-}
-
-/// An operator with an interval: which one, and the ends of that.
-#[derive(Clone, Copy)]
-pub struct RangeOperator<'a> {
-    pub at: Operator<'a>,
-    pub word: Ranged,
-    pub from: i64,
-    pub to: i64,
-}
-
-/// An operator over two formulas: which one.
-#[derive(Clone, Copy)]
-pub struct PairOperator<'a> {
-    pub at: Operator<'a>,
-    pub word: Paired,
-}
 
 /// The name of an operator's moment, and its first formula inside its variable for each moment between.
 #[derive(Drop)]
@@ -245,13 +222,6 @@ fn expand_formula<'a>(
             expand_paired(alloc, scope, pair, begun, right)
         }
     }
-}
-
-fn written(place: Place, name: &Name, name_place: Place) -> Operator<'_>
-    ensures { operator_of result ≡ operator_at place name.now name_place }
-{
-    let places = OperatorPlaces { place, name_place };
-    Operator { places, name }
 }
 
 #[cycle(expanding)]

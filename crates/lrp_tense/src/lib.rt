@@ -1,6 +1,7 @@
 //! Queries with temporal operators: what they mean, how they are read, and the query without operators that says the same.
 #![tactic(auto)]
 
+mod copies;
 mod counting;
 mod expansion;
 mod grammar;
@@ -11,6 +12,7 @@ mod scope;
 mod tree;
 mod variables;
 mod words;
+mod written_operators;
 mod written_out;
 
 pub use expansion::expand;

@@ -1,8 +1,11 @@
 // Copies succeed. That one that succeeds is equal is a clause. Queries are never let go: to prove how a formula is dropped
 // takes longer than all the rest.
 use crate::parts::{PLACE, columns, head, list, member, name, raw_column, seven};
+use lrp_edits::Edit;
 use lrp_io::{File, MemShelf, MemSink};
 use lrp_model::*;
+use lrp_sample::Texts;
+use lrp_tense::{TenseFormula, TenseKind, TenseQuery};
 use lrp_token::Resume;
 use std::alloc::Global;
 use std::mem::forget;
@@ -109,6 +112,42 @@ fn raw_queries_are_copied(rt: HostRuntime) {
     forget(query);
 }
 
+fn since(rt: &impl Abort, alloc: Global) -> TenseFormula {
+    let point = RowPoint {
+        offset: 1,
+        period: 4,
+    };
+    let term = RawTerm {
+        kind: RawTermKind::Int { value: 3 },
+        place: PLACE,
+    };
+    let kind = TenseKind::Member { term, point };
+    let left = Box::new(alloc, TenseFormula { kind, place: PLACE }).expect(rt, "memory");
+    let kind = TenseKind::And {
+        of: Vec::new(alloc),
+    };
+    let right = Box::new(alloc, TenseFormula { kind, place: PLACE }).expect(rt, "memory");
+    let kind = TenseKind::Since {
+        name: name(rt, alloc, "t"),
+        name_place: PLACE,
+        left,
+        right,
+    };
+    TenseFormula { kind, place: PLACE }
+}
+
+#[test]
+fn queries_with_operators_are_copied(rt: HostRuntime) {
+    let alloc = rt.alloc();
+    let query = TenseQuery {
+        head: list(&rt, alloc, raw_column(&rt, alloc)),
+        body: since(&rt, alloc),
+    };
+    forget(query.copy(alloc).expect(&rt, "memory"));
+    forget(query.body.copy(alloc).expect(&rt, "memory"));
+    forget(query);
+}
+
 fn step(rt: &impl Abort, alloc: Global) -> Step {
     let kind = StepKind::Join {
         left: 1,
@@ -137,6 +176,27 @@ fn plans_are_copied(rt: HostRuntime) {
         domain: domain(&rt, alloc),
     };
     assert!(rt; plan.copy(alloc).is_ok());
+}
+
+#[test]
+fn edits_are_copied(rt: HostRuntime) {
+    let alloc = rt.alloc();
+    let edit = Edit {
+        add: true,
+        relation: name(&rt, alloc, "bus"),
+        row: row(&rt, alloc),
+    };
+    assert!(rt; edit.copy(alloc).is_ok());
+}
+
+#[test]
+fn texts_of_the_sample_are_copied(rt: HostRuntime) {
+    let alloc = rt.alloc();
+    let texts = Texts {
+        database: list(&rt, alloc, b'd'),
+        query: list(&rt, alloc, b'q'),
+    };
+    assert!(rt; texts.copy(alloc).is_ok());
 }
 
 #[test]

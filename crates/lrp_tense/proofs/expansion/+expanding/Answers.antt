@@ -1,7 +1,7 @@
 use Rattle.std.proofs.Common.{ap, ◌∙◌}
 use Rattle.lrp_model.specs.RawQueries.{raw_form_of}
 use Rattle.lrp_tense.specs.declared.words.Paired.TheVariants.{Since, Until}
-use Rattle.lrp_tense.specs.declared.expansion.PairOperator.{PairOperator}
+use Rattle.lrp_tense.specs.declared.written_operators.PairOperator.{PairOperator}
 use Rattle.lrp_tense.specs.Trees.{tense_form_of}
 use Rattle.lrp_tense.specs.Scopes.{past, expanded_in}
 use Rattle.lrp_tense.proofs.Steps.{and_node, and_past, or_node, or_past, implies_node, implies_joined, implies_past, pair_node, pair_joined, pair_past, if_ok_then, then_ok, expand_step, past_step, is_inside}
