@@ -156,6 +156,25 @@ class Definitions(unittest.TestCase):
             rows = re.findall(r"(?m)^\| (`lrp_[^|]*) \|", (TOP / document).read_text())
             self.assertEqual(sorted(crates), sorted(re.findall(r"lrp_\w+", " ".join(rows))), document)
 
+    def test_inner_definitions_are_cited_in_their_own_crate_alone(self):
+        cited: dict[str, set[str]] = {}
+        for file in [*TOP.glob("crates/*/src/**/*.rt"), *TOP.glob("crates/*/specs/**/*.antt")]:
+            crate = file.relative_to(TOP / "crates").parts[0]
+            for home, name in re.findall(r"Rattle\.(lrp_\w+)\.specs\.(\w+)\.", file.read_text()):
+                if home != crate:
+                    cited.setdefault(home, set()).add(name)
+        for page in TOP.glob("crates/*/specs/Lib.antt"):
+            inner = page.read_text().partition("-- What functions inside say")[2]
+            crate = page.parts[-3]
+            self.assertEqual(set(re.findall(r"pub mod (\w+)", inner)) & cited.get(crate, set()), set(), crate)
+
+    def test_each_promise_is_read_at_a_glance(self):
+        page = (TOP / "docs/proved.md").read_text()
+        cells = re.findall(r"(?m)^\| `lrp_[^|]* \| ([^|]*) \|$", page)
+        self.assertGreater(len(cells), 40)
+        for cell in cells:
+            self.assertLessEqual(len(cell.split()), 60, cell)
+
 
 class Names(unittest.TestCase):
     """A public name means one thing in all crates; a rule of a grammar alone has the grammar's own name."""
