@@ -31,7 +31,7 @@ pub use limits::LIMIT;
 pub use list::{Copies, List};
 pub use memory::Memory;
 pub use names::{DataText, Name};
-pub use plans::{Plan, Step, StepKind};
+pub use plans::{Plan, Planning, Step, StepKind};
 pub use raw::{RawColumn, RawFormula, RawKind, RawQuery, RawTerm, RawTermKind};
 pub use relations::{Bound, Column, Relation, Row, RowPoint, Sort, Value};
 pub use tokens::{Fault, LexFault, LexKind, Place, Symbol, Token, TokenKind, Word};
