@@ -16,6 +16,7 @@ use Rattle.lrp_model.specs.declared.plans.StepKind.TheVariants.{Leaf, Join, Sele
 use Rattle.lrp_model.proofs.Logic.{all_append}
 use Rattle.lrp_plan_laws.specs.Made.{HeadStep, AreAmong}
 use Rattle.lrp_plan_laws.proofs.Elements.{take_out, split_all}
+use Rattle.lrp_plan_laws.proofs.Dropping.{Rules}
 use Rattle.lrp_plan_laws.proofs.Names.{Names, NamesTest, are_among_is, two_named, tests_named, names_self}
 use Rattle.lrp_plan_laws.proofs.PlanLaws.{Where, put_where, get_where, is_true, and_first}
 use Rattle.lrp_plan_laws.proofs.Rounds.{Finishes, all_rounds, nothing_left}
@@ -23,18 +24,18 @@ use Rattle.lrp_plan_laws.proofs.Builds.{Saying, Builds, by_first, by_next, by_bo
 use Rattle.lrp_plan_laws.proofs.Members.{all_of, all_self, all_from, all_map}
 use Rattle.lrp_plan_laws.proofs.Marks.{Mark, marks, marks_each}
 
-module _ (M : Structure) (head : HeadStep) (fits : List Variable → Type 0) (guard : Identifier → Sort → Form → Type 0) (down : (vs ws : List Variable) → AllByRecursion (Contains ws) vs → fits ws → fits vs) where
+module _ (M : Structure) (head : HeadStep) (rules : Rules) (fits : List Variable → Type 0) (guard : Identifier → Sort → Form → Type 0) (down : (vs ws : List Variable) → AllByRecursion (Contains ws) vs → fits ws → fits vs) where
   -- the variables of a formula that names no others than fitting ones fit
   pub fits_within : (f : Form) (room : List Variable) (most : List Mark) → fits room → Names M.relations f room most → fits (free f)
   fits_within f room most roomy h = down (free f) room h.0 roomy
 
   -- a complement names what its operand names
-  pub complement_builds : (before steps : Steps) (g : Form) → Builds M head fits guard before steps (Names M.relations g) → fits (free g) → Builds M head fits guard before (complement M steps) (Names M.relations g)
+  pub complement_builds : (before steps : Steps) (g : Form) → Builds M head rules fits guard before steps (Names M.relations g) → fits (free g) → Builds M head rules fits guard before (complement M steps) (Names M.relations g)
   complement_builds before steps g m good =
       let a : Form = formula_at steps (length steps) in
-      by_next M head fits guard before steps (Names M.relations g) (Names M.relations g) (Complement (length steps)) (negation a) m
+      by_next M head rules fits guard before steps (Names M.relations g) (Names M.relations g) (Complement (length steps)) (negation a) m
       (λ b ks new. (let r : reach_at steps (length steps) + 2 * period M.relations (negation a) ≤ b = new.0 in omega arith, new.1))
-      (record { operands = ((let g : length before < length steps = m.grown in omega arith, omega arith), tt); formula = refl; variables = tt })
+      (record { operands = ((let g : length before < length steps = m.grown in omega arith, omega arith), tt); formula = refl; drop = tt; variables = tt })
       (down (free a) (free g) ((m.names (free g) (marks g M.relations)).1 (names_self M.relations g)).0 good)
       tt
       m.names
@@ -42,41 +43,42 @@ module _ (M : Structure) (head : HeadStep) (fits : List Variable → Type 0) (gu
   -- ---- steps with tests, within the variables and the periods of the whole `and`
   module _ (room : List Variable) (most : List Mark) (roomy : fits room) where
     -- selections by tests whose variables are known: the operand and the tests
-    selects : (before steps : Steps) (p : Saying) (variables : List Variable) (ts : List Test) → Builds M head fits guard before steps p
+    selects : (before steps : Steps) (p : Saying) (variables : List Variable) (ts : List Test) → Builds M head rules fits guard before steps p
         → ((ws : List Variable) (ks : List Mark) → p ws ks → AllByRecursion (Contains ws) variables) → AllByRecursion (λ t. AllByRecursion (Contains variables) (variables_of_test t)) ts
         → p room most × AllByRecursion (NamesTest M.relations room most) ts
-        → Builds M head fits guard before (select_each ts M steps) (λ ws ks. p ws ks × AllByRecursion (NamesTest M.relations ws ks) ts)
-    selects before steps p variables [] m known covered inside = same_builds M head fits guard before steps p _ m (λ ws ks. ((λ x. (x, tt)), λ x. x.0))
+        → Builds M head rules fits guard before (select_each ts M steps) (λ ws ks. p ws ks × AllByRecursion (NamesTest M.relations ws ks) ts)
+    selects before steps p variables [] m known covered inside = same_builds M head rules fits guard before steps p _ m (λ ws ks. ((λ x. (x, tt)), λ x. x.0))
     selects before steps p variables (t ∷ ts) m known covered inside =
         let a : Form = formula_at steps (length steps) in
         let f : Form = conjunction (form a (form (test t) no_forms)) in
         let names : (ws : List Variable) (ks : List Mark) → Names M.relations f ws ks ↔ (p ws ks × NamesTest M.relations ws ks t) =
         λ ws ks. let two = two_named M.relations ws ks a (test t) no_forms in ((λ h. let x = two.0 h in ((m.names ws ks).0 x.0, x.1.0)), λ h. two.1 ((m.names ws ks).1 h.0, (h.1, (tt, tt)))) in
-        let n : Builds M head fits guard before (select t M steps) (λ ws ks. p ws ks × NamesTest M.relations ws ks t) =
-        by_next M head fits guard before steps p (λ ws ks. p ws ks × NamesTest M.relations ws ks t) (Select (length steps) t) f m
+        let n : Builds M head rules fits guard before (select t M steps) (λ ws ks. p ws ks × NamesTest M.relations ws ks t) =
+        by_next M head rules fits guard before steps p (λ ws ks. p ws ks × NamesTest M.relations ws ks t) (Select (length steps) t) f m
         (λ b ks new. (let r : max (reach_at steps (length steps)) (test_reach t) + period M.relations f ≤ b = new.0 in omega arith, ((all_append (Contains ks) (marks a M.relations) (marks_each (form (test t) no_forms) M.relations)).0 new.1).0))
         (record {
           operands = ((let g : length before < length steps = m.grown in omega arith, omega arith), tt);
           formula = refl;
+          drop = tt;
           variables = λ v c. all_of (Contains (free a)) variables v (known (free a) (marks a M.relations) ((m.names (free a) (marks a M.relations)).0 (names_self M.relations a))) (all_of (Contains variables) (variables_of_test t) v covered.0 c);
         })
         (fits_within f room most roomy ((names room most).1 (inside.0, inside.1.0)))
         tt
         names in
-        same_builds M head fits guard before (select_each ts M (select t M steps)) (λ ws ks. (p ws ks × NamesTest M.relations ws ks t) × AllByRecursion (NamesTest M.relations ws ks) ts) _
+        same_builds M head rules fits guard before (select_each ts M (select t M steps)) (λ ws ks. (p ws ks × NamesTest M.relations ws ks t) × AllByRecursion (NamesTest M.relations ws ks) ts) _
         (selects before (select t M steps) (λ ws ks. p ws ks × NamesTest M.relations ws ks t) variables ts n (λ ws ks h. known ws ks h.0) covered.1 ((inside.0, inside.1.0), inside.1.1))
         (λ ws ks. ((λ h. (h.0.0, (h.0.1, h.1))), λ h. ((h.0, h.1.0), h.1.1)))
 
     -- a join that carries tests whose variables are known: both operands and the tests
-    joins : (start mid steps : Steps) (p q : Saying) (variables : List Variable) (ts : List Test) → Builds M head fits guard start mid p → Builds M head fits guard mid steps q
+    joins : (start mid steps : Steps) (p q : Saying) (variables : List Variable) (ts : List Test) → Builds M head rules fits guard start mid p → Builds M head rules fits guard mid steps q
         → ((ws : List Variable) (ks : List Mark) → p ws ks → q ws ks → AllByRecursion (Contains ws) variables) → AllByRecursion (λ t. AllByRecursion (Contains variables) (variables_of_test t)) ts
         → (p room most × q room most) × AllByRecursion (NamesTest M.relations room most) ts
-        → Builds M head fits guard start (join (length mid) ts M steps) (λ ws ks. (p ws ks × q ws ks) × AllByRecursion (NamesTest M.relations ws ks) ts)
+        → Builds M head rules fits guard start (join (length mid) ts M steps) (λ ws ks. (p ws ks × q ws ks) × AllByRecursion (NamesTest M.relations ws ks) ts)
     joins start mid steps p q variables ts m n known covered inside =
         let a : Form = formula_at steps (length mid) in
         let b : Form = formula_at steps (length steps) in
         let f : Form = conjunction (form a (form b (tests_as_forms ts))) in
-        let e : a ≡ formula_at mid (length mid) = kept_formula M head fits guard mid steps q (length mid) n (omega arith) in
+        let e : a ≡ formula_at mid (length mid) = kept_formula M head rules fits guard mid steps q (length mid) n (omega arith) in
         let first : (ws : List Variable) (ks : List Mark) → Names M.relations a ws ks ↔ p ws ks = λ ws ks. subst (λ g. Names M.relations g ws ks ↔ p ws ks) (sym e) (m.names ws ks) in
         let names : (ws : List Variable) (ks : List Mark) → Names M.relations f ws ks ↔ ((p ws ks × q ws ks) × AllByRecursion (NamesTest M.relations ws ks) ts) =
         λ ws ks.
@@ -90,7 +92,7 @@ module _ (M : Structure) (head : HeadStep) (fits : List Variable → Type 0) (gu
         let left = (all_append (Contains vs) (free a) (free b)).0 (all_self vs) in
         let right = (all_append (Contains ks) (marks a M.relations) (marks b M.relations)).0 (all_self ks) in
         let all : AllByRecursion (Contains vs) variables = known vs ks ((first vs ks).0 (left.0, right.0)) ((n.names vs ks).0 (left.1, right.1)) in
-        by_both M head fits guard start mid steps p q _ (Join (length mid) (length steps) ts) f m n
+        by_both M head rules fits guard start mid steps p q _ (Join (length mid) (length steps) ts) f m n
         (λ c ks new.
         let r : max (reach_at steps (length mid)) (max (reach_at steps (length steps)) (greatest (map test_reach ts))) + period M.relations f ≤ c = new.0 in
         let x = (all_append (Contains ks) (marks a M.relations) (marks_each (form b (tests_as_forms ts)) M.relations)).0 new.1 in
@@ -99,6 +101,7 @@ module _ (M : Structure) (head : HeadStep) (fits : List Variable → Type 0) (gu
         (record {
           operands = (let g : length start < length mid = m.grown in let h : length mid < length steps = n.grown in ((omega arith, omega arith), ((omega arith, omega arith), tt)));
           formula = refl;
+          drop = tt;
           variables = all_map (λ t. AllByRecursion (Contains variables) (variables_of_test t)) (λ t. AreAmong (variables_of_test t) vs) ts (λ t k v c. all_of (Contains vs) variables v all (all_of (Contains variables) (variables_of_test t) v k c)) covered;
         })
         (fits_within f room most roomy ((names room most).1 inside))
@@ -106,22 +109,22 @@ module _ (M : Structure) (head : HeadStep) (fits : List Variable → Type 0) (gu
         names
 
     -- a minus of what has no further variables: both operands
-    minuses : (start mid steps : Steps) (p : Saying) (g : Form) (variables : List Variable) → Builds M head fits guard start mid p → Builds M head fits guard mid steps (Names M.relations g)
+    minuses : (start mid steps : Steps) (p : Saying) (g : Form) (variables : List Variable) → Builds M head rules fits guard start mid p → Builds M head rules fits guard mid steps (Names M.relations g)
         → ((ws : List Variable) (ks : List Mark) → p ws ks → AllByRecursion (Contains ws) variables) → AllByRecursion (Contains variables) (free g)
         → p room most × Names M.relations g room most
-        → Builds M head fits guard start (minus (length mid) M steps) (λ ws ks. p ws ks × Names M.relations g ws ks)
+        → Builds M head rules fits guard start (minus (length mid) M steps) (λ ws ks. p ws ks × Names M.relations g ws ks)
     minuses start mid steps p g variables m n known covered inside =
         let a : Form = formula_at steps (length mid) in
         let b : Form = formula_at steps (length steps) in
         let f : Form = conjunction (form a (form (negation b) no_forms)) in
-        let e : a ≡ formula_at mid (length mid) = kept_formula M head fits guard mid steps (Names M.relations g) (length mid) n (omega arith) in
+        let e : a ≡ formula_at mid (length mid) = kept_formula M head rules fits guard mid steps (Names M.relations g) (length mid) n (omega arith) in
         let first : (ws : List Variable) (ks : List Mark) → Names M.relations a ws ks ↔ p ws ks = λ ws ks. subst (λ h. Names M.relations h ws ks ↔ p ws ks) (sym e) (m.names ws ks) in
         let names : (ws : List Variable) (ks : List Mark) → Names M.relations f ws ks ↔ (p ws ks × Names M.relations g ws ks) =
         λ ws ks. let two = two_named M.relations ws ks a (negation b) no_forms in ((λ h. let x = two.0 h in ((first ws ks).0 x.0, (n.names ws ks).0 x.1.0)), λ h. two.1 ((first ws ks).1 h.0, ((n.names ws ks).1 h.1, (tt, tt)))) in
         let all : AllByRecursion (Contains (free a)) variables = known (free a) (marks a M.relations) ((first (free a) (marks a M.relations)).0 (names_self M.relations a)) in
         let part : AllByRecursion (Contains (free a)) (free g) = all_from (Contains (free a)) variables (free g) covered all in
         let taken : AllByRecursion (Contains (free a)) (free b) = ((n.names (free a) (marks g M.relations)).1 (part, all_self (marks g M.relations))).0 in
-        by_both M head fits guard start mid steps p (Names M.relations g) _ (Minus (length mid) (length steps)) f m n
+        by_both M head rules fits guard start mid steps p (Names M.relations g) _ (Minus (length mid) (length steps)) f m n
         (λ c ks new.
         let r : max (reach_at steps (length mid)) (reach_at steps (length steps)) + 2 * period M.relations f ≤ c = new.0 in
         let x = (all_append (Contains ks) (marks a M.relations) (marks_each (form (negation b) no_forms) M.relations)).0 new.1 in
@@ -130,6 +133,7 @@ module _ (M : Structure) (head : HeadStep) (fits : List Variable → Type 0) (gu
         (record {
           operands = (let g : length start < length mid = m.grown in let h : length mid < length steps = n.grown in ((omega arith, omega arith), ((omega arith, omega arith), tt)));
           formula = refl;
+          drop = tt;
           variables = λ v c. all_of (Contains (free a)) (free b) v taken c;
         })
         (fits_within f room most roomy ((names room most).1 inside))
@@ -148,7 +152,7 @@ module _ (M : Structure) (head : HeadStep) (fits : List Variable → Type 0) (gu
 
   -- the element's rule builds steps that name what the element names, and its variables fit
   abbrev pub IsBuilt : Element → Type 0
-  IsBuilt e = (steps : Steps) → Builds M head fits guard steps (e.rule M steps) (Names M.relations e.formula)
+  IsBuilt e = (steps : Steps) → Builds M head rules fits guard steps (e.rule M steps) (Names M.relations e.formula)
 
   -- the result so far and what is left name together what p says
   pub record IsOnTheWay (start : Steps) (count : ℕ) (p : List Variable → List Mark → Type 0) (state : State) : Type 0 where
@@ -156,7 +160,7 @@ module _ (M : Structure) (head : HeadStep) (fits : List Variable → Type 0) (gu
     pub negations : AllByRecursion IsBuilt state.negations
     pub last : state.taken.some ≡ true → state.taken.result ≡ length state.steps
     pub fresh : state.taken.some ≡ false → state.steps ≡ start
-    pub built : state.taken.some ≡ true → Builds M head fits guard start state.steps (LastNames state.steps)
+    pub built : state.taken.some ≡ true → Builds M head rules fits guard start state.steps (LastNames state.steps)
     pub idle : state.taken.some ≡ false → length state.positives + length state.tests + length state.negations ≡ count
     pub names : (ws : List Variable) (ks : List Mark) → (Where state.taken.some (LastNames state.steps ws ks) × Left state.positives state.tests state.negations ws ks) ↔ p ws ks
     pub known : (ws : List Variable) (ks : List Mark) → Where state.taken.some (LastNames state.steps ws ks) → AllByRecursion (Contains ws) state.taken.variables
@@ -164,37 +168,37 @@ module _ (M : Structure) (head : HeadStep) (fits : List Variable → Type 0) (gu
   module _ (room : List Variable) (most : List Mark) (roomy : fits room) where
     -- the steps after an element g was taken in: the result so far, the element and the carried tests
     taken_builds : (start mid steps : Steps) (some : Bool) (result : ℕ) (g : Form) (variables : List Variable) (ts : List Test)
-        → (some ≡ true → result ≡ length mid) → (some ≡ false → mid ≡ start) → (some ≡ true → Builds M head fits guard start mid (LastNames mid)) → Builds M head fits guard mid steps (Names M.relations g)
+        → (some ≡ true → result ≡ length mid) → (some ≡ false → mid ≡ start) → (some ≡ true → Builds M head rules fits guard start mid (LastNames mid)) → Builds M head rules fits guard mid steps (Names M.relations g)
         → ((ws : List Variable) (ks : List Mark) → Where some (LastNames mid ws ks) → Names M.relations g ws ks → AllByRecursion (Contains ws) variables) → AllByRecursion (λ t. AllByRecursion (Contains variables) (variables_of_test t)) ts
         → (Where some (LastNames mid room most) × Names M.relations g room most) × AllByRecursion (NamesTest M.relations room most) ts
-        → Builds M head fits guard start (cond some (join result ts M steps) (select_each ts M steps)) (λ ws ks. (Where some (LastNames mid ws ks) × Names M.relations g ws ks) × AllByRecursion (NamesTest M.relations ws ks) ts)
+        → Builds M head rules fits guard start (cond some (join result ts M steps) (select_each ts M steps)) (λ ws ks. (Where some (LastNames mid ws ks) × Names M.relations g ws ks) × AllByRecursion (NamesTest M.relations ws ks) ts)
     taken_builds start mid steps true result g variables ts last fresh m n known covered inside =
-        subst (λ l. Builds M head fits guard start (join l ts M steps) (λ ws ks. (LastNames mid ws ks × Names M.relations g ws ks) × AllByRecursion (NamesTest M.relations ws ks) ts)) (sym (last refl))
+        subst (λ l. Builds M head rules fits guard start (join l ts M steps) (λ ws ks. (LastNames mid ws ks × Names M.relations g ws ks) × AllByRecursion (NamesTest M.relations ws ks) ts)) (sym (last refl))
         (joins room most roomy start mid steps (LastNames mid) (Names M.relations g) variables ts (m refl) n known covered inside)
     taken_builds start mid steps false result g variables ts last fresh m n known covered inside =
-        subst (λ s. Builds M head fits guard s (select_each ts M steps) (λ ws ks. (Unit {0} × Names M.relations g ws ks) × AllByRecursion (NamesTest M.relations ws ks) ts)) (fresh refl)
-        (same_builds M head fits guard mid (select_each ts M steps) (λ ws ks. Names M.relations g ws ks × AllByRecursion (NamesTest M.relations ws ks) ts) _
+        subst (λ s. Builds M head rules fits guard s (select_each ts M steps) (λ ws ks. (Unit {0} × Names M.relations g ws ks) × AllByRecursion (NamesTest M.relations ws ks) ts)) (fresh refl)
+        (same_builds M head rules fits guard mid (select_each ts M steps) (λ ws ks. Names M.relations g ws ks × AllByRecursion (NamesTest M.relations ws ks) ts) _
         (selects room most roomy mid steps (Names M.relations g) variables ts n (λ ws ks h. known ws ks tt h) covered (inside.0.1, inside.1))
         (λ ws ks. ((λ h. ((tt, h.0), h.1)), λ h. (h.0.1, h.1))))
 
     -- the steps after a negation of g was taken in
     negated_builds : (start mid steps : Steps) (covered some : Bool) (result : ℕ) (g : Form) (variables : List Variable)
-        → (covered ≡ true → some ≡ true) → (some ≡ true → result ≡ length mid) → (some ≡ false → mid ≡ start) → (some ≡ true → Builds M head fits guard start mid (LastNames mid)) → Builds M head fits guard mid steps (Names M.relations g)
+        → (covered ≡ true → some ≡ true) → (some ≡ true → result ≡ length mid) → (some ≡ false → mid ≡ start) → (some ≡ true → Builds M head rules fits guard start mid (LastNames mid)) → Builds M head rules fits guard mid steps (Names M.relations g)
         → ((ws : List Variable) (ks : List Mark) → Where some (LastNames mid ws ks) → AllByRecursion (Contains ws) variables) → (covered ≡ true → AllByRecursion (Contains variables) (free g))
         → Where some (LastNames mid room most) × Names M.relations g room most
-        → Builds M head fits guard start (cond covered (minus result M steps) (cond some (join result [] M (complement M steps)) (complement M steps))) (λ ws ks. Where some (LastNames mid ws ks) × Names M.relations g ws ks)
+        → Builds M head rules fits guard start (cond covered (minus result M steps) (cond some (join result [] M (complement M steps)) (complement M steps))) (λ ws ks. Where some (LastNames mid ws ks) × Names M.relations g ws ks)
     negated_builds start mid steps true true result g variables c last fresh m n known covered inside =
-        subst (λ l. Builds M head fits guard start (minus l M steps) (λ ws ks. LastNames mid ws ks × Names M.relations g ws ks)) (sym (last refl))
+        subst (λ l. Builds M head rules fits guard start (minus l M steps) (λ ws ks. LastNames mid ws ks × Names M.relations g ws ks)) (sym (last refl))
         (minuses room most roomy start mid steps (LastNames mid) g variables (m refl) n known (covered refl) inside)
     negated_builds start mid steps true false result g variables c last fresh m n known covered inside = let e : false ≡ true = c refl in cc
     negated_builds start mid steps false true result g variables c last fresh m n known covered inside =
-        subst (λ l. Builds M head fits guard start (join l [] M (complement M steps)) (λ ws ks. LastNames mid ws ks × Names M.relations g ws ks)) (sym (last refl))
-        (same_builds M head fits guard start (join (length mid) [] M (complement M steps)) (λ ws ks. (LastNames mid ws ks × Names M.relations g ws ks) × Unit {0}) _
+        subst (λ l. Builds M head rules fits guard start (join l [] M (complement M steps)) (λ ws ks. LastNames mid ws ks × Names M.relations g ws ks)) (sym (last refl))
+        (same_builds M head rules fits guard start (join (length mid) [] M (complement M steps)) (λ ws ks. (LastNames mid ws ks × Names M.relations g ws ks) × Unit {0}) _
         (joins room most roomy start mid (complement M steps) (LastNames mid) (Names M.relations g) [] [] (m refl) (complement_builds mid steps g n (fits_within g room most roomy inside.1)) (λ ws ks h k. tt) tt (inside, tt))
         (λ ws ks. ((λ h. h.0), λ h. (h, tt))))
     negated_builds start mid steps false false result g variables c last fresh m n known covered inside =
-        subst (λ s. Builds M head fits guard s (complement M steps) (λ ws ks. Unit {0} × Names M.relations g ws ks)) (fresh refl)
-        (same_builds M head fits guard mid (complement M steps) (Names M.relations g) _ (complement_builds mid steps g n (fits_within g room most roomy inside.1)) (λ ws ks. ((λ h. (tt, h)), λ h. h.1)))
+        subst (λ s. Builds M head rules fits guard s (complement M steps) (λ ws ks. Unit {0} × Names M.relations g ws ks)) (fresh refl)
+        (same_builds M head rules fits guard mid (complement M steps) (Names M.relations g) _ (complement_builds mid steps g n (fits_within g room most roomy inside.1)) (λ ws ks. ((λ h. (tt, h)), λ h. h.1)))
 
     module _ (start : Steps) (count : ℕ) (p : List Variable → List Mark → Type 0) (inside : p room most) where
       -- a test that is covered, or is not
@@ -210,10 +214,10 @@ module _ (M : Structure) (head : HeadStep) (fits : List Variable → Type 0) (gu
 
       -- an element g is taken in
       taken_in : (g : Form) (steps : Steps) (state : State) → AllByRecursion IsBuilt state.positives → AllByRecursion IsBuilt state.negations
-          → (state.taken.some ≡ true → state.taken.result ≡ length state.steps) → (state.taken.some ≡ false → state.steps ≡ start) → (state.taken.some ≡ true → Builds M head fits guard start state.steps (LastNames state.steps))
+          → (state.taken.some ≡ true → state.taken.result ≡ length state.steps) → (state.taken.some ≡ false → state.steps ≡ start) → (state.taken.some ≡ true → Builds M head rules fits guard start state.steps (LastNames state.steps))
           → ((ws : List Variable) (ks : List Mark) → (Where state.taken.some (LastNames state.steps ws ks) × (Names M.relations g ws ks × Left state.positives state.tests state.negations ws ks)) ↔ p ws ks)
           → ((ws : List Variable) (ks : List Mark) → Where state.taken.some (LastNames state.steps ws ks) → AllByRecursion (Contains ws) state.taken.variables)
-          → Builds M head fits guard state.steps steps (Names M.relations g) → IsOnTheWay start count p (take_in M g steps state)
+          → Builds M head rules fits guard state.steps steps (Names M.relations g) → IsOnTheWay start count p (take_in M g steps state)
       taken_in g steps state ps ns last fresh built names known m =
           let variables : List Variable = state.taken.variables ++ free g in
           let covered : Test → Bool = λ t. are_among (free (test t)) variables in
@@ -224,14 +228,14 @@ module _ (M : Structure) (head : HeadStep) (fits : List Variable → Type 0) (gu
           λ ws ks a b. (all_append (Contains ws) state.taken.variables (free g)).1 (known ws ks a, b.0) in
           let split : (ws : List Variable) (ks : List Mark) → AllByRecursion (NamesTest M.relations ws ks) state.tests ↔ (AllByRecursion (NamesTest M.relations ws ks) carried × AllByRecursion (NamesTest M.relations ws ks) (filter (λ t. not (covered t)) state.tests)) =
           λ ws ks. split_all (NamesTest M.relations ws ks) covered state.tests in
-          let n : Builds M head fits guard start after (λ ws ks. (Where state.taken.some (LastNames state.steps ws ks) × Names M.relations g ws ks) × AllByRecursion (NamesTest M.relations ws ks) carried) =
+          let n : Builds M head rules fits guard start after (λ ws ks. (Where state.taken.some (LastNames state.steps ws ks) × Names M.relations g ws ks) × AllByRecursion (NamesTest M.relations ws ks) carried) =
           taken_builds start state.steps steps state.taken.some state.taken.result g variables carried last fresh built m of_all (covered_tests variables state.tests) ((here.0, here.1.0), ((split room most).0 here.1.1.1.0).0) in
           record {
             positives = ps;
             negations = ns;
             last = λ e. refl;
             fresh = λ e. cc;
-            built = λ e. same_builds M head fits guard start after _ (LastNames after) n (λ ws ks. ((λ h. (n.names ws ks).1 h), λ h. (n.names ws ks).0 h));
+            built = λ e. same_builds M head rules fits guard start after _ (LastNames after) n (λ ws ks. ((λ h. (n.names ws ks).1 h), λ h. (n.names ws ks).0 h));
             idle = λ e. cc;
             names = λ ws ks. (
               (λ h. let w = (n.names ws ks).0 h.0 in (names ws ks).0 (w.0.0, (w.0.1, (h.1.0, ((split ws ks).1 (w.1, h.1.1.0), h.1.1.1))))),
@@ -261,7 +265,7 @@ module _ (M : Structure) (head : HeadStep) (fits : List Variable → Type 0) (gu
             λ a. let h = (w.names ws ks).1 a in let u = subst (AllByRecursion (NamesTest M.relations ws ks)) e h.1.1.0 in (h.0, (u.0, (h.1.0, (u.1, h.1.1.1)))),
           ))
           w.known
-          (by_first M head fits guard state.steps (Leaf t) (test t) (record { operands = tt; formula = refl; variables = tt }) (fits_within (test t) room most roomy here.0) tt)
+          (by_first M head rules fits guard state.steps (Leaf t) (test t) (record { operands = tt; formula = refl; drop = tt; variables = tt }) (fits_within (test t) room most roomy here.0) tt)
 
       -- a round for a negation
       negation_taken : (i : ℕ) (x : Element) (state : State) → slice_get state.negations i ≡ Some x → IsOnTheWay start count p state → IsOnTheWay start count p (take_negation M i (Some x) state)
@@ -270,7 +274,7 @@ module _ (M : Structure) (head : HeadStep) (fits : List Variable → Type 0) (gu
           let sound = (take_out IsBuilt state.negations i x e).0 w.negations in
           let after : Steps = cond (is_covered state.taken x.formula) (minus state.taken.result M steps) (cond state.taken.some (join state.taken.result [] M (complement M steps)) (complement M steps)) in
           let here = (w.names room most).1 inside in
-          let n : Builds M head fits guard start after (λ ws ks. Where state.taken.some (LastNames state.steps ws ks) × Names M.relations x.formula ws ks) =
+          let n : Builds M head rules fits guard start after (λ ws ks. Where state.taken.some (LastNames state.steps ws ks) × Names M.relations x.formula ws ks) =
           negated_builds start state.steps steps (is_covered state.taken x.formula) state.taken.some state.taken.result x.formula state.taken.variables (and_first _ _) w.last w.fresh w.built (sound.0 state.steps) w.known
           (λ c. are_among_is (free x.formula) state.taken.variables (and_second state.taken.some (are_among (free x.formula) state.taken.variables) c))
           (here.0, ((take_out (λ y. Names M.relations y.formula room most) state.negations i x e).0 here.1.1.1).0) in
@@ -279,7 +283,7 @@ module _ (M : Structure) (head : HeadStep) (fits : List Variable → Type 0) (gu
             negations = sound.1;
             last = λ e. refl;
             fresh = λ e. cc;
-            built = λ e. same_builds M head fits guard start after _ (LastNames after) n (λ ws ks. ((λ h. (n.names ws ks).1 h), λ h. (n.names ws ks).0 h));
+            built = λ e. same_builds M head rules fits guard start after _ (LastNames after) n (λ ws ks. ((λ h. (n.names ws ks).1 h), λ h. (n.names ws ks).0 h));
             idle = λ e. cc;
             names = λ ws ks.
                 let t = take_out (λ y. Names M.relations y.formula ws ks) state.negations i x e in (
@@ -294,16 +298,16 @@ module _ (M : Structure) (head : HeadStep) (fits : List Variable → Type 0) (gu
           and_second false b e = cc
 
       -- nothing is left, so the last step names what p says
-      finished : (state : State) → 0 < count → IsOnTheWay start count p state → length state.positives ≡ 0 → length state.tests ≡ 0 → length state.negations ≡ 0 → Builds M head fits guard start state.steps p
+      finished : (state : State) → 0 < count → IsOnTheWay start count p state → length state.positives ≡ 0 → length state.tests ≡ 0 → length state.negations ≡ 0 → Builds M head rules fits guard start state.steps p
       finished state some w a b c =
           let so : state.taken.some ≡ true = is_true state.taken.some (λ e. let n : length state.positives + length state.tests + length state.negations ≡ count = w.idle e in absurd (omega arith)) in
-          same_builds M head fits guard start state.steps (LastNames state.steps) p (w.built so) (λ ws ks. (
+          same_builds M head rules fits guard start state.steps (LastNames state.steps) p (w.built so) (λ ws ks. (
             (λ s. (w.names ws ks).0 (put_where state.taken.some _ so s, (nothing_left _ state.positives a, (nothing_left _ state.tests b, nothing_left _ state.negations c)))),
             λ x. get_where state.taken.some _ so ((w.names ws ks).1 x).0,
           ))
 
       -- so do the steps of the whole `and`
-      pub all_built : (state : State) → 0 < count → IsOnTheWay start count p state → Builds M head fits guard start (take_all M state) p
+      pub all_built : (state : State) → 0 < count → IsOnTheWay start count p state → Builds M head rules fits guard start (take_all M state) p
       all_built state some w =
           let f : Finishes M (IsOnTheWay start count p) state = all_rounds M (IsOnTheWay start count p) positive_taken test_taken negation_taken state w in
-          subst (λ steps. Builds M head fits guard start steps p) f.is (finished f.last some f.holds f.positives f.tests f.negations)
+          subst (λ steps. Builds M head rules fits guard start steps p) f.is (finished f.last some f.holds f.positives f.tests f.negations)

@@ -1,10 +1,10 @@
 -- Each drop of a data variable is guarded: by a sort element where sorts are named, and else since all texts are of one sort.
 use Rattle.std.proofs.Common.{◌≡◌, ◌↔◌, ⊎_elim, ℕ, Bool, true, false, cond, List, [], ◌∷◌, length, Some, Contains, refl, sym, ap, subst, ◌∙◌, filter, map}
 use Rattle.lrp_model.specs.Texts.{Text, Identifier}
-use Rattle.lrp_model.specs.Rows.{text}
+use Rattle.lrp_model.specs.Rows.{Datum, time, text}
 use Rattle.lrp_model.specs.Formulas.{Form, Forms, Question, atom, test, sorted, negation, conjunction, disjunction, implication, exists, forall, no_forms, form, joined}
 use Rattle.lrp_model.specs.Variables.{free}
-use Rattle.lrp_model.specs.Satisfaction.{Structure, Assignment, Satisfies, with_value, structure}
+use Rattle.lrp_model.specs.Satisfaction.{Structure, Assignment, Satisfies, ForSome, IsOfSort, with_value, structure}
 use Rattle.lrp_model.specs.Domains.{domain, constants, all_texts, same_sort}
 use Rattle.lrp_model.specs.Core.{conjuncts, disjuncts, all_conjuncts, all_disjuncts, and_list, or_list, and_two, positive_test, negative_test, with_sort, positive, negative, positives, negatives, column_elements, head_elements, core_form, has_named_sort, is_named, HasElements}
 use Rattle.lrp_model.specs.Steps.{PlanStep, Steps, step_at, formula_at, step_behind}
@@ -19,7 +19,8 @@ use Rattle.lrp_model.specs.declared.formulas.Test.TheVariants.{Compare, Member, 
 use Rattle.lrp_model.specs.declared.plans.StepKind.TheVariants.{DropData, Extend}
 use Rattle.lrp_model.proofs.Decided.{cons_cases, contains_first, contains_later}
 use Rattle.lrp_model.proofs.DomainLaws.{contains_in_order}
-use Rattle.lrp_plan_laws.specs.Made.{IsDataSort, head_step}
+use Rattle.lrp_plan_laws.specs.Made.{IsDataSort}
+use Rattle.lrp_plan_laws.specs.Settled.{IsTextDrop}
 use Rattle.lrp_plan_laws.specs.Guards.{IsGuarded, BindsPlainly, BindPlainly}
 use Rattle.lrp_plan_laws.proofs.CoreLaws.{and_list_is}
 use Rattle.lrp_plan_laws.proofs.HeadLaws.{own_text, one_domain}
@@ -27,8 +28,11 @@ use Rattle.lrp_plan_laws.proofs.Elements.{step_one_more}
 use Rattle.lrp_plan_laws.proofs.Names.{Names}
 use Rattle.lrp_plan_laws.proofs.PlanSound.{core_of_query}
 use Rattle.lrp_plan_laws.proofs.Builds.{Kept, Builds}
-use Rattle.lrp_plan_laws.proofs.PlanBuilds.{EachGuard, EachOfGuard, builds}
-use Rattle.lrp_plan_laws.proofs.RisingLaws.{Any, any_scope, all_step}
+use Rattle.lrp_plan_laws.proofs.Dropping.{IsDrop}
+use Rattle.lrp_plan_laws.proofs.Fronts.{head_after}
+use Rattle.lrp_plan_laws.proofs.PlanBuilds.{EachGuard, EachOfGuard, IsQuantifier, quantified, builds}
+use Rattle.lrp_plan_laws.proofs.WrittenFront.{Any, any_scope, written_any}
+use Rattle.lrp_plan_laws.proofs.RisingLaws.{plan_made, all_step}
 
 -- ---- the texts of a sort are constants
 
@@ -185,7 +189,7 @@ guards_head M guard [] = tt
 guards_head M guard (c ∷ cs) = guards_joined M guard (column_elements c.sort c.name) (head_elements cs) (guards_column M guard c.sort c.name) (guards_head M guard cs)
 
 -- each quantifier of the core form of a query is guarded
-guards_core : (db : List Relation) (q : Question) (named : Bool) → (named ≡ false → HasNoNamedSorts db q) → (named ≡ false → BindsPlainly q.body) → EachGuard (structure db q) (Guard db q) (core_form named q)
+pub guards_core : (db : List Relation) (q : Question) (named : Bool) → (named ≡ false → HasNoNamedSorts db q) → (named ≡ false → BindsPlainly q.body) → EachGuard (structure db q) (Guard db q) (core_form named q)
 guards_core db q false plain b = guards_positive db q false plain q.body b
 guards_core db q true plain b =
     guards_and (structure db q) (Guard db q) (joined (head_elements q.head) (form (positive q.body true) no_forms))
@@ -194,19 +198,43 @@ guards_core db q true plain b =
 -- ---- each drop of a plan
 
 -- `head` drops nothing
-not_head : (M : Structure) (f : Form) (steps : Steps) (step : PlanStep) (of : ℕ) (v : Identifier) → step_behind M (Extend (length steps)) f steps ≡ step → step.kind ≡ DropData of v → ⊥
+pub not_head : (M : Structure) (f : Form) (steps : Steps) (step : PlanStep) (of : ℕ) (v : Identifier) → step_behind M (Extend (length steps)) f steps ≡ step → step.kind ≡ DropData of v → ⊥
 not_head M f steps step of v e k = let x : Extend (length steps) ≡ DropData of v = ap (λ x. x.kind) e ∙ k in cc
 
--- each drop of a data variable is guarded
+-- a text of the sort is a value of it
+of_sort : (M : Structure) (s : Sort) (t : Text) → IsDataSort s → Contains (M.domain s) t → IsOfSort M s (text t)
+of_sort M Time t d c = absurd d
+of_sort M Data t d c = c
+of_sort M (Named name) t d c = c
+
+-- and a value of the sort is a text of it
+text_of : (M : Structure) (s : Sort) (x : Datum) (p : Datum → Type 0) → IsDataSort s → IsOfSort M s x → p x → (t : Text) × Contains (M.domain s) t × p (text t)
+text_of M Time x p d of h = absurd d
+text_of M Data (time x) p d of h = absurd of
+text_of M Data (text t) p d of h = (t, of, h)
+text_of M (Named name) (time x) p d of h = absurd of
+text_of M (Named name) (text t) p d of h = (t, of, h)
+
+-- a guarded quantifier holds exactly where some constant completes a member
+pub by_constants : (ds : List Text) (M : Structure) (v : Identifier) (s : Sort) (f : Form) → IsDataSort s → IsGuarded ds M v s f → (env : Assignment)
+    → Satisfies (exists v s f) M env ↔ ForSome (λ t. Contains ds t × Satisfies f M (with_value v (text t) env))
+by_constants ds M v s f d g env = (
+  (λ h none. h (λ x k. let y = text_of M s x (λ u. Satisfies f M (with_value v u env)) d k.0 k.1 in none y.0 (g.known y.0 y.1, y.2))),
+  λ h none. h (λ t k. none (text t) (of_sort M s t d (g.guards env t k.0 k.1), k.1)),
+)
+
+-- each drop of texts of a query's plan as it is written is a guarded one
 pub drops_guarded : (db : List Relation) (q : Question) → HasElements q.body → (has_named_sort db ≡ false → HasNoNamedSorts db q × BindsPlainly q.body)
-    → (s : ℕ) (step : PlanStep) → step_at (plan db q) s ≡ Some step → (of : ℕ) (v : Identifier) (t : Sort) → step.kind ≡ DropData of v → IsDataSort t → step.formula ≡ exists v t (formula_at (plan db q) of)
-    → IsGuarded (constants db q) (structure db q) v t (formula_at (plan db q) of)
-drops_guarded db q some plain s step e of v t kind data_sort formula =
+    → (s : ℕ) (step : PlanStep) → step_at (plan db q) s ≡ Some step → IsTextDrop (plan db q) db q step
+drops_guarded db q some plain s step e of v kind =
     let core : Form = core_form (has_named_sort db) q in
     let steps : Steps = core_steps db q in
-    let b : Builds (structure db q) (head_step db q) Any (Guard db q) [] steps (Names db core) =
-    builds (structure db q) (head_step db q) Any (Guard db q) (λ vs ws c x. tt) core (core_of_query (has_named_sort db) q some) (any_scope core) (guards_core db q (has_named_sort db) (λ n. (plain n).0) (λ n. (plain n).1)) [] in
+    let M : Structure = structure db q in
+    let b : Builds M (head_after db q steps) quantified Any (Guard db q) [] steps (Names db core) =
+    builds M (head_after db q steps) Any (Guard db q) (λ vs ws c x. tt) core (core_of_query (has_named_sort db) q some) (any_scope core) (guards_core db q (has_named_sort db) (λ n. (plain n).0) (λ n. (plain n).1)) [] in
+    let drop : IsQuantifier v (formula_at (plan db q) of) step.formula = subst (λ k. IsDrop quantified (formula_at (plan db q)) k step.formula) kind (plan_made db q quantified Any steps (written_any db q some) s step e).drop in
     ⊎_elim
-    (λ h. subst (Kept (Guard db q)) formula (all_step (λ x. Any (free x.formula) × Kept (Guard db q) x.formula) steps s step h.1 (b.fitting tt)).1 data_sort)
-    (λ h. absurd (not_head (structure db q) _ steps step of v h.1 kind))
+    (λ h. let g : IsGuarded (constants db q) M v drop.0 (formula_at (plan db q) of) = subst (Kept (Guard db q)) drop.2 (all_step (λ x. Any (free x.formula) × Kept (Guard db q) x.formula) steps s step h.1 (b.fitting tt)).1 drop.1 in
+    λ env. subst (λ f. Satisfies f M env ↔ ForSome (λ t. Contains (constants db q) t × Satisfies (formula_at (plan db q) of) M (with_value v (text t) env))) (sym drop.2) (by_constants (constants db q) M v drop.0 (formula_at (plan db q) of) drop.1 g env))
+    (λ h. absurd (not_head M _ steps step of v h.1 kind))
     (step_one_more steps _ step s e)

@@ -8,14 +8,15 @@ use Rattle.lrp_model.specs.Formulas.{Question, no_forms, form, joined}
 use Rattle.lrp_model.specs.Satisfaction.{Structure, Assignment, Satisfies, SatisfiesAll, IsOfSort, IsOfKind, HasShape, HaveDistinctNames, with_value, assign, assignment, structure, IsAnswer}
 use Rattle.lrp_model.specs.Core.{column_elements, head_elements, guarded, has_named_sort, is_named}
 use Rattle.lrp_model.specs.Domains.{same_sort, domain, constants, all_texts}
-use Rattle.lrp_model.specs.Steps.{formula_at}
-use Rattle.lrp_model.specs.Plans.{plan, core_steps, HasNoNamedSorts}
+use Rattle.lrp_model.specs.Steps.{Steps, formula_at}
+use Rattle.lrp_model.specs.Plans.{HasNoNamedSorts}
 use Rattle.lrp_plan_laws.proofs.Elements.{formula_made}
 use Rattle.lrp_model.specs.declared.relations.Sort.{Sort}
 use Rattle.lrp_model.specs.declared.relations.Sort.TheVariants.{Time, Data, Named}
 use Rattle.lrp_model.specs.declared.relations.Column.{Column}
 use Rattle.lrp_model.specs.declared.relations.Relation.{Relation}
 use Rattle.lrp_model.proofs.Logic.{same}
+use Rattle.lrp_plan_laws.proofs.Fronts.{closed}
 use Rattle.lrp_plan_laws.proofs.CoreLaws.{all_joined, own_name}
 
 is_false : (b : Bool) → (b ≡ true → ⊥) → b ≡ false
@@ -104,8 +105,8 @@ by_named true db q tuple plain n k h = head_named db q tuple n k
 by_named false db q tuple plain n k h = head_plain db q tuple (fits_plain db q (plain refl) q.head tuple (plain refl).head k h)
 
 -- the formula of the last step holds for exactly the answers, among the tuples of the head's shape whose texts are constants
-pub last_is : (db : List Relation) (q : Question) (tuple : List Datum) → (has_named_sort db ≡ false → HasNoNamedSorts db q) → HaveDistinctNames q.head → HasShape q.head tuple → AllByRecursion (Contains (constants db q)) (texts_of tuple)
-    → Satisfies (formula_at (plan db q) (length (plan db q))) (structure db q) (assignment q.head tuple) ↔ IsAnswer db q tuple
-last_is db q tuple plain n k h =
-    subst (λ f. Satisfies f (structure db q) (assignment q.head tuple) ↔ IsAnswer db q tuple) (sym (formula_made (structure db q) _ (guarded (has_named_sort db) q.head q.body) (core_steps db q)))
+pub last_is : (db : List Relation) (q : Question) (front : Steps) (tuple : List Datum) → (has_named_sort db ≡ false → HasNoNamedSorts db q) → HaveDistinctNames q.head → HasShape q.head tuple → AllByRecursion (Contains (constants db q)) (texts_of tuple)
+    → Satisfies (formula_at (closed db q front) (length (closed db q front))) (structure db q) (assignment q.head tuple) ↔ IsAnswer db q tuple
+last_is db q front tuple plain n k h =
+    subst (λ f. Satisfies f (structure db q) (assignment q.head tuple) ↔ IsAnswer db q tuple) (sym (formula_made (structure db q) _ (guarded (has_named_sort db) q.head q.body) front))
     (by_named (has_named_sort db) db q tuple plain n k h)

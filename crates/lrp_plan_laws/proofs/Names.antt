@@ -17,7 +17,7 @@ use Rattle.lrp_plan_laws.proofs.Marks.{Mark, marks, marks_each}
 -- ---- tests on variables
 
 -- variables that pass as the same are the same
-same_is : (v w : Variable) → same_variable v w ≡ true → v ≡ w
+pub same_is : (v w : Variable) → same_variable v w ≡ true → v ≡ w
 same_is (time_variable v) (time_variable w) e = ap time_variable ((bytes_decides v w).0 e)
 same_is (data_variable v) (data_variable w) e = ap data_variable ((bytes_decides v w).0 e)
 same_is (time_variable v) (data_variable w) e = cc
@@ -34,7 +34,7 @@ any_cons v w ws true e rest h = subst (Contains (w ∷ ws)) (sym (same_is v w e)
 any_cons v w ws false e rest h = contains_later w v ws (rest h)
 
 -- a variable that passes as one of a list is one of it
-is_among_is : (ws : List Variable) (v : Variable) → is_among ws v ≡ true → Contains ws v
+pub is_among_is : (ws : List Variable) (v : Variable) → is_among ws v ≡ true → Contains ws v
 is_among_is [] v e = cc
 is_among_is (w ∷ ws) v e = any_cons v w ws (same_variable v w) refl (is_among_is ws v) e
 

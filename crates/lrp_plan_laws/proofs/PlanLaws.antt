@@ -53,7 +53,7 @@ chain M before mid after p q m n = record {
   says = n.says;
 }
 
-tests_are : (M : Structure) (env : Assignment) (ts : List Test) → SatisfiesAll (tests_as_forms ts) M env ↔ AllByRecursion (Passes env) ts
+pub tests_are : (M : Structure) (env : Assignment) (ts : List Test) → SatisfiesAll (tests_as_forms ts) M env ↔ AllByRecursion (Passes env) ts
 tests_are M env [] = ((λ h. tt), λ h. tt)
 tests_are M env (t ∷ ts) = let r : SatisfiesAll (tests_as_forms ts) M env ↔ AllByRecursion (Passes env) ts = tests_are M env ts in ((λ h. (h.0, r.0 h.1)), λ h. (h.0, r.1 h.1))
 

@@ -23,7 +23,7 @@ use Rattle.lrp_plan_laws.proofs.PlanLaws.{Makes, by_first, by_next, same_saying,
 
 -- ---- the elements of an `and`, in whatever order
 
-put_all : {X : Type 0} (p : X → Type 0) (b : Bool) (e f : X) (fs gs : List X) → AllByRecursion p gs ↔ (p e × AllByRecursion p fs) → AllByRecursion p (cond b (e ∷ f ∷ fs) (f ∷ gs)) ↔ (p e × AllByRecursion p (f ∷ fs))
+pub put_all : {X : Type 0} (p : X → Type 0) (b : Bool) (e f : X) (fs gs : List X) → AllByRecursion p gs ↔ (p e × AllByRecursion p fs) → AllByRecursion p (cond b (e ∷ f ∷ fs) (f ∷ gs)) ↔ (p e × AllByRecursion p (f ∷ fs))
 put_all p true e f fs gs r = same
 put_all p false e f fs gs r = ((λ h. ((r.0 h.1).0, (h.0, (r.0 h.1).1))), λ h. (h.1.0, r.1 (h.0, h.1.1)))
 

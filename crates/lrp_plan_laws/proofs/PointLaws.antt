@@ -2,21 +2,26 @@
 use Rattle.std.proofs.Common.{◌≡◌, ℕ, List, [], ◌∷◌, ◌++◌, Some, flat_map, Contains, refl, sym, ap, subst, ◌∙◌}
 use Rattle.std.specs.List.{AllByRecursion}
 use Rattle.lrp_model.specs.Formulas.{Form, Question}
+use Rattle.lrp_model.specs.Variables.{Variable}
 use Rattle.lrp_model.specs.Satisfaction.{Structure, structure}
+use Rattle.lrp_model.specs.Steps.{PlanStep, Steps, step_at, formula_at, tests_as_forms}
 use Rattle.lrp_model.specs.Core.{HasElements}
-use Rattle.lrp_model.specs.Steps.{PlanStep, step_at, formula_at, tests_as_forms}
-use Rattle.lrp_model.specs.Plans.{plan}
+use Rattle.lrp_model.specs.Plans.{plan, core_steps}
 use Rattle.lrp_model.specs.declared.relations.Relation.{Relation}
 use Rattle.lrp_model.specs.declared.relations.RowPoint.{RowPoint}
 use Rattle.lrp_model.specs.declared.formulas.Test.{Test}
 use Rattle.lrp_model.specs.declared.plans.StepKind.{StepKind}
 use Rattle.lrp_model.specs.declared.plans.StepKind.TheVariants.{Scan, Leaf, Sort as SortStep, Join, Select, Union, Minus, Complement, DropTime, DropData, Extend}
 use Rattle.lrp_model.proofs.Logic.{all_append}
-use Rattle.lrp_plan_laws.specs.Made.{HeadStep, IsFormula, IsMade, head_step}
+use Rattle.lrp_plan_laws.specs.Made.{HeadStep, IsFormula, IsMade}
 use Rattle.lrp_model.specs.TestPoints.{test_points, points, points_each}
 use Rattle.lrp_plan_laws.specs.Points.{step_points}
 use Rattle.lrp_plan_laws.proofs.Marks.{marked_points}
 use Rattle.lrp_plan_laws.proofs.Members.{all_self, all_from}
+use Rattle.lrp_plan_laws.proofs.Dropping.{Rules}
+use Rattle.lrp_plan_laws.proofs.PlanBuilds.{quantified}
+use Rattle.lrp_plan_laws.proofs.WrittenFront.{Any, written_any}
+use Rattle.lrp_plan_laws.proofs.Fronts.{IsFront, closed, head_after}
 use Rattle.lrp_plan_laws.proofs.RisingLaws.{plan_made, step_marks}
 
 -- the points of tests are those of the tests as formulas
@@ -52,8 +57,12 @@ own_points M head at (DropData of v) f h = tt
 own_points M head at (Extend of) f h = tt
 
 -- and the body's
+pub front_points : (db : List Relation) (q : Question) (rules : Rules) (fits : List Variable → Type 0) (front : Steps) → IsFront db q rules fits front → (s : ℕ) (step : PlanStep) → step_at (closed db q front) s ≡ Some step → AllByRecursion (Contains (points q.body)) (step_points step.kind)
+front_points db q rules fits front w s step e =
+    let m : IsMade (structure db q) (head_after db q front) (closed db q front) s step = (plan_made db q rules fits front w s step e).made in
+    let own : AllByRecursion (Contains (points step.formula)) (step_points step.kind) = own_points (structure db q) (head_after db q front) (formula_at (closed db q front)) step.kind step.formula m.formula in
+    all_from (Contains (points q.body)) (points step.formula) (step_points step.kind) own (marked_points step.formula q.body db (step_marks db q rules fits front w s step e))
+
+-- also those of a plan as it is written
 pub points_known : (db : List Relation) (q : Question) → HasElements q.body → (s : ℕ) (step : PlanStep) → step_at (plan db q) s ≡ Some step → AllByRecursion (Contains (points q.body)) (step_points step.kind)
-points_known db q some s step e =
-    let m : IsMade (structure db q) (head_step db q) (plan db q) s step = plan_made db q some s step e in
-    let own : AllByRecursion (Contains (points step.formula)) (step_points step.kind) = own_points (structure db q) (head_step db q) (formula_at (plan db q)) step.kind step.formula m.formula in
-    all_from (Contains (points q.body)) (points step.formula) (step_points step.kind) own (marked_points step.formula q.body db (step_marks db q some s step e))
+points_known db q some s step e = front_points db q quantified Any (core_steps db q) (written_any db q some) s step e

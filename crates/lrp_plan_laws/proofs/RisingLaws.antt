@@ -3,10 +3,10 @@ use Rattle.std.proofs.Common.{◌≡◌, ◌↔◌, ◌≤◌, ◌<◌, ◌+◌,
 use Rattle.std.specs.Prelude.{MatchOption, max, map, nat_abs}
 use Rattle.std.specs.List.{AllByRecursion}
 use Rattle.lrp_model.specs.Texts.{Identifier}
-use Rattle.lrp_model.specs.Formulas.{Form, Forms, Question, atom, test, sorted, negation, conjunction, disjunction, implication, exists, forall, no_forms, form, joined}
+use Rattle.lrp_model.specs.Formulas.{Form, Forms, Question, atom, test, conjunction, exists, no_forms, form, joined}
 use Rattle.lrp_model.specs.Variables.{Variable, free, head_variables}
 use Rattle.lrp_model.specs.Satisfaction.{Structure, structure}
-use Rattle.lrp_model.specs.Core.{core_form, guarded, has_named_sort, column_elements, head_elements, HasElements}
+use Rattle.lrp_model.specs.Core.{guarded, has_named_sort, column_elements, head_elements, HasElements}
 use Rattle.lrp_theory.specs.Divides.{IsMultiple}
 use Rattle.lrp_model.specs.Periods.{lcm_all, test_periods, periods, periods_each, period}
 use Rattle.lrp_model.specs.Reach.{step_reach, greatest, test_reach}
@@ -21,94 +21,39 @@ use Rattle.lrp_model.specs.declared.formulas.Test.TheVariants.{Compare, Member, 
 use Rattle.lrp_model.specs.declared.plans.StepKind.{StepKind}
 use Rattle.lrp_model.specs.declared.plans.StepKind.TheVariants.{Scan, Leaf, Sort as SortStep, Join, Select, Union, Minus, Complement, DropTime, DropData, Extend}
 use Rattle.lrp_model.proofs.Logic.{all_append}
-use Rattle.lrp_plan_laws.specs.Made.{HeadStep, IsEarlier, operands, IsFormula, IsMade, head_step}
-use Rattle.lrp_plan_laws.specs.Scopes.{EachScope, EachOfScope}
+use Rattle.lrp_plan_laws.specs.Made.{HeadStep, IsEarlier, operands, IsFormula, IsMade}
 use Rattle.lrp_plan_laws.specs.Rising.{period_at, HasPeriods, named_periods, natural_test_period, KeepsPeriod, IsRising}
 use Rattle.lrp_plan_laws.proofs.Elements.{found, within, formula_front, step_made, reach_made, period_made}
 use Rattle.lrp_plan_laws.proofs.Names.{Names, names_self}
 use Rattle.lrp_plan_laws.proofs.Marks.{Mark, marks, marked_periods}
 use Rattle.lrp_theory.proofs.Multiples.{multiple_le}
 use Rattle.lrp_plan_laws.proofs.PeriodLaws.{lcm_all_is, lcm_positive, lcm_part, lcm_alone, lcm_same, lcm_one}
-use Rattle.lrp_plan_laws.proofs.PlanSound.{core_of_query}
-use Rattle.lrp_plan_laws.proofs.Builds.{AreMade, AreUnder, IsUnder, LastIsUnder, Builds, made_more}
-use Rattle.lrp_plan_laws.proofs.PlanBuilds.{EachGuard, EachOfGuard, builds}
+use Rattle.lrp_plan_laws.proofs.Builds.{AreMade, AreUnder, IsUnder, LastIsUnder, made_more}
+use Rattle.lrp_plan_laws.proofs.Dropping.{Rules, IsDrop}
+use Rattle.lrp_plan_laws.proofs.PlanBuilds.{quantified}
+use Rattle.lrp_plan_laws.proofs.WrittenFront.{Any, written_any}
+use Rattle.lrp_plan_laws.proofs.Fronts.{IsFront, closed, head_after}
 use Rattle.lrp_plan_laws.proofs.CoreNames.{core_named, guarded_within}
 use Rattle.lrp_plan_laws.proofs.Members.{all_of, all_self, all_from, all_map}
 
--- ---- the steps of a query
-
--- any variables will do
-abbrev pub Any : List Variable → Type 0
-Any vs = Unit {0}
-
--- and no guard is asked for
-abbrev pub Unguarded : Identifier → Sort → Form → Type 0
-Unguarded v s f = Unit {0}
-
-mutual
-  -- each part of a formula has such variables
-  pub any_scope : (f : Form) → EachScope Any f
-  any_scope (atom name terms) = tt
-  any_scope (test t) = tt
-  any_scope (sorted s v) = tt
-  any_scope (negation f) = any_scope f
-  any_scope (conjunction fs) = (tt, any_scopes fs)
-  any_scope (disjunction fs) = (tt, any_scopes fs)
-  any_scope (implication f g) = (tt, (any_scope f, any_scope g))
-  any_scope (exists v s f) = (tt, any_scope f)
-  any_scope (forall v s f) = (tt, any_scope f)
-
-  -- and of a list
-  pub any_scopes : (fs : Forms) → EachOfScope Any fs
-  any_scopes no_forms = tt
-  any_scopes (form f fs) = (any_scope f, any_scopes fs)
-
-mutual
-  -- each quantifier of a formula is guarded so
-  pub unguarded : (M : Structure) (f : Form) → EachGuard M Unguarded f
-  unguarded M (atom name terms) = tt
-  unguarded M (test t) = tt
-  unguarded M (sorted s v) = tt
-  unguarded M (negation f) = unguarded M f
-  unguarded M (conjunction fs) = all_unguarded M fs
-  unguarded M (disjunction fs) = all_unguarded M fs
-  unguarded M (implication f g) = (unguarded M f, unguarded M g)
-  unguarded M (exists v s f) = ((λ a says. tt), unguarded M f)
-  unguarded M (forall v s f) = tt
-
-  -- and of a list
-  pub all_unguarded : (M : Structure) (fs : Forms) → EachOfGuard M Unguarded fs
-  all_unguarded M no_forms = tt
-  all_unguarded M (form f fs) = (unguarded M f, all_unguarded M fs)
-
--- the core steps of a query build what its core form names
-pub core_builds : (db : List Relation) (q : Question) → HasElements q.body → Builds (structure db q) (head_step db q) Any Unguarded [] (core_steps db q) (Names db (core_form (has_named_sort db) q))
-core_builds db q h = builds (structure db q) (head_step db q) Any Unguarded (λ vs ws c x. tt) (core_form (has_named_sort db) q) (core_of_query (has_named_sort db) q h) (any_scope (core_form (has_named_sort db) q)) (unguarded (structure db q) (core_form (has_named_sort db) q)) []
-
--- where there is no step, each is made of earlier ones
-no_step : (M : Structure) (head : HeadStep) → AreMade M head []
-no_step M head zero step e = cc
-no_step M head (suc s) step e = cc
-
 -- each step of a plan is made of earlier ones
-pub plan_made : (db : List Relation) (q : Question) → HasElements q.body → AreMade (structure db q) (head_step db q) (plan db q)
-plan_made db q h =
-    let b : Builds (structure db q) (head_step db q) Any Unguarded [] (core_steps db q) (Names db (core_form (has_named_sort db) q)) = core_builds db q h in
-    made_more (structure db q) (head_step db q) (core_steps db q) (Extend (length (core_steps db q))) (guarded (has_named_sort db) q.head q.body)
-    (record { operands = ((let g : 0 < length (core_steps db q) = b.grown in omega arith, omega arith), tt); formula = (refl, refl); variables = tt })
-    (b.made (no_step (structure db q) (head_step db q)))
+pub plan_made : (db : List Relation) (q : Question) (rules : Rules) (fits : List Variable → Type 0) (front : Steps) → IsFront db q rules fits front → AreMade (structure db q) (head_after db q front) rules (closed db q front)
+plan_made db q rules fits front w =
+    made_more (structure db q) (head_after db q front) rules front (Extend (length front)) (guarded (has_named_sort db) q.head q.body)
+    (record { operands = ((let g : 0 < length front = w.grown in omega arith, omega arith), tt); formula = (refl, refl); drop = tt; variables = tt })
+    w.made
 
 -- the last step is `head`
-pub last_made : (db : List Relation) (q : Question) → MatchOption (step_at (plan db q) (length (plan db q))) ⊥ (λ step. (step.kind ≡ Extend (length (core_steps db q))) × (step.formula ≡ guarded (has_named_sort db) q.head q.body))
-last_made db q =
-    subst (λ o. MatchOption o ⊥ (λ step. (step.kind ≡ Extend (length (core_steps db q))) × (step.formula ≡ guarded (has_named_sort db) q.head q.body)))
-    (sym (step_made (structure db q) (Extend (length (core_steps db q))) (guarded (has_named_sort db) q.head q.body) (core_steps db q))) (refl, refl)
+pub last_made : (db : List Relation) (q : Question) (front : Steps) → MatchOption (step_at (closed db q front) (length (closed db q front))) ⊥ (λ step. (step.kind ≡ Extend (length front)) × (step.formula ≡ guarded (has_named_sort db) q.head q.body))
+last_made db q front =
+    subst (λ o. MatchOption o ⊥ (λ step. (step.kind ≡ Extend (length front)) × (step.formula ≡ guarded (has_named_sort db) q.head q.body)))
+    (sym (step_made (structure db q) (Extend (length front)) (guarded (has_named_sort db) q.head q.body) front)) (refl, refl)
 
 -- the formula of the last core step names what `head` names
-pub last_names : (db : List Relation) (q : Question) → HasElements q.body → (ws : List Variable) (ks : List Mark)
-    → Names db (formula_at (core_steps db q) (length (core_steps db q))) ws ks ↔ Names db (guarded (has_named_sort db) q.head q.body) ws ks
-last_names db q h ws ks =
-    let a = (core_builds db q h).names ws ks in
+pub last_names : (db : List Relation) (q : Question) (rules : Rules) (fits : List Variable → Type 0) (front : Steps) → IsFront db q rules fits front → (ws : List Variable) (ks : List Mark)
+    → Names db (formula_at front (length front)) ws ks ↔ Names db (guarded (has_named_sort db) q.head q.body) ws ks
+last_names db q rules fits front w ws ks =
+    let a = w.names ws ks in
     let b = core_named (has_named_sort db) q db ws ks in
     ((λ n. b.0 (a.0 n)), λ n. a.1 (b.1 n))
 
@@ -124,40 +69,40 @@ head_periods : (db : List Relation) (q : Question) → AllByRecursion (Contains 
 head_periods db q = marked_periods (guarded (has_named_sort db) q.head q.body) q.body db (head_marks db q)
 
 -- the last core step names the periods and the atoms of the body
-last_marks : (db : List Relation) (q : Question) → HasElements q.body → AllByRecursion (Contains (marks q.body db)) (marks (formula_at (core_steps db q) (length (core_steps db q))) db)
-last_marks db q h =
+last_marks : (db : List Relation) (q : Question) (rules : Rules) (fits : List Variable → Type 0) (front : Steps) → IsFront db q rules fits front → AllByRecursion (Contains (marks q.body db)) (marks (formula_at front (length front)) db)
+last_marks db q rules fits front w =
     let f : Form = guarded (has_named_sort db) q.head q.body in
-    ((last_names db q h (free f) (marks q.body db)).1 (all_self (free f), head_marks db q)).1
+    ((last_names db q rules fits front w (free f) (marks q.body db)).1 (all_self (free f), head_marks db q)).1
 
 -- so its periods are the body's
-last_periods : (db : List Relation) (q : Question) → HasElements q.body → AllByRecursion (Contains (periods q.body db)) (periods (formula_at (core_steps db q) (length (core_steps db q))) db)
-last_periods db q h = marked_periods (formula_at (core_steps db q) (length (core_steps db q))) q.body db (last_marks db q h)
+last_periods : (db : List Relation) (q : Question) (rules : Rules) (fits : List Variable → Type 0) (front : Steps) → IsFront db q rules fits front → AllByRecursion (Contains (periods q.body db)) (periods (formula_at front (length front)) db)
+last_periods db q rules fits front w = marked_periods (formula_at front (length front)) q.body db (last_marks db q rules fits front w)
 
 -- and `head` names those of the last core step, and the other way round
-last_of_head : (db : List Relation) (q : Question) → HasElements q.body → AllByRecursion (Contains (periods (formula_at (core_steps db q) (length (core_steps db q))) db)) (periods (guarded (has_named_sort db) q.head q.body) db)
-last_of_head db q h =
+last_of_head : (db : List Relation) (q : Question) (rules : Rules) (fits : List Variable → Type 0) (front : Steps) → IsFront db q rules fits front → AllByRecursion (Contains (periods (formula_at front (length front)) db)) (periods (guarded (has_named_sort db) q.head q.body) db)
+last_of_head db q rules fits front w =
     let f : Form = guarded (has_named_sort db) q.head q.body in
-    let a : Form = formula_at (core_steps db q) (length (core_steps db q)) in
-    marked_periods f a db ((last_names db q h (free a) (marks a db)).0 (names_self db a)).1
+    let a : Form = formula_at front (length front) in
+    marked_periods f a db ((last_names db q rules fits front w (free a) (marks a db)).0 (names_self db a)).1
 
 -- the last core step names the periods of `head`
-head_of_last : (db : List Relation) (q : Question) → HasElements q.body → AllByRecursion (Contains (periods (guarded (has_named_sort db) q.head q.body) db)) (periods (formula_at (core_steps db q) (length (core_steps db q))) db)
-head_of_last db q h =
+head_of_last : (db : List Relation) (q : Question) (rules : Rules) (fits : List Variable → Type 0) (front : Steps) → IsFront db q rules fits front → AllByRecursion (Contains (periods (guarded (has_named_sort db) q.head q.body) db)) (periods (formula_at front (length front)) db)
+head_of_last db q rules fits front w =
     let f : Form = guarded (has_named_sort db) q.head q.body in
-    let a : Form = formula_at (core_steps db q) (length (core_steps db q)) in
-    marked_periods a f db ((last_names db q h (free f) (marks f db)).1 (names_self db f)).1
+    let a : Form = formula_at front (length front) in
+    marked_periods a f db ((last_names db q rules fits front w (free f) (marks f db)).1 (names_self db f)).1
 
 -- no step is above the query: its reach is at most the last one's, and its periods and atoms are the body's
-pub plan_under : (db : List Relation) (q : Question) → HasElements q.body → AreUnder db (query_reach db q) (marks q.body db) (plan db q)
-plan_under db q h =
-    let steps : Steps = core_steps db q in
+pub plan_under : (db : List Relation) (q : Question) (rules : Rules) (fits : List Variable → Type 0) (front : Steps) → IsFront db q rules fits front → AreUnder db (query_reach (closed db q front)) (marks q.body db) (closed db q front)
+plan_under db q rules fits front w =
+    let steps : Steps = front in
     let M : Structure = structure db q in
     let f : Form = guarded (has_named_sort db) q.head q.body in
-    let b : ℕ = query_reach db q in
+    let b : ℕ = query_reach (closed db q front) in
     let e : b ≡ reach_at steps (length steps) = reach_made M (Extend (length steps)) f steps in
-    let last : LastIsUnder db b (marks q.body db) steps = ((omega arith), last_marks db q h) in
+    let last : LastIsUnder db b (marks q.body db) steps = ((omega arith), last_marks db q rules fits front w) in
     (all_append (λ step. IsUnder db b (marks q.body db) step.formula step.reach) steps (step_behind M (Extend (length steps)) f steps ∷ [])).1
-    ((core_builds db q h).under b (marks q.body db) last tt, ((omega arith, head_marks db q), tt))
+    (w.under b (marks q.body db) last, ((omega arith, head_marks db q), tt))
 
 -- ---- steps by their numbers
 
@@ -192,21 +137,34 @@ in_three ks xs ys zs e =
     let b = (all_append (Contains all) ys zs).0 a.1 in
     (subst (λ ls. AllByRecursion (Contains ls) xs) (sym e) a.0, subst (λ ls. AllByRecursion (Contains ls) ys) (sym e) b.0)
 
+-- the formula of a drop of texts has the periods of its operand, and no others
+drop_periods : (rules : Rules) (v : Identifier) (f g : Form) → rules.drops v f g → (db : List Relation) → AllByRecursion (Contains (periods g db)) (periods f db) × AllByRecursion (Contains (periods f db)) (periods g db)
+drop_periods rules v f g d db = (
+  marked_periods f g db ((rules.names v f g d db (free g) (marks g db)).0 (names_self db g)).1,
+  marked_periods g f db ((rules.names v f g d db (free (exists v Data f)) (marks f db)).1 (names_self db (exists v Data f))).1,
+)
+
+-- so it has its period
+drop_period : (rules : Rules) (v : Identifier) (f g : Form) → rules.drops v f g → (db : List Relation) → AllByRecursion (λ k. 1 ≤ k) (periods g db) → period db g ≡ period db f
+drop_period rules v f g d db low =
+    let p = drop_periods rules v f g d db in
+    lcm_same (periods g db) (periods f db) low (all_from (λ k. 1 ≤ k) (periods g db) (periods f db) p.0 low) p.1 p.0
+
 -- a formula names the periods of the formulas that it is made of
-read_periods : (M : Structure) (head : HeadStep) (at : ℕ → Form) → AllByRecursion (Contains (periods head.formula M.relations)) (periods (at head.of) M.relations)
-    → (kind : StepKind) (f : Form) → IsFormula M head at kind f → AllByRecursion (λ l. AllByRecursion (Contains (periods f M.relations)) (periods (at l) M.relations)) (operands kind)
-read_periods M head at top (Scan name terms) f h = tt
-read_periods M head at top (Leaf t) f h = tt
-read_periods M head at top (SortStep v s texts) f h = tt
-read_periods M head at top (Join left right tests) f h =
+read_periods : (M : Structure) (head : HeadStep) (rules : Rules) (at : ℕ → Form) → AllByRecursion (Contains (periods head.formula M.relations)) (periods (at head.of) M.relations)
+    → (kind : StepKind) (f : Form) → IsFormula M head at kind f → IsDrop rules at kind f → AllByRecursion (λ l. AllByRecursion (Contains (periods f M.relations)) (periods (at l) M.relations)) (operands kind)
+read_periods M head rules at top (Scan name terms) f h d = tt
+read_periods M head rules at top (Leaf t) f h d = tt
+read_periods M head rules at top (SortStep v s texts) f h d = tt
+read_periods M head rules at top (Join left right tests) f h d =
     let x = in_three (periods f M.relations) (periods (at left) M.relations) (periods (at right) M.relations) (periods_each (tests_as_forms tests) M.relations) (ap (λ g. periods g M.relations) h) in (x.0, (x.1, tt))
-read_periods M head at top (Select of t) f h = ((in_three (periods f M.relations) (periods (at of) M.relations) (periods (test t) M.relations) [] (ap (λ g. periods g M.relations) h)).0, tt)
-read_periods M head at top (Union left right) f h = let x = in_three (periods f M.relations) (periods (at left) M.relations) (periods (at right) M.relations) [] (ap (λ g. periods g M.relations) h) in (x.0, (x.1, tt))
-read_periods M head at top (Minus left right) f h = let x = in_three (periods f M.relations) (periods (at left) M.relations) (periods (at right) M.relations) [] (ap (λ g. periods g M.relations) h) in (x.0, (x.1, tt))
-read_periods M head at top (Complement of) f h = (subst (λ ks. AllByRecursion (Contains ks) (periods (at of) M.relations)) (sym (ap (λ g. periods g M.relations) h)) (all_self (periods (at of) M.relations)), tt)
-read_periods M head at top (DropTime of v) f h = (subst (λ ks. AllByRecursion (Contains ks) (periods (at of) M.relations)) (sym (ap (λ g. periods g M.relations) h)) (all_self (periods (at of) M.relations)), tt)
-read_periods M head at top (DropData of v) f h = (subst (λ ks. AllByRecursion (Contains ks) (periods (at of) M.relations)) (sym (ap (λ g. periods g M.relations) h.2)) (all_self (periods (at of) M.relations)), tt)
-read_periods M head at top (Extend of) f h =
+read_periods M head rules at top (Select of t) f h d = ((in_three (periods f M.relations) (periods (at of) M.relations) (periods (test t) M.relations) [] (ap (λ g. periods g M.relations) h)).0, tt)
+read_periods M head rules at top (Union left right) f h d = let x = in_three (periods f M.relations) (periods (at left) M.relations) (periods (at right) M.relations) [] (ap (λ g. periods g M.relations) h) in (x.0, (x.1, tt))
+read_periods M head rules at top (Minus left right) f h d = let x = in_three (periods f M.relations) (periods (at left) M.relations) (periods (at right) M.relations) [] (ap (λ g. periods g M.relations) h) in (x.0, (x.1, tt))
+read_periods M head rules at top (Complement of) f h d = (subst (λ ks. AllByRecursion (Contains ks) (periods (at of) M.relations)) (sym (ap (λ g. periods g M.relations) h)) (all_self (periods (at of) M.relations)), tt)
+read_periods M head rules at top (DropTime of v) f h d = (subst (λ ks. AllByRecursion (Contains ks) (periods (at of) M.relations)) (sym (ap (λ g. periods g M.relations) h)) (all_self (periods (at of) M.relations)), tt)
+read_periods M head rules at top (DropData of v) f h d = ((drop_periods rules v (at of) f d M.relations).0, tt)
+read_periods M head rules at top (Extend of) f h d =
     (subst (λ g. AllByRecursion (Contains (periods g M.relations)) (periods (at of) M.relations)) (sym h.1) (subst (λ l. AllByRecursion (Contains (periods head.formula M.relations)) (periods (at l) M.relations)) (sym h.0) top), tt)
 
 -- the periods of tests are those that the tests as formulas name
@@ -243,27 +201,27 @@ test_alone db (Member term point) h = lcm_one (nat_abs point.period) h.0
 test_alone db (Equal left right) h = refl
 
 -- a step that meets no second one keeps the period
-period_kept : (M : Structure) (head : HeadStep) (at : ℕ → Form) (periods_at : ℕ → ℕ) → ((l : ℕ) → periods_at l ≡ period M.relations (at l)) → period M.relations head.formula ≡ period M.relations (at head.of)
-    → (kind : StepKind) (f : Form) → IsFormula M head at kind f → AllByRecursion (λ k. 1 ≤ k) (periods f M.relations) → KeepsPeriod periods_at (period M.relations f) kind
-period_kept M head at periods_at same top (Scan name terms) f h low = tt
-period_kept M head at periods_at same top (Leaf t) f h low = ap (period M.relations) h ∙ test_alone M.relations t (subst (λ g. AllByRecursion (λ k. 1 ≤ k) (periods g M.relations)) h low)
-period_kept M head at periods_at same top (SortStep v s texts) f h low = ap (period M.relations) h.0
-period_kept M head at periods_at same top (Join left right tests) f h low = tt
-period_kept M head at periods_at same top (Select of t) f h low = tt
-period_kept M head at periods_at same top (Union left right) f h low = tt
-period_kept M head at periods_at same top (Minus left right) f h low = tt
-period_kept M head at periods_at same top (Complement of) f h low = ap (period M.relations) h ∙ sym (same of)
-period_kept M head at periods_at same top (DropTime of v) f h low = ap (period M.relations) h ∙ sym (same of)
-period_kept M head at periods_at same top (DropData of v) f h low = ap (period M.relations) h.2 ∙ sym (same of)
-period_kept M head at periods_at same top (Extend of) f h low = ap (period M.relations) h.1 ∙ top ∙ ap (λ l. period M.relations (at l)) (sym h.0) ∙ sym (same of)
+period_kept : (M : Structure) (head : HeadStep) (rules : Rules) (at : ℕ → Form) (periods_at : ℕ → ℕ) → ((l : ℕ) → periods_at l ≡ period M.relations (at l)) → period M.relations head.formula ≡ period M.relations (at head.of)
+    → (kind : StepKind) (f : Form) → IsFormula M head at kind f → IsDrop rules at kind f → AllByRecursion (λ k. 1 ≤ k) (periods f M.relations) → KeepsPeriod periods_at (period M.relations f) kind
+period_kept M head rules at periods_at same top (Scan name terms) f h d low = tt
+period_kept M head rules at periods_at same top (Leaf t) f h d low = ap (period M.relations) h ∙ test_alone M.relations t (subst (λ g. AllByRecursion (λ k. 1 ≤ k) (periods g M.relations)) h low)
+period_kept M head rules at periods_at same top (SortStep v s texts) f h d low = ap (period M.relations) h.0
+period_kept M head rules at periods_at same top (Join left right tests) f h d low = tt
+period_kept M head rules at periods_at same top (Select of t) f h d low = tt
+period_kept M head rules at periods_at same top (Union left right) f h d low = tt
+period_kept M head rules at periods_at same top (Minus left right) f h d low = tt
+period_kept M head rules at periods_at same top (Complement of) f h d low = ap (period M.relations) h ∙ sym (same of)
+period_kept M head rules at periods_at same top (DropTime of v) f h d low = ap (period M.relations) h ∙ sym (same of)
+period_kept M head rules at periods_at same top (DropData of v) f h d low = drop_period rules v (at of) f d M.relations low ∙ sym (same of)
+period_kept M head rules at periods_at same top (Extend of) f h d low = ap (period M.relations) h.1 ∙ top ∙ ap (λ l. period M.relations (at l)) (sym h.0) ∙ sym (same of)
 
 -- the period of a step is that of its formula, also where there is no such step
-period_of : (M : Structure) (head : HeadStep) (steps : Steps) → AreMade M head steps → (l : ℕ) → period_at steps l ≡ period M.relations (formula_at steps l)
-period_of M head steps made l = by_step (step_at steps l) refl
+period_of : (M : Structure) (head : HeadStep) (rules : Rules) (steps : Steps) → AreMade M head rules steps → (l : ℕ) → period_at steps l ≡ period M.relations (formula_at steps l)
+period_of M head rules steps made l = by_step (step_at steps l) refl
   where
     by_step : (o : Option PlanStep) → step_at steps l ≡ o → unwrap_or (option_map (λ step. step.period) o) 1 ≡ period M.relations (unwrap_or (option_map (λ step. step.formula) o) (conjunction no_forms))
     by_step None e = refl
-    by_step (Some step) e = (made l step e).period
+    by_step (Some step) e = (made l step e).made.period
 
 -- ---- a reach is at least the reaches of the steps that are read
 
@@ -304,25 +262,25 @@ test_wide db (Member term point) h = lcm_alone (nat_abs point.period) h.0
 test_wide db (Equal left right) h = omega arith
 
 -- the reach of a step, where those of the steps that it reads are at least their periods
-step_wide : (M : Structure) (head : HeadStep) (at : ℕ → Form) (reach : ℕ → ℕ) → period M.relations head.formula ≤ period M.relations (at head.of)
-    → (kind : StepKind) (f : Form) (r : ℕ) → IsFormula M head at kind f → AllByRecursion (λ k. 1 ≤ k) (periods f M.relations) → AllByRecursion (λ l. period M.relations (at l) ≤ reach l) (operands kind)
+step_wide : (M : Structure) (head : HeadStep) (rules : Rules) (at : ℕ → Form) (reach : ℕ → ℕ) → period M.relations head.formula ≤ period M.relations (at head.of)
+    → (kind : StepKind) (f : Form) (r : ℕ) → IsFormula M head at kind f → IsDrop rules at kind f → AllByRecursion (λ k. 1 ≤ k) (periods f M.relations) → AllByRecursion (λ l. period M.relations (at l) ≤ reach l) (operands kind)
     → r ≡ step_reach M.relations reach (period M.relations f) kind → period M.relations f ≤ r
-step_wide M head at reach top (Scan name terms) f r h low below e = let g : r ≡ step_reach M.relations reach (period M.relations f) (Scan name terms) = e in omega arith
-step_wide M head at reach top (Leaf t) f r h low below e =
+step_wide M head rules at reach top (Scan name terms) f r h d low below e = let g : r ≡ step_reach M.relations reach (period M.relations f) (Scan name terms) = e in omega arith
+step_wide M head rules at reach top (Leaf t) f r h d low below e =
     let k : period M.relations (test t) ≤ test_reach t = test_wide M.relations t (subst (λ g. AllByRecursion (λ k. 1 ≤ k) (periods g M.relations)) h low) in
     let s : period M.relations f ≡ period M.relations (test t) = ap (period M.relations) h in
     let g : r ≡ test_reach t = e in omega arith
-step_wide M head at reach top (SortStep v s texts) f r h low below e = let k : period M.relations f ≡ 1 = ap (period M.relations) h.0 in let g : r ≡ 1 = e in omega arith
-step_wide M head at reach top (Join left right tests) f r h low below e = let g : r ≡ max (reach left) (max (reach right) (greatest (map test_reach tests))) + period M.relations f = e in omega arith
-step_wide M head at reach top (Select of t) f r h low below e = let g : r ≡ max (reach of) (test_reach t) + period M.relations f = e in omega arith
-step_wide M head at reach top (Union left right) f r h low below e = let g : r ≡ max (reach left) (reach right) + period M.relations f = e in omega arith
-step_wide M head at reach top (Minus left right) f r h low below e = let g : r ≡ max (reach left) (reach right) + 2 * period M.relations f = e in omega arith
-step_wide M head at reach top (Complement of) f r h low below e = let g : r ≡ reach of + 2 * period M.relations f = e in omega arith
-step_wide M head at reach top (DropTime of v) f r h low below e =
+step_wide M head rules at reach top (SortStep v s texts) f r h d low below e = let k : period M.relations f ≡ 1 = ap (period M.relations) h.0 in let g : r ≡ 1 = e in omega arith
+step_wide M head rules at reach top (Join left right tests) f r h d low below e = let g : r ≡ max (reach left) (max (reach right) (greatest (map test_reach tests))) + period M.relations f = e in omega arith
+step_wide M head rules at reach top (Select of t) f r h d low below e = let g : r ≡ max (reach of) (test_reach t) + period M.relations f = e in omega arith
+step_wide M head rules at reach top (Union left right) f r h d low below e = let g : r ≡ max (reach left) (reach right) + period M.relations f = e in omega arith
+step_wide M head rules at reach top (Minus left right) f r h d low below e = let g : r ≡ max (reach left) (reach right) + 2 * period M.relations f = e in omega arith
+step_wide M head rules at reach top (Complement of) f r h d low below e = let g : r ≡ reach of + 2 * period M.relations f = e in omega arith
+step_wide M head rules at reach top (DropTime of v) f r h d low below e =
     let k : period M.relations f ≡ period M.relations (at of) = ap (period M.relations) h in let b : period M.relations (at of) ≤ reach of = below.0 in let g : r ≡ 2 * reach of = e in omega arith
-step_wide M head at reach top (DropData of v) f r h low below e =
-    let k : period M.relations f ≡ period M.relations (at of) = ap (period M.relations) h.2 in let b : period M.relations (at of) ≤ reach of = below.0 in let g : r ≡ reach of = e in omega arith
-step_wide M head at reach top (Extend of) f r h low below e =
+step_wide M head rules at reach top (DropData of v) f r h d low below e =
+    let k : period M.relations f ≡ period M.relations (at of) = drop_period rules v (at of) f d M.relations low in let b : period M.relations (at of) ≤ reach of = below.0 in let g : r ≡ reach of = e in omega arith
+step_wide M head rules at reach top (Extend of) f r h d low below e =
     let k : period M.relations f ≡ period M.relations head.formula = ap (period M.relations) h.1 in
     let o : period M.relations (at of) ≡ period M.relations (at head.of) = ap (λ l. period M.relations (at l)) h.0 in
     let b : period M.relations (at of) ≤ reach of = below.0 in
@@ -331,71 +289,71 @@ step_wide M head at reach top (Extend of) f r h low below e =
 -- ---- the steps of a query
 
 -- the periods and the atoms of each step are the body's
-pub step_marks : (db : List Relation) (q : Question) → HasElements q.body → (s : ℕ) (step : PlanStep) → step_at (plan db q) s ≡ Some step → AllByRecursion (Contains (marks q.body db)) (marks step.formula db)
-step_marks db q h s step e = (all_step (λ x. IsUnder db (query_reach db q) (marks q.body db) x.formula x.reach) (plan db q) s step e (plan_under db q h)).1
+pub step_marks : (db : List Relation) (q : Question) (rules : Rules) (fits : List Variable → Type 0) (front : Steps) → IsFront db q rules fits front → (s : ℕ) (step : PlanStep) → step_at (closed db q front) s ≡ Some step → AllByRecursion (Contains (marks q.body db)) (marks step.formula db)
+step_marks db q rules fits front w s step e = (all_step (λ x. IsUnder db (query_reach (closed db q front)) (marks q.body db) x.formula x.reach) (closed db q front) s step e (plan_under db q rules fits front w)).1
 
-module _ (db : List Relation) (q : Question) (some : HasElements q.body) (low : HasPeriods db q) where
+module _ (db : List Relation) (q : Question) (rules : Rules) (fits : List Variable → Type 0) (front : Steps) (w : IsFront db q rules fits front) (low : HasPeriods db q) where
   -- the periods of each step are at least 1
-  step_low : (s : ℕ) (step : PlanStep) → step_at (plan db q) s ≡ Some step → AllByRecursion (λ k. 1 ≤ k) (periods step.formula db)
-  step_low s step e = all_from (λ k. 1 ≤ k) (periods q.body db) (periods step.formula db) (marked_periods step.formula q.body db (step_marks db q some s step e)) low
+  step_low : (s : ℕ) (step : PlanStep) → step_at (closed db q front) s ≡ Some step → AllByRecursion (λ k. 1 ≤ k) (periods step.formula db)
+  step_low s step e = all_from (λ k. 1 ≤ k) (periods q.body db) (periods step.formula db) (marked_periods step.formula q.body db (step_marks db q rules fits front w s step e)) low
 
   -- the step before `head` is the last core step
-  before_head : formula_at (plan db q) (length (core_steps db q)) ≡ formula_at (core_steps db q) (length (core_steps db q))
-  before_head = formula_front (core_steps db q) (step_behind (structure db q) (Extend (length (core_steps db q))) (guarded (has_named_sort db) q.head q.body) (core_steps db q) ∷ []) (length (core_steps db q)) (omega arith)
+  before_head : formula_at (closed db q front) (length front) ≡ formula_at front (length front)
+  before_head = formula_front front (step_behind (structure db q) (Extend (length front)) (guarded (has_named_sort db) q.head q.body) front ∷ []) (length front) (omega arith)
 
   -- the step before `head` names what `head` names
-  top_periods : AllByRecursion (Contains (periods (guarded (has_named_sort db) q.head q.body) db)) (periods (formula_at (plan db q) (length (core_steps db q))) db)
-  top_periods = subst (λ g. AllByRecursion (Contains (periods (guarded (has_named_sort db) q.head q.body) db)) (periods g db)) (sym before_head) (head_of_last db q some)
+  top_periods : AllByRecursion (Contains (periods (guarded (has_named_sort db) q.head q.body) db)) (periods (formula_at (closed db q front) (length front)) db)
+  top_periods = subst (λ g. AllByRecursion (Contains (periods (guarded (has_named_sort db) q.head q.body) db)) (periods g db)) (sym before_head) (head_of_last db q rules fits front w)
 
   -- `head` has the period of the step before it
-  same_period : period db (guarded (has_named_sort db) q.head q.body) ≡ period db (formula_at (plan db q) (length (core_steps db q)))
+  same_period : period db (guarded (has_named_sort db) q.head q.body) ≡ period db (formula_at (closed db q front) (length front))
   same_period =
       let f : Form = guarded (has_named_sort db) q.head q.body in
-      let a : Form = formula_at (core_steps db q) (length (core_steps db q)) in
-      let l : AllByRecursion (λ k. 1 ≤ k) (periods a db) = all_from (λ k. 1 ≤ k) (periods q.body db) (periods a db) (last_periods db q some) low in
+      let a : Form = formula_at front (length front) in
+      let l : AllByRecursion (λ k. 1 ≤ k) (periods a db) = all_from (λ k. 1 ≤ k) (periods q.body db) (periods a db) (last_periods db q rules fits front w) low in
       let m : AllByRecursion (λ k. 1 ≤ k) (periods f db) = all_from (λ k. 1 ≤ k) (periods q.body db) (periods f db) (head_periods db q) low in
-      subst (λ g. period db f ≡ period db g) (sym before_head) (lcm_same (periods f db) (periods a db) m l (last_of_head db q some) (head_of_last db q some))
+      subst (λ g. period db f ≡ period db g) (sym before_head) (lcm_same (periods f db) (periods a db) m l (last_of_head db q rules fits front w) (head_of_last db q rules fits front w))
 
   -- so the period of `head` is no greater
-  top_period : period db (guarded (has_named_sort db) q.head q.body) ≤ period db (formula_at (plan db q) (length (core_steps db q)))
-  top_period = let e : period db (guarded (has_named_sort db) q.head q.body) ≡ period db (formula_at (plan db q) (length (core_steps db q))) = same_period in omega arith
+  top_period : period db (guarded (has_named_sort db) q.head q.body) ≤ period db (formula_at (closed db q front) (length front))
+  top_period = let e : period db (guarded (has_named_sort db) q.head q.body) ≡ period db (formula_at (closed db q front) (length front)) = same_period in omega arith
 
   -- each step up to n has a reach of at least its period
-  wide_to : (n s : ℕ) (step : PlanStep) → s ≤ n → step_at (plan db q) s ≡ Some step → period db step.formula ≤ step.reach
+  wide_to : (n s : ℕ) (step : PlanStep) → s ≤ n → step_at (closed db q front) s ≡ Some step → period db step.formula ≤ step.reach
   wide_to zero zero step le e = cc
   wide_to zero (suc s) step le e = absurd (omega arith)
   wide_to (suc n) s step le e =
-      let m : IsMade (structure db q) (head_step db q) (plan db q) s step = plan_made db q some s step e in
-      step_wide (structure db q) (head_step db q) (formula_at (plan db q)) (reach_at (plan db q)) top_period step.kind step.formula step.reach m.formula (step_low s step e)
-      (all_map (IsEarlier s) (λ l. period db (formula_at (plan db q) l) ≤ reach_at (plan db q) l) (operands step.kind)
+      let m : IsMade (structure db q) (head_after db q front) (closed db q front) s step = (plan_made db q rules fits front w s step e).made in
+      step_wide (structure db q) (head_after db q front) rules (formula_at (closed db q front)) (reach_at (closed db q front)) top_period step.kind step.formula step.reach m.formula (plan_made db q rules fits front w s step e).drop (step_low s step e)
+      (all_map (IsEarlier s) (λ l. period db (formula_at (closed db q front) l) ≤ reach_at (closed db q front) l) (operands step.kind)
       (λ l k.
       let lt : l < s = k.1 in
-      let x = step_found (plan db q) l k.0 (let w : s ≤ length (plan db q) = step_within (plan db q) s step e in omega arith) in
+      let x = step_found (closed db q front) l k.0 (let w : s ≤ length (closed db q front) = step_within (closed db q front) s step e in omega arith) in
       let h : period db x.0.formula ≤ x.0.reach = wide_to n l x.0 (omega arith) x.1 in
       subst (λ o. period db (unwrap_or (option_map (λ y. y.formula) o) (conjunction no_forms)) ≤ unwrap_or (option_map (λ y. y.reach) o) 0) (sym x.1) h)
       m.earlier)
-      (subst (λ K. step.reach ≡ step_reach db (reach_at (plan db q)) K step.kind) m.period m.reach)
+      (subst (λ K. step.reach ≡ step_reach db (reach_at (closed db q front)) K step.kind) m.period m.reach)
 
   -- periods and reaches rise along a plan
-  pub rises : (s : ℕ) (step : PlanStep) → step_at (plan db q) s ≡ Some step → IsRising db q s step
-  rises s step e =
-      let m : IsMade (structure db q) (head_step db q) (plan db q) s step = plan_made db q some s step e in
-      let u : IsUnder db (query_reach db q) (marks q.body db) step.formula step.reach = all_step (λ x. IsUnder db (query_reach db q) (marks q.body db) x.formula x.reach) (plan db q) s step e (plan_under db q some) in
+  pub front_rises : (s : ℕ) (step : PlanStep) → step_at (closed db q front) s ≡ Some step → IsRising (closed db q front) db q s step
+  front_rises s step e =
+      let m : IsMade (structure db q) (head_after db q front) (closed db q front) s step = (plan_made db q rules fits front w s step e).made in
+      let u : IsUnder db (query_reach (closed db q front)) (marks q.body db) step.formula step.reach = all_step (λ x. IsUnder db (query_reach (closed db q front)) (marks q.body db) x.formula x.reach) (closed db q front) s step e (plan_under db q rules fits front w) in
       let l : AllByRecursion (λ k. 1 ≤ k) (periods step.formula db) = step_low s step e in
       let d : IsMultiple (period db step.formula) (period db q.body) = lcm_part (periods step.formula db) (periods q.body db) low (marked_periods step.formula q.body db u.1) in
       record {
         earlier = m.earlier;
         positive = subst (λ K. 1 ≤ K) (sym m.period) (lcm_positive (periods step.formula db) l);
         wide = subst (λ K. K ≤ step.reach) (sym m.period) (wide_to s s step (omega arith) e);
-        above = read_reaches db (reach_at (plan db q)) step.period step.reach step.kind m.reach;
-        multiple = all_map (λ i. AllByRecursion (Contains (periods step.formula db)) (periods (formula_at (plan db q) i) db)) (λ i. IsMultiple (period_at (plan db q) i) step.period) (operands step.kind)
-            (λ i part. subst (IsMultiple (period_at (plan db q) i)) (sym m.period) (subst (λ K. IsMultiple K (period db step.formula)) (sym (period_of (structure db q) (head_step db q) (plan db q) (plan_made db q some) i)) (lcm_part (periods (formula_at (plan db q) i) db) (periods step.formula db) l part)))
-            (read_periods (structure db q) (head_step db q) (formula_at (plan db q)) top_periods step.kind step.formula m.formula);
+        above = read_reaches db (reach_at (closed db q front)) step.period step.reach step.kind m.reach;
+        multiple = all_map (λ i. AllByRecursion (Contains (periods step.formula db)) (periods (formula_at (closed db q front) i) db)) (λ i. IsMultiple (period_at (closed db q front) i) step.period) (operands step.kind)
+            (λ i part. subst (IsMultiple (period_at (closed db q front) i)) (sym m.period) (subst (λ K. IsMultiple K (period db step.formula)) (sym (period_of (structure db q) (head_after db q front) rules (closed db q front) (plan_made db q rules fits front w) i)) (lcm_part (periods (formula_at (closed db q front) i) db) (periods step.formula db) l part)))
+            (read_periods (structure db q) (head_after db q front) rules (formula_at (closed db q front)) top_periods step.kind step.formula m.formula (plan_made db q rules fits front w s step e).drop);
         points = all_map (Contains (periods step.formula db)) (λ k. (1 ≤ k) × IsMultiple k step.period) (named_periods db step.kind)
             (λ k part. (all_of (λ n. 1 ≤ n) (periods step.formula db) k l part, subst (IsMultiple k) (sym m.period) (all_of (λ n. IsMultiple n (period db step.formula)) (periods step.formula db) k (lcm_all_is (periods step.formula db) l).common part)))
-            (own_periods (structure db q) (head_step db q) (formula_at (plan db q)) step.kind step.formula m.formula);
-        keeps = subst (λ K. KeepsPeriod (period_at (plan db q)) K step.kind) (sym m.period)
-            (period_kept (structure db q) (head_step db q) (formula_at (plan db q)) (period_at (plan db q)) (period_of (structure db q) (head_step db q) (plan db q) (plan_made db q some)) same_period step.kind step.formula m.formula l);
+            (own_periods (structure db q) (head_after db q front) (formula_at (closed db q front)) step.kind step.formula m.formula);
+        keeps = subst (λ K. KeepsPeriod (period_at (closed db q front)) K step.kind) (sym m.period)
+            (period_kept (structure db q) (head_after db q front) rules (formula_at (closed db q front)) (period_at (closed db q front)) (period_of (structure db q) (head_after db q front) rules (closed db q front) (plan_made db q rules fits front w)) same_period step.kind step.formula m.formula (plan_made db q rules fits front w s step e).drop l);
         divides = subst (λ K. IsMultiple K (period db q.body)) (sym m.period) d;
         within = subst (λ K. K ≤ period db q.body) (sym m.period) (multiple_le (period db step.formula) (period db q.body) (lcm_positive (periods q.body db) low) d);
         below = u.0;
@@ -422,7 +380,11 @@ guarded_periods false q db = refl
 guarded_periods true q db = periods_joined (head_elements q.head) (form q.body no_forms) db ∙ ap (λ ks. ks ++ (periods q.body db ++ [])) (nothing_named q.head db) ∙ append-nil (periods q.body db)
 
 -- the last step has the period of the query
-pub last_period : (db : List Relation) (q : Question) → period_at (plan db q) (length (plan db q)) ≡ period db q.body
-last_period db q =
+pub last_period : (db : List Relation) (q : Question) (front : Steps) → period_at (closed db q front) (length (closed db q front)) ≡ period db q.body
+last_period db q front =
     let f : Form = guarded (has_named_sort db) q.head q.body in
-    period_made (structure db q) (Extend (length (core_steps db q))) f (core_steps db q) ∙ ap lcm_all (guarded_periods (has_named_sort db) q db)
+    period_made (structure db q) (Extend (length front)) f front ∙ ap lcm_all (guarded_periods (has_named_sort db) q db)
+
+-- periods and reaches rise along the plan of a query as it is written
+pub rises : (db : List Relation) (q : Question) → HasElements q.body → HasPeriods db q → (s : ℕ) (step : PlanStep) → step_at (plan db q) s ≡ Some step → IsRising (plan db q) db q s step
+rises db q some low s step e = front_rises db q quantified Any (core_steps db q) (written_any db q some) low s step e

@@ -17,7 +17,7 @@ none_there [] i e h = refl
 none_there (x ∷ xs) i e h = let f = found (x ∷ xs) i (h (omega arith)) in let g : slice_get (x ∷ xs) i ≡ Some f.0 = f.1 in cc
 
 -- one that is taken out leaves one fewer
-one_fewer : {X : Type 0} (xs : List X) (i : ℕ) (x : X) (rounds : ℕ) → slice_get xs i ≡ Some x → length xs ≤ suc rounds → length (remove xs i) ≤ rounds
+pub one_fewer : {X : Type 0} (xs : List X) (i : ℕ) (x : X) (rounds : ℕ) → slice_get xs i ≡ Some x → length xs ≤ suc rounds → length (remove xs i) ≤ rounds
 one_fewer xs i x rounds e le = let l : length (remove xs i) + 1 ≡ length xs = length-remove xs i (within xs i x e) in omega arith
 
 -- a round for a positive leaves fewer

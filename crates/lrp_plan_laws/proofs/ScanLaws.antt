@@ -5,11 +5,10 @@ use Rattle.std.specs.List.{AllByRecursion, AllZip}
 use Rattle.lrp_model.specs.Texts.{Text, Identifier}
 use Rattle.lrp_model.specs.Rows.{relation_named, columns_in}
 use Rattle.lrp_model.specs.Formulas.{Form, Forms, Question, atom, test, sorted, negation, conjunction, disjunction, implication, exists, forall, no_forms, form}
+use Rattle.lrp_model.specs.Variables.{Variable}
 use Rattle.lrp_model.specs.Satisfaction.{structure}
 use Rattle.lrp_model.specs.Domains.{database_texts, term_texts, form_texts, forms_texts, all_texts, constants}
-use Rattle.lrp_model.specs.Core.{HasElements}
-use Rattle.lrp_model.specs.Steps.{PlanStep, step_at, formula_at}
-use Rattle.lrp_model.specs.Plans.{plan}
+use Rattle.lrp_model.specs.Steps.{PlanStep, Steps, step_at, formula_at}
 use Rattle.lrp_model.specs.declared.relations.Sort.{Sort}
 use Rattle.lrp_model.specs.declared.relations.Column.{Column}
 use Rattle.lrp_model.specs.declared.relations.Relation.{Relation}
@@ -19,10 +18,12 @@ use Rattle.lrp_model.specs.declared.formulas.Term.TheVariants.{Time as time_term
 use Rattle.lrp_model.specs.declared.plans.StepKind.TheVariants.{Scan}
 use Rattle.lrp_model.proofs.Decided.{cons_cases, contains_first, contains_later, contains_none}
 use Rattle.lrp_model.proofs.DomainLaws.{contains_in_order}
-use Rattle.lrp_plan_laws.specs.Made.{IsFormula, IsMade, head_step}
+use Rattle.lrp_plan_laws.specs.Made.{IsFormula, IsMade}
 use Rattle.lrp_plan_laws.specs.Atoms.{Atom, atoms, atoms_each, FitsAtom, texts_of_terms, IsKnownScan}
 use Rattle.lrp_plan_laws.proofs.Members.{all_of, all_by, all_self, all_map, in_left, in_right, in_one}
 use Rattle.lrp_plan_laws.proofs.Marks.{marks, marked_atom}
+use Rattle.lrp_plan_laws.proofs.Dropping.{Rules}
+use Rattle.lrp_plan_laws.proofs.Fronts.{IsFront, closed, head_after}
 use Rattle.lrp_plan_laws.proofs.RisingLaws.{plan_made, step_marks}
 use Rattle.lrp_model.specs.Sorts.{FitsColumn}
 
@@ -65,7 +66,7 @@ mutual
 -- ---- they are constants
 
 -- the text of an entry is one of the texts
-in_texts : (es : List (Sort × Text)) (e : Sort × Text) → Contains es e → Contains (map (λ entry. entry.1) es) e.1
+pub in_texts : (es : List (Sort × Text)) (e : Sort × Text) → Contains es e → Contains (map (λ entry. entry.1) es) e.1
 in_texts [] e c = absurd (contains_none e c)
 in_texts (d ∷ ds) e c = ⊎_elim (λ same. subst (λ x. Contains (d.1 ∷ map (λ entry. entry.1) ds) x.1) same (contains_first d.1 (map (λ entry. entry.1) ds))) (λ k. contains_later d.1 e.1 (map (λ entry. entry.1) ds) (in_texts ds e k)) (cons_cases d e ds c)
 
@@ -95,13 +96,13 @@ atom_known db q a (Some r) f h = among_known (constants db q) r.columns a.terms 
 -- ---- a scan
 
 -- each scan is of an atom of the body, with constants among its terms
-pub scan_known : (db : List Relation) (q : Question) → HasElements q.body → AllByRecursion (FitsAtom db) (atoms q.body) → (s : ℕ) (step : PlanStep) → step_at (plan db q) s ≡ Some step
+pub scan_known : (db : List Relation) (q : Question) (rules : Rules) (fits : List Variable → Type 0) (front : Steps) → IsFront db q rules fits front → AllByRecursion (FitsAtom db) (atoms q.body) → (s : ℕ) (step : PlanStep) → step_at (closed db q front) s ≡ Some step
     → (name : Identifier) (terms : List Term) → step.kind ≡ Scan name terms → IsKnownScan db q (record { name = name; terms = terms })
-scan_known db q some fit s step e name terms kind =
+scan_known db q rules fits front w fit s step e name terms kind =
     let a : Atom = record { name = name; terms = terms } in
-    let m : IsMade (structure db q) (head_step db q) (plan db q) s step = plan_made db q some s step e in
-    let f : step.formula ≡ atom name terms = subst (λ k. IsFormula (structure db q) (head_step db q) (formula_at (plan db q)) k step.formula) kind m.formula in
-    let c : Contains (atoms q.body) a = marked_atom name terms q.body db (subst (λ g. AllByRecursion (Contains (marks q.body db)) (marks g db)) f (step_marks db q some s step e)) in
+    let m : IsMade (structure db q) (head_after db q front) (closed db q front) s step = (plan_made db q rules fits front w s step e).made in
+    let f : step.formula ≡ atom name terms = subst (λ k. IsFormula (structure db q) (head_after db q front) (formula_at (closed db q front)) k step.formula) kind m.formula in
+    let c : Contains (atoms q.body) a = marked_atom name terms q.body db (subst (λ g. AllByRecursion (Contains (marks q.body db)) (marks g db)) f (step_marks db q rules fits front w s step e)) in
     let r : FitsAtom db a = all_of (FitsAtom db) (atoms q.body) a fit c in
     record {
       within = c;

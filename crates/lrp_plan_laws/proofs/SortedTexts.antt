@@ -76,7 +76,7 @@ all_two p q r [] f h k = tt
 all_two p q r (x ∷ xs) f h k = (f x h.0 k.0, all_two p q r xs f h.1 k.1)
 
 -- what holds of each element holds of the one that is found
-found_is : {X : Type 0} (p : X → Type 0) (t : X → Bool) (xs : List X) (x : X) → find t xs ≡ Some x → AllByRecursion p xs → p x
+pub found_is : {X : Type 0} (p : X → Type 0) (t : X → Bool) (xs : List X) (x : X) → find t xs ≡ Some x → AllByRecursion p xs → p x
 found_is p t [] x e h = cc
 found_is p t (y ∷ ys) x e h = at_first (t y) e (λ f. found_is p t ys x f h.1)
   where
@@ -209,7 +209,7 @@ atom_data db bs p ts None h e = cc
 atom_data db bs p ts (Some r) h e = terms_data bs ts r.columns (both_none (fault_if (not (length ts == length r.columns)) _) (column_faults bs ts r.columns) e).1 (h r refl)
 
 -- columns that bind as binders do
-abbrev Binds : List Column → Binders → Type 0
+abbrev pub Binds : List Column → Binders → Type 0
 Binds columns bs = (n : Identifier) → option_map (λ c. c.sort) (find (λ c. bytes_eq c.name n) columns) ≡ binder_sort bs n
 
 -- no binder is over a named sort
@@ -217,7 +217,7 @@ abbrev BindUnnamed : Binders → Type 0
 BindUnnamed bs = (n : Identifier) (s : Sort) → binder_sort bs n ≡ Some s → is_named s ≡ false
 
 -- under one more quantifier
-binds_more : (c : RawColumn) (columns : List Column) (bs : Binders) → Binds columns bs → Binds (record { name = c.name; sort = c.sort } ∷ columns) (c ∷ bs)
+pub binds_more : (c : RawColumn) (columns : List Column) (bs : Binders) → Binds columns bs → Binds (record { name = c.name; sort = c.sort } ∷ columns) (c ∷ bs)
 binds_more c columns bs m n = by_name (bytes_eq c.name n)
   where
     by_name : (b : Bool) → option_map (λ d. d.sort) (cond b (Some (record { name = c.name; sort = c.sort })) (find (λ d. bytes_eq d.name n) columns)) ≡ option_map (λ d. d.sort) (cond b (Some c) (find (λ d. bytes_eq d.name n) bs))
@@ -300,12 +300,12 @@ mutual
 -- ---- the head
 
 -- the sort of the first column of a name, or else another
-abbrev pick : List RawColumn → Identifier → Option Sort → Option Sort
+abbrev pub pick : List RawColumn → Identifier → Option Sort → Option Sort
 pick [] n o = o
 pick (c ∷ cs) n o = cond (bytes_eq c.name n) (Some c.sort) (pick cs n o)
 
 -- what is found in order
-find_pick : (cs : List RawColumn) (n : Identifier) → option_map (λ c. c.sort) (find (λ c. bytes_eq c.name n) (map column_of cs)) ≡ pick cs n None
+pub find_pick : (cs : List RawColumn) (n : Identifier) → option_map (λ c. c.sort) (find (λ c. bytes_eq c.name n) (map column_of cs)) ≡ pick cs n None
 find_pick [] n = refl
 find_pick (c ∷ cs) n = by_name (bytes_eq c.name n) (find_pick cs n)
   where
@@ -315,7 +315,7 @@ find_pick (c ∷ cs) n = by_name (bytes_eq c.name n) (find_pick cs n)
 
 module _ (db : List Relation) where
   -- where names differ, the order of a head's columns makes no difference
-  turned_pick : (cs : List RawColumn) (bs : Binders) (n : Identifier) → head_faults db bs cs ≡ [] → binder_sort (reverse cs ++ bs) n ≡ pick cs n (binder_sort bs n)
+  pub turned_pick : (cs : List RawColumn) (bs : Binders) (n : Identifier) → head_faults db bs cs ≡ [] → binder_sort (reverse cs ++ bs) n ≡ pick cs n (binder_sort bs n)
   turned_pick [] bs n e = refl
   turned_pick (c ∷ cs) bs n e =
       let x = head_first db bs c cs e in

@@ -1,5 +1,5 @@
 -- The atoms of a formula, and which of them fit a database.
-use Rattle.std.specs.Prelude.{◌≡◌, List, [], ◌∷◌, ◌++◌, Contains, MatchOption}
+use Rattle.std.specs.Prelude.{List, [], ◌∷◌, ◌++◌, Contains, MatchOption}
 use Rattle.std.specs.List.{AllByRecursion, AllZip}
 use Rattle.lrp_model.specs.Texts.{Text, Identifier}
 use Rattle.lrp_model.specs.Sorts.{FitsColumn}

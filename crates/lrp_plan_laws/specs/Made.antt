@@ -1,8 +1,9 @@
 -- What a step of a plan is made of: the steps that it reads, its formula, the variables that it relies on, its period and its reach.
-use Rattle.std.specs.Prelude.{◌≡◌, ℕ, ◌<◌, List, [], ◌∷◌, ◌++◌, length, Contains}
+use Rattle.std.specs.Prelude.{◌≡◌, ◌≢◌, ◌↔◌, ℕ, ◌-◌, ◌<◌, List, [], ◌∷◌, ◌++◌, length, Contains}
 use Rattle.std.specs.List.{AllByRecursion}
+use Rattle.lrp_model.specs.Texts.{Identifier}
 use Rattle.lrp_model.specs.Formulas.{Form, Question, atom, test, sorted, negation, conjunction, disjunction, exists, no_forms, form}
-use Rattle.lrp_model.specs.Variables.{Variable, variables_of_test, free}
+use Rattle.lrp_model.specs.Variables.{Variable, data_variable, variables_of_test, free}
 use Rattle.lrp_model.specs.Satisfaction.{Structure}
 use Rattle.lrp_model.specs.Periods.{period}
 use Rattle.lrp_model.specs.Reach.{step_reach}
@@ -10,7 +11,6 @@ use Rattle.lrp_model.specs.Steps.{PlanStep, Steps, formula_at, reach_at, tests_a
 use Rattle.lrp_model.specs.declared.relations.Sort.{Sort}
 use Rattle.lrp_model.specs.declared.relations.Sort.TheVariants.{Time, Data, Named}
 use Rattle.lrp_model.specs.Core.{guarded, has_named_sort}
-use Rattle.lrp_model.specs.Plans.{core_steps}
 use Rattle.lrp_model.specs.declared.relations.Relation.{Relation}
 use Rattle.lrp_model.specs.declared.plans.StepKind.{StepKind}
 use Rattle.lrp_model.specs.declared.plans.StepKind.TheVariants.{Scan, Leaf, Sort as SortStep, Join, Select, Union, Minus, Complement, DropTime, DropData, Extend}
@@ -44,7 +44,11 @@ pub record HeadStep : Type 0 where
   pub of : ℕ
   pub formula : Form
 
--- the formula of a step is what its kind makes of the formulas of the steps that it reads; that of `head` is given, and a sort step has the texts of its sort
+-- the second list has the variables of the first, but for this one of texts
+abbrev pub AreWithout : Identifier → List Variable → List Variable → Type 0
+AreWithout v vs ws = (w : Variable) → Contains ws w ↔ (Contains vs w × (w ≢ data_variable v))
+
+-- the formula of a step is what its kind makes of the formulas of the steps that it reads; that of `head` is given, a sort step has the texts of its sort, and of a drop of texts it is said apart what it says
 abbrev pub IsFormula : Structure → HeadStep → (ℕ → Form) → StepKind → Form → Type 0
 IsFormula M head at (Scan name terms) f = f ≡ atom name terms
 IsFormula M head at (Leaf t) f = f ≡ test t
@@ -55,7 +59,7 @@ IsFormula M head at (Union left right) f = f ≡ disjunction (form (at left) (fo
 IsFormula M head at (Minus left right) f = f ≡ conjunction (form (at left) (form (negation (at right)) no_forms))
 IsFormula M head at (Complement of) f = f ≡ negation (at of)
 IsFormula M head at (DropTime of v) f = f ≡ exists v Time (at of)
-IsFormula M head at (DropData of v) f = (s : Sort) × IsDataSort s × (f ≡ exists v s (at of))
+IsFormula M head at (DropData of v) f = AreWithout v (free (at of)) (free f)
 IsFormula M head at (Extend of) f = (of ≡ head.of) × (f ≡ head.formula)
 
 -- each variable of the first list is one of the second
@@ -77,6 +81,6 @@ pub record IsMade (M : Structure) (head : HeadStep) (steps : Steps) (s : ℕ) (s
   pub period : step.period ≡ period M.relations step.formula
   pub reach : step.reach ≡ step_reach M.relations (reach_at steps) step.period step.kind
 
--- the step `head` of a query reads the last step of its core form; its formula is the body, with the head's sort elements where sorts are named
-abbrev pub head_step : List Relation → Question → HeadStep
-head_step db q = record { of = length (core_steps db q); formula = guarded (has_named_sort db) q.head q.body }
+-- the step `head` of a query reads the step before it; its formula is the body, with the head's sort elements where sorts are named
+abbrev pub head_step : Steps → List Relation → Question → HeadStep
+head_step steps db q = record { of = length steps - 1; formula = guarded (has_named_sort db) q.head q.body }

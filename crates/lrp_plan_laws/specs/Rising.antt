@@ -6,7 +6,7 @@ use Rattle.lrp_model.specs.Formulas.{Question}
 use Rattle.lrp_theory.specs.Divides.{IsMultiple}
 use Rattle.lrp_model.specs.Periods.{value_periods, test_periods, periods, period}
 use Rattle.lrp_model.specs.Steps.{PlanStep, Steps, step_at, reach_at}
-use Rattle.lrp_model.specs.Plans.{plan, query_reach}
+use Rattle.lrp_model.specs.Plans.{query_reach}
 use Rattle.lrp_model.specs.declared.relations.Relation.{Relation}
 use Rattle.lrp_model.specs.declared.formulas.Test.{Test}
 use Rattle.lrp_model.specs.declared.formulas.Test.TheVariants.{Compare, Member, Equal}
@@ -51,14 +51,14 @@ abbrev pub database_periods : List Relation → List ℕ
 database_periods relations = flat_map (λ relation. flat_map (λ row. flat_map value_periods row.values) relation.rows) relations
 
 -- step s of a plan reads earlier steps, its reach is at least its period and their reaches, its period is a multiple of theirs and of those that it names, and neither is above the query's
-pub record IsRising (db : List Relation) (q : Question) (s : ℕ) (step : PlanStep) : Type 0 where
+pub record IsRising (steps : Steps) (db : List Relation) (q : Question) (s : ℕ) (step : PlanStep) : Type 0 where
   pub earlier : AllByRecursion (IsEarlier s) (operands step.kind)
   pub positive : 1 ≤ step.period
   pub wide : step.period ≤ step.reach
-  pub above : AllByRecursion (λ l. reach_at (plan db q) l ≤ step.reach) (operands step.kind)
-  pub multiple : AllByRecursion (λ l. IsMultiple (period_at (plan db q) l) step.period) (operands step.kind)
+  pub above : AllByRecursion (λ l. reach_at steps l ≤ step.reach) (operands step.kind)
+  pub multiple : AllByRecursion (λ l. IsMultiple (period_at steps l) step.period) (operands step.kind)
   pub points : AllByRecursion (λ k. (1 ≤ k) × IsMultiple k step.period) (named_periods db step.kind)
-  pub keeps : KeepsPeriod (period_at (plan db q)) step.period step.kind
+  pub keeps : KeepsPeriod (period_at steps) step.period step.kind
   pub divides : IsMultiple step.period (period db q.body)
   pub within : step.period ≤ period db q.body
-  pub below : step.reach ≤ query_reach db q
+  pub below : step.reach ≤ query_reach steps

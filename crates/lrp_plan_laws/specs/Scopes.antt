@@ -1,13 +1,11 @@
 -- The variables that occur together in one part of a formula.
-use Rattle.std.specs.Prelude.{◌≢◌, ◌≤◌, List, [], ◌∷◌, length, flat_map, Contains}
+use Rattle.std.specs.Prelude.{◌≤◌, List, ◌∷◌, length, flat_map, Contains}
 use Rattle.std.specs.List.{AllByRecursion}
 use Rattle.lrp_model.specs.Texts.{Identifier, AreDistinct}
 use Rattle.lrp_model.specs.Formulas.{Form, Forms, Question, atom, test, sorted, negation, conjunction, disjunction, implication, exists, forall, no_forms, form}
 use Rattle.lrp_model.specs.Variables.{Variable, time_variable, data_variable, bound_by, free}
 use Rattle.lrp_model.specs.Steps.{PlanStep, Steps, formula_at}
-use Rattle.lrp_model.specs.Plans.{plan}
 use Rattle.lrp_model.specs.Caps.{step_variables}
-use Rattle.lrp_model.specs.declared.relations.Relation.{Relation}
 use Rattle.lrp_plan_laws.specs.Made.{operands}
 
 -- at most 8 different names are such
@@ -42,6 +40,6 @@ abbrev pub read_variables : Steps → PlanStep → List Variable
 read_variables steps step = flat_map (λ l. free (formula_at steps l)) (operands step.kind)
 
 -- the variables of a step, and those of the steps that it reads together
-pub record IsNarrowStep (db : List Relation) (q : Question) (step : PlanStep) : Type 0 where
+pub record IsNarrowStep (steps : Steps) (q : Question) (step : PlanStep) : Type 0 where
   pub own : IsNarrow (step_variables q.head step)
-  pub read : IsNarrow (read_variables (plan db q) step)
+  pub read : IsNarrow (read_variables steps step)

@@ -1,5 +1,5 @@
 // What holds of core forms, plans and periods: each law is the contract of a function that does nothing.
-ghost use Rattle.std.specs.Prelude.{◌≡◌, ◌↔◌, ◌≤◌, ◌+◌, ℕ, List, ◌++◌, Bool, false, length, Contains, Some, MatchOption, nat_abs};
+ghost use Rattle.std.specs.Prelude.{◌≡◌, ◌↔◌, ◌≤◌, ◌+◌, ◌-◌, ℕ, List, ◌++◌, Bool, true, false, length, Contains, Some, nat_abs};
 ghost use Rattle.std.specs.List.{AllByRecursion};
 ghost use Rattle.lrp_model.specs.Rows.{Datum, texts_of};
 ghost use Rattle.lrp_model.specs.Formulas.{Form, Question};
@@ -7,7 +7,8 @@ ghost use Rattle.lrp_model.specs.Variables.{free, head_variables};
 ghost use Rattle.lrp_model.specs.RawQueries.{RawQuestion};
 ghost use Rattle.lrp_model.specs.Sorting.{IsWellSorted};
 ghost use Rattle.lrp_model.specs.Checked.{plain_question};
-ghost use Rattle.lrp_model.specs.Domains.{constants};
+ghost use Rattle.lrp_model.specs.Domains.{all_texts, constants};
+ghost use Rattle.lrp_model.specs.Sorts.{is_data};
 ghost use Rattle.lrp_model.specs.Satisfaction.{Structure, Assignment, Satisfies, IsAnswer, structure, assignment, HasShape, HaveDistinctNames};
 ghost use Rattle.lrp_model.specs.Core.{positive, negative, core_form, guarded, has_named_sort, HasElements};
 ghost use Rattle.lrp_theory.specs.Divides.{IsLeastMultiple};
@@ -16,14 +17,16 @@ ghost use Rattle.lrp_model.specs.Reach.{step_reach};
 ghost use Rattle.lrp_model.specs.Steps.{PlanStep, step_at, formula_at};
 ghost use Rattle.lrp_model.specs.Plans.{core_steps, plan, HasNoNamedSorts};
 ghost use Rattle.lrp_model.specs.declared.relations.Relation.{Relation};
+ghost use Rattle.lrp_model.specs.declared.plans.Planning.{Planning};
 ghost use Rattle.lrp_model.specs.declared.plans.StepKind.{StepKind};
 ghost use Rattle.lrp_model.specs.declared.plans.StepKind.TheVariants.{Extend};
 ghost use Rattle.lrp_plan_laws.specs.Guards.{BindsPlainly};
+ghost use Rattle.lrp_plan_laws.specs.GuardedPlans.{guarded_plan, plan_by};
 ghost use Rattle.lrp_plan_laws.specs.Made.{AreAmong, operands, IsMade, head_step};
 ghost use Rattle.lrp_model.specs.TestPoints.{points};
 ghost use Rattle.lrp_plan_laws.specs.Points.{step_points};
 ghost use Rattle.lrp_plan_laws.specs.Rising.{HasPeriods, IsRising, period_at, database_periods};
-ghost use Rattle.lrp_plan_laws.specs.Settled.{HasSortedTexts, IsGuardedDrop, IsSettled, IsSoundPlan};
+ghost use Rattle.lrp_plan_laws.specs.Settled.{HasSortedTexts, IsTextDrop, EndsWithHead, IsSettled, IsSoundPlan};
 ghost use Rattle.lrp_plan_laws.specs.Scopes.{EachScope, IsNarrow, IsNarrowStep};
 
 /// The core form of a formula says what the formula says, and the core form of its negation denies it.
@@ -42,10 +45,10 @@ pub fn plan_is_sound()
     ensures steps { (db : List Relation) (q : Question) → HasElements q.body → (env : Assignment)
         → Satisfies (formula_at (core_steps db q) (length (core_steps db q))) (structure db q) env
         ↔ Satisfies (guarded (has_named_sort db) q.head q.body) (structure db q) env }
-    ensures last { (db : List Relation) (q : Question) (tuple : List Datum)
+    ensures last { (way : Planning) (db : List Relation) (q : Question) (tuple : List Datum)
         → (has_named_sort db ≡ false → HasNoNamedSorts db q) → HaveDistinctNames q.head
         → HasShape q.head tuple → AllByRecursion (Contains (constants db q)) (texts_of tuple)
-        → Satisfies (formula_at (plan db q) (length (plan db q))) (structure db q)
+        → Satisfies (formula_at (plan_by way db q) (length (plan_by way db q))) (structure db q)
         (assignment q.head tuple) ↔ IsAnswer db q tuple }
 {}
 
@@ -59,34 +62,34 @@ pub fn periods_are_least()
         → AllByRecursion (λ at. 1 ≤ nat_abs at.period) (points q.body) → HasPeriods db q }
 {}
 
-/// Along the steps of a plan periods and reaches rise, up to those of the query. The last step has the period of the
-/// query, and a step's reach is no less where those of the steps that it reads are no less.
+/// Along the steps of a query's plan, by either way of planning, periods and reaches rise, up to those of the query. The
+/// last step has the period of the query, and a step's reach is no less where those of the steps that it reads are no less.
 pub fn plan_rises()
-    ensures steps { (db : List Relation) (q : Question) → HasElements q.body → HasPeriods db q
-        → (s : ℕ) (step : PlanStep) → step_at (plan db q) s ≡ Some step → IsRising db q s step }
-    ensures last { (db : List Relation) (q : Question)
-        → period_at (plan db q) (length (plan db q)) ≡ period db q.body }
+    ensures steps { (way : Planning) (db : List Relation) (q : Question) → HasElements q.body
+        → HasPeriods db q → (s : ℕ) (step : PlanStep) → step_at (plan_by way db q) s ≡ Some step
+        → IsRising (plan_by way db q) db q s step }
+    ensures last { (way : Planning) (db : List Relation) (q : Question)
+        → period_at (plan_by way db q) (length (plan_by way db q)) ≡ period db q.body }
     ensures grows { (db : List Relation) (at more : ℕ → ℕ) (K : ℕ) (kind : StepKind)
         → AllByRecursion (λ l. at l ≤ more l) (operands kind)
         → step_reach db at K kind ≤ step_reach db more K kind }
 {}
 
-/// Each step of a plan is made of earlier ones by the rule of its kind, with the variables that the rule relies on, and
-/// the points of its tests are the query's. The last one and no other is `head`, and it reads the step before it.
+/// Each step of a query's plan, by either way of planning, is made of earlier ones by the rule of its kind, with the
+/// variables that the rule relies on, and the points of its tests are the query's. The last one and no other is `head`,
+/// and it reads the step before it.
 pub fn steps_are_made()
-    ensures steps { (db : List Relation) (q : Question) → HasElements q.body
-        → (s : ℕ) (step : PlanStep) → step_at (plan db q) s ≡ Some step
-        → IsMade (structure db q) (head_step db q) (plan db q) s step }
-    ensures points { (db : List Relation) (q : Question) → HasElements q.body
-        → (s : ℕ) (step : PlanStep) → step_at (plan db q) s ≡ Some step
+    ensures steps { (way : Planning) (db : List Relation) (q : Question) → HasElements q.body
+        → (s : ℕ) (step : PlanStep) → step_at (plan_by way db q) s ≡ Some step
+        → IsMade (structure db q) (head_step (plan_by way db q) db q) (plan_by way db q) s step }
+    ensures points { (way : Planning) (db : List Relation) (q : Question) → HasElements q.body
+        → (s : ℕ) (step : PlanStep) → step_at (plan_by way db q) s ≡ Some step
         → AllByRecursion (Contains (points q.body)) (step_points step.kind) }
-    ensures last { (db : List Relation) (q : Question)
-        → MatchOption (step_at (plan db q) (length (plan db q))) ⊥
-        (λ step. (step.kind ≡ Extend (length (core_steps db q)))
-        × (step.formula ≡ guarded (has_named_sort db) q.head q.body)) }
-    ensures other { (db : List Relation) (q : Question) → HasElements q.body
-        → (s : ℕ) (step : PlanStep) → step_at (plan db q) s ≡ Some step
-        → s ≤ length (core_steps db q) → (of : ℕ) → step.kind ≡ Extend of → ⊥ }
+    ensures last { (way : Planning) (db : List Relation) (q : Question)
+        → EndsWithHead (plan_by way db q) db q }
+    ensures other { (way : Planning) (db : List Relation) (q : Question) → HasElements q.body
+        → (s : ℕ) (step : PlanStep) → step_at (plan_by way db q) s ≡ Some step
+        → (of : ℕ) → step.kind ≡ Extend of → s ≡ length (plan_by way db q) }
     ensures count { (db : List Relation) (q : Question)
         → length (plan db q) ≡ length (core_steps db q) + 1 }
 {}
@@ -95,24 +98,32 @@ pub fn steps_are_made()
 /// the name of one of the other kind, where this is so in each part of the query. Where the head has all variables of
 /// the body, it has all of the last two steps' too.
 pub fn steps_are_narrow()
-    ensures steps { (db : List Relation) (q : Question) → HasElements q.body
+    ensures steps { (way : Planning) (db : List Relation) (q : Question) → HasElements q.body
         → IsNarrow (head_variables q.head ++ free q.body) → EachScope IsNarrow q.body
-        → (s : ℕ) (step : PlanStep) → step_at (plan db q) s ≡ Some step → IsNarrowStep db q step }
-    ensures last { (db : List Relation) (q : Question)
+        → (s : ℕ) (step : PlanStep) → step_at (plan_by way db q) s ≡ Some step
+        → IsNarrowStep (plan_by way db q) q step }
+    ensures last { (way : Planning) (db : List Relation) (q : Question)
         → AreAmong (free q.body) (head_variables q.head)
-        → AreAmong (free (formula_at (plan db q) (length (plan db q)))) (head_variables q.head) }
-    ensures core { (db : List Relation) (q : Question)
+        → AreAmong (free (formula_at (plan_by way db q) (length (plan_by way db q))))
+        (head_variables q.head) }
+    ensures core { (way : Planning) (db : List Relation) (q : Question)
         → AreAmong (free q.body) (head_variables q.head) → HasElements q.body
-        → AreAmong (free (formula_at (plan db q) (length (core_steps db q))))
+        → AreAmong (free (formula_at (plan_by way db q) (length (plan_by way db q) - 1)))
         (head_variables q.head) }
 {}
 
-/// Where a step drops a data variable, only texts of its sort complete a member: the core form has a sort element
-/// beside each quantifier where sorts are named, and else there is one sort.
+/// Where a step drops a data variable, an assignment satisfies it exactly where some constant completes it in what the
+/// step reads. In a plan as it is written the core form has a sort element beside each quantifier where sorts are named,
+/// and else there is one sort; in one under guards the step is for some text of whatever sort.
 pub fn drops_are_guarded()
-    ensures { (db : List Relation) (q : Question) → HasElements q.body
+    ensures written { (db : List Relation) (q : Question) → HasElements q.body
         → (has_named_sort db ≡ false → HasNoNamedSorts db q × BindsPlainly q.body)
-        → (s : ℕ) (step : PlanStep) → step_at (plan db q) s ≡ Some step → IsGuardedDrop db q step }
+        → (s : ℕ) (step : PlanStep) → step_at (plan db q) s ≡ Some step
+        → IsTextDrop (plan db q) db q step }
+    ensures guarded { (db : List Relation) (q : Question) → HasElements q.body
+        → AllByRecursion (λ entry. is_data entry.0 ≡ true) (all_texts db q)
+        → (s : ℕ) (step : PlanStep) → step_at (guarded_plan db q) s ≡ Some step
+        → IsTextDrop (guarded_plan db q) db q step }
 {}
 
 /// A well-sorted query over a database is settled, where each `and` and `or` of it has an element, each period is at
@@ -123,7 +134,9 @@ pub fn sorted_queries_are_settled()
         → IsSettled db (plain_question q) }
 {}
 
-/// All that the laws above say of the plan of a settled query.
+/// All that the laws above say of the plan of a settled query, by either way of planning; and its last two steps say the
+/// same.
 pub fn settled_queries_have_sound_plans()
-    ensures { (db : List Relation) (q : Question) → IsSettled db q → IsSoundPlan db q }
+    ensures { (way : Planning) (db : List Relation) (q : Question) → IsSettled db q
+        → IsSoundPlan (plan_by way db q) db q }
 {}

@@ -1,5 +1,5 @@
-use Rattle.lrp_plan_laws.proofs.SettledLaws.{sound}
+use Rattle.lrp_plan_laws.proofs.Ways.{sound_by}
 use Rattle.lrp_plan_laws.proofs.laws.settled_queries_have_sound_plans.Goals as goal
 
 pub returns : goal.returns
-returns c = λ db q h. sound db q h
+returns c = λ way db q h. sound_by way db q h
