@@ -3,6 +3,7 @@ use Rattle.std.proofs.Common.{◌≡◌, ◌≤◌, ◌<◌, ◌+◌, ℕ, true,
 use Rattle.std.specs.Prelude.{ℤ}
 use Rattle.std.specs.Ordering.{ordering_reverse}
 use Rattle.std.proofs.lemmas.Bool.{cases_lt}
+use Rattle.lrp_model.specs.Steps.{Steps}
 use Rattle.lrp_model.specs.Formulas.{Question}
 use Rattle.lrp_model.specs.Satisfaction.{IsAnswer}
 use Rattle.lrp_model.specs.Order.{tuple_cmp, Before}
@@ -60,13 +61,13 @@ module _ (db : List Relation) (q : Question) (from to : ℤ) where
       sym a.size ∙ ap length same ∙ b.size
 
 -- and one number of cells
-pub one_cell_count : (db : List Relation) (q : Question) (s m n : ℕ) → HasCells db q s m → HasCells db q s n → m ≡ n
-one_cell_count db q s m n a b =
+pub one_cell_count : (planned : Steps) (db : List Relation) (q : Question) (s m n : ℕ) → HasCells planned db q s m → HasCells planned db q s n → m ≡ n
+one_cell_count planned db q s m n a b =
     let low : m ≤ n = no_more m n a b in
     let high : n ≤ m = no_more n m b a in
     omega arith
   where
-    no_more : (m n : ℕ) → HasCells db q s m → HasCells db q s n → m ≤ n
+    no_more : (m n : ℕ) → HasCells planned db q s m → HasCells planned db q s n → m ≤ n
     no_more m n a b = elim (cases_lt n m) [
       | inl more ↦ absurd (let l : n < n = (b n).0 ((a n).1 more) in omega (arith, l))
       | inr le ↦ le

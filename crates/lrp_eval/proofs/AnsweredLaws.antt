@@ -8,11 +8,10 @@ use Rattle.std.specs.FinMap as finite
 use Rattle.lrp_model.specs.Texts.{Text}
 use Rattle.lrp_model.specs.Rows.{Datum, times_of}
 use Rattle.lrp_model.specs.Formulas.{Question}
-use Rattle.lrp_model.specs.Core.{guarded, has_named_sort}
 use Rattle.lrp_model.specs.Domains.{constants}
 use Rattle.lrp_model.specs.Satisfaction.{IsAnswer, structure}
-use Rattle.lrp_model.specs.Steps.{PlanStep, step_behind, step_at}
-use Rattle.lrp_model.specs.Plans.{plan, core_steps, query_reach}
+use Rattle.lrp_model.specs.Steps.{Steps}
+use Rattle.lrp_model.specs.Plans.{query_reach}
 use Rattle.lrp_model.specs.Sorts.{time_count}
 use Rattle.lrp_model.specs.declared.relations.Column.{Column}
 use Rattle.lrp_model.specs.declared.relations.Relation.{Relation}
@@ -33,8 +32,7 @@ use Rattle.lrp_cutting.specs.Differences.{greatest_reach}
 use Rattle.lrp_cutting.proofs.LineLaws.{more_small}
 use Rattle.lrp_cutting.proofs.Lists.{from_map, greatest_below, in_map}
 use Rattle.lrp_plan_laws.specs.Rising.{period_at}
-use Rattle.lrp_plan_laws.proofs.Elements.{step_made}
-use Rattle.lrp_plan_laws.proofs.SettledLaws.{sound}
+use Rattle.lrp_eval.proofs.PlanEnds.{wide_last}
 use Rattle.lrp_eval.specs.Counts.{HasCells}
 use Rattle.lrp_eval.specs.Planned.{IsPlanOf, HasAnswers}
 use Rattle.lrp_eval.specs.Settling.{CanSettle, IsSettledStore}
@@ -131,20 +129,7 @@ module _ (old new : StoreView) (h : IsSettledStore old new) where
 
 -- ---- the answer
 
-module _ (db : List Relation) (q : Question) (p : Plan) (h : IsPlanOf db q p) (cap : ℕ) (table : Table) (a : HasAnswers db q cap table) (times : length table.vars.times ≡ table.store.shape.times) (texts : length table.vars.texts ≡ table.store.shape.texts) where
-  abbrev last : PlanStep
-  last = step_behind (structure db q) (Extend (length (core_steps db q))) (guarded (has_named_sort db) q.head q.body) (core_steps db q)
-
-  at_last : step_at (plan db q) (length (plan db q)) ≡ Some last
-  at_last = step_made (structure db q) (Extend (length (core_steps db q))) (guarded (has_named_sort db) q.head q.body) (core_steps db q)
-
-  wide : period_at (plan db q) (length (plan db q)) ≤ query_reach db q
-  wide =
-      let w = ((sound db q h.settled).steps (length (plan db q)) last at_last).rises.wide in
-      let k : period_at (plan db q) (length (plan db q)) ≡ last.period = ap (λ o. unwrap_or (option_map (λ step. step.period) o) 1) at_last in
-      let r : query_reach db q ≡ last.reach = ap (λ o. unwrap_or (option_map (λ step. step.reach) o) 0) at_last in
-      omega (arith, w, k, r)
-
+module _ (planned : Steps) (db : List Relation) (q : Question) (p : Plan) (h : IsPlanOf planned db q p) (cap : ℕ) (table : Table) (a : HasAnswers planned db q cap table) (times : length table.vars.times ≡ table.store.shape.times) (texts : length table.vars.texts ≡ table.store.shape.texts) where
   times_are : time_count q.head ≡ table.store.shape.times
   times_are = times_counted q.head ∙ ap length (sym a.times) ∙ times
 
@@ -152,8 +137,8 @@ module _ (db : List Relation) (q : Question) (p : Plan) (h : IsPlanOf db q p) (c
   can_settle cell z k =
       let t = from_map (zone_of table.store cell) (tables_at table.store cell) z k in
       subst (λ (v : ZoneView). columns_of v * reach_of v + v.period ≤ 2 ^ 62) t.2
-      (room (length (take table.store.shape.times cell.residues)) (time_count q.head) (reach_of (zone_of table.store cell t.0)) (query_reach db q) table.store.period
-      (subst (λ n. length (take table.store.shape.times cell.residues) ≤ n) (sym times_are) (fewer table.store.shape.times cell.residues)) (a.reach.each cell t.0 t.1) (subst (λ k. k ≤ query_reach db q) (sym a.period) wide) h.reach)
+      (room (length (take table.store.shape.times cell.residues)) (time_count q.head) (reach_of (zone_of table.store cell t.0)) (query_reach planned) table.store.period
+      (subst (λ n. length (take table.store.shape.times cell.residues) ≤ n) (sym times_are) (fewer table.store.shape.times cell.residues)) (a.reach.each cell t.0 t.1) (subst (λ k. k ≤ query_reach planned) (sym a.period) (wide_last h.sound)) h.reach)
 
   module _ (store : StoreView) (s : IsSettledStore table.store store) where
     pub head_times_are : time_count q.head ≡ store.shape.times
@@ -166,7 +151,7 @@ module _ (db : List Relation) (q : Question) (p : Plan) (h : IsPlanOf db q p) (c
     pub numbered_store : AreNumbered p.domain store
     numbered_store = subst (λ d. AreNumbered d store) (sym h.is.domain) (numbered_new table.store store s (constants db q) a.numbered)
 
-    pub answer_of : IsStore table.store → (made : Answer) → made.head.columns ≡ q.head → made.domain ≡ constants db q → made.period ≡ pos store.period → made.store ≡ store → IsAnswerOf db q cap made
+    pub answer_of : IsStore table.store → (made : Answer) → made.head.columns ≡ q.head → made.domain ≡ constants db q → made.period ≡ pos store.period → made.store ≡ store → IsAnswerOf planned db q cap made
     answer_of is made head domain period same = record {
       head = head;
       domain = domain;
@@ -175,10 +160,10 @@ module _ (db : List Relation) (q : Question) (p : Plan) (h : IsPlanOf db q p) (c
           subst (λ st. InAnswer made.head.columns made.domain st tuple ↔ IsAnswer db q tuple) (sym same)
           (subst (λ cs. InAnswer cs made.domain store tuple ↔ IsAnswer db q tuple) (sym head) (subst (λ d. InAnswer q.head d store tuple ↔ IsAnswer db q tuple) (sym domain)
           (let x = same_answers table.store store s q.head (constants db q) tuple in let y = a.answers tuple in ((λ i. y.0 (x.0 i)), λ i. x.1 (y.1 i)))));
-      cells = subst (λ st. HasCells db q (length (plan db q)) (finite.len st.tables)) (sym same) (subst (HasCells db q (length (plan db q))) (same_count table.store store s is) a.cells);
+      cells = subst (λ st. HasCells planned db q (length planned) (finite.len st.tables)) (sym same) (subst (HasCells planned db q (length planned)) (same_count table.store store s is) a.cells);
       settled = subst (λ st. (cell : Cell) (z : ZoneView) → Contains (zones_at st cell) z → AreSettled z (zones_at st cell)) (sym same) (settled_new table.store store s);
-      small = subst (λ st. (cell : Cell) (z : ZoneView) → Contains (zones_at st cell) z → IsSmallZone z (time_count q.head * query_reach db q)) (sym same)
-          (small_new table.store store s (time_count q.head) (query_reach db q) (sym times_are) a.reach);
+      small = subst (λ st. (cell : Cell) (z : ZoneView) → Contains (zones_at st cell) z → IsSmallZone z (time_count q.head * query_reach planned)) (sym same)
+          (small_new table.store store s (time_count q.head) (query_reach planned) (sym times_are) a.reach);
       few = a.few;
     }
 

@@ -9,8 +9,7 @@ use Rattle.lrp_model.specs.Satisfaction.{Structure, Assignment, Satisfies, struc
 use Rattle.lrp_model.specs.Domains.{constants}
 use Rattle.lrp_model.specs.Cells.{FormCell, LiesIn, IsInhabited, Agree, Differ, Many, ManyCells}
 use Rattle.lrp_model.specs.Caps.{ManyAt, step_variables}
-use Rattle.lrp_model.specs.Steps.{PlanStep, step_at}
-use Rattle.lrp_model.specs.Plans.{plan}
+use Rattle.lrp_model.specs.Steps.{PlanStep, Steps, step_at}
 use Rattle.lrp_model.specs.declared.relations.Relation.{Relation}
 use Rattle.lrp_tables.specs.Caps.{Inhabits}
 use Rattle.lrp_tables.proofs.Mapped.{many_map}
@@ -41,9 +40,9 @@ cap_is domain M vs ws set f K cap s means = (
 )
 
 -- a set inhabits more than cap cells exactly where the step has more
-pub many_at : (db : List Relation) (q : Question) (vs : List Variable) (set : Set) (step : PlanStep) (s cap : ℕ) → step_at (plan db q) s ≡ Some step → SameVariables vs (step_variables q.head step)
+pub many_at : (planned : Steps) (db : List Relation) (q : Question) (vs : List Variable) (set : Set) (step : PlanStep) (s cap : ℕ) → step_at planned s ≡ Some step → SameVariables vs (step_variables q.head step)
     → ((env : Assignment) → HasConstants (constants db q) vs env → set env ↔ Satisfies step.formula (structure db q) env)
-    → Many (Differ vs) (Inhabits (constants db q) step.period vs set) cap ↔ ManyAt db q cap s
-many_at db q vs set step s cap e same means =
+    → Many (Differ vs) (Inhabits (constants db q) step.period vs set) cap ↔ ManyAt planned db q cap s
+many_at planned db q vs set step s cap e same means =
     subst (λ o. Many (Differ vs) (Inhabits (constants db q) step.period vs set) cap ↔ MatchOption o ⊥ (λ t. ManyCells (structure db q) t.period (constants db q) (step_variables q.head t) t.formula cap)) (sym e)
     (cap_is (constants db q) (structure db q) vs (step_variables q.head step) set step.formula step.period cap same means)

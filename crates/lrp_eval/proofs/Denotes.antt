@@ -1,18 +1,19 @@
 -- What a step's table stands for: a set of assignments that is the meaning of the step's formula. Each call of the algebra keeps it.
-use Rattle.std.proofs.Common.{◌≡◌, ◌↔◌, ◌⊎◌, inl, inr, ⊎_elim, Bool, true, false, cond, not, List, [], ◌∷◌, ◌++◌, Contains, refl, sym, subst, map, filter, bytes_eq}
+use Rattle.std.proofs.Common.{◌≡◌, ◌≢◌, ◌↔◌, ◌⊎◌, inl, inr, ⊎_elim, Bool, true, false, cond, not, List, [], ◌∷◌, ◌++◌, Contains, refl, sym, ap, subst, ◌∙◌, map, filter, bytes_eq}
 use Rattle.std.specs.Prelude.{ℤ}
+use Rattle.std.specs.Cmp.Lexicographic.{bytes_decides}
 use Rattle.std.specs.List.{AllByRecursion}
 use Rattle.lrp_model.specs.Texts.{Text, Identifier}
 use Rattle.lrp_model.specs.Rows.{Datum, time, text, Holds}
 use Rattle.lrp_model.specs.Formulas.{Form, atom, test, sorted, negation, conjunction, disjunction, exists, no_forms, form}
-use Rattle.lrp_model.specs.Variables.{Variable, time_variable, data_variable, bound_by, same_variable, variables_of_test, free, free_each}
-use Rattle.lrp_model.specs.Satisfaction.{Structure, Assignment, Satisfies, SatisfiesAll, Passes, term_value, with_value, IsOfSort}
+use Rattle.lrp_model.specs.Variables.{Variable, time_variable, data_variable, same_variable, variables_of_test, free, free_each}
+use Rattle.lrp_model.specs.Satisfaction.{Structure, Assignment, Satisfies, SatisfiesAll, Passes, term_value, with_value, ForSome, IsOfSort}
 use Rattle.lrp_model.specs.Steps.{tests_as_forms}
 use Rattle.lrp_model.specs.declared.relations.Sort.{Sort}
-use Rattle.lrp_model.specs.declared.relations.Sort.TheVariants.{Time, Data, Named}
+use Rattle.lrp_model.specs.declared.relations.Sort.TheVariants.{Time}
 use Rattle.lrp_model.specs.declared.formulas.Term.{Term}
 use Rattle.lrp_model.specs.declared.formulas.Test.{Test}
-use Rattle.lrp_plan_laws.specs.Guards.{IsGuarded}
+use Rattle.lrp_plan_laws.specs.Made.{AreWithout}
 use Rattle.lrp_eval.specs.Running.{HasConstants, SameVariables}
 use Rattle.lrp_model.proofs.Decided.{Decided, stable_of, cons_cases, contains_first, contains_later, contains_none}
 use Rattle.lrp_plan_laws.proofs.Members.{in_left, in_one, in_right}
@@ -219,37 +220,35 @@ drop_time_keeps domain M vs us of set f v a s decided is = record {
     each env l n (time x) h = n ((is env).1 (x, (l x).1 h.1))
     each env l n (text t) h = absurd h.0
 
-module _ (domain : List Text) (M : Structure) (vs us : List Variable) (of set : Set) (f : Form) (v : Identifier) (s : Sort)
-    (texts : (d : Datum) → IsOfSort M s d → (t : Text) × (d ≡ text t) × Contains (M.domain s) t)
-    (back : (t : Text) → Contains (M.domain s) t → IsOfSort M s (text t)) (bound : bound_by s v ≡ data_variable v) where
-  drop_sort_keeps : Denotes domain M vs of f → SameVariables us (others (data_variable v) vs) → IsDecided set → IsGuarded domain M v s f → IsDropData domain v of set → Denotes domain M us set (exists v s f)
-  drop_sort_keeps a same decided guard is = record {
-    variables = subst (λ b. SameVariables us (filter (λ w. not (same_variable b w)) (free f))) (sym bound) (same_others (data_variable v) vs (free f) us a.variables same);
-    means = λ env k.
-        let l : (t : Text) → Contains domain t → of (with_value v (text t) env) ↔ Satisfies f M (with_value v (text t) env) =
-        λ t c. a.means (with_value v (text t) env) (constants_data domain vs env v t c (λ w d. k w ((same (data_variable w)).1 d))) in (
-          (λ h none. let x = (is env).0 h in let y : Satisfies f M (with_value v (text x.0) env) = (l x.0 x.1).0 x.2 in none (text x.0) (back x.0 (guard.guards env x.0 x.1 y), y)),
-          λ h. stable_of (decided env) (λ n. h (λ d g.
-              let x = texts d g.0 in
-              let c : Contains domain x.0 = guard.known x.0 x.2 in
-              n ((is env).1 (x.0, c, (l x.0 c).1 (subst (λ e. Satisfies f M (with_value v e env)) x.1 g.1))))),
-        );
-  }
+-- a variable is the same as another one, or not
+other_apart : (v : Identifier) (w : Variable) → not (same_variable (data_variable v) w) ≡ true → w ≢ data_variable v
+other_apart v w e same = let self : bytes_eq v v ≡ true = (bytes_decides v v).1 refl in let x : same_variable (data_variable v) w ≡ true = ap (λ u. same_variable (data_variable v) u) same ∙ self in cc
 
-texts_data : (M : Structure) (d : Datum) → IsOfSort M Data d → (t : Text) × (d ≡ text t) × Contains (M.domain Data) t
-texts_data M (time x) of = absurd of
-texts_data M (text t) of = (t, refl, of)
+apart_other : (v : Identifier) (w : Variable) → w ≢ data_variable v → not (same_variable (data_variable v) w) ≡ true
+apart_other v (time_variable m) apart = refl
+apart_other v (data_variable m) apart = by (bytes_eq v m) refl
+  where
+    by : (b : Bool) → bytes_eq v m ≡ b → not (bytes_eq v m) ≡ true
+    by true e = absurd (apart (ap data_variable (sym ((bytes_decides v m).0 e))))
+    by false e = ap not e
 
-texts_named : (M : Structure) (name : Identifier) (d : Datum) → IsOfSort M (Named name) d → (t : Text) × (d ≡ text t) × Contains (M.domain (Named name)) t
-texts_named M name (time x) of = absurd of
-texts_named M name (text t) of = (t, refl, of)
+-- the variables of a drop of texts
+pub same_without : (v : Identifier) (vs ws us xs : List Variable) → SameVariables vs ws → SameVariables us (others (data_variable v) vs) → AreWithout v ws xs → SameVariables us xs
+same_without v vs ws us xs s t without w = (
+  (λ c. let r = of_filter (λ u. not (same_variable (data_variable v) u)) vs w ((t w).0 c) in (without w).1 ((s w).0 r.0, other_apart v w r.1)),
+  λ c. let r = (without w).0 c in (t w).1 (in_filter (λ u. not (same_variable (data_variable v) u)) vs w ((s w).1 r.0) (apart_other v w r.1)),
+)
 
-pub drop_data_keeps : (domain : List Text) (M : Structure) (vs us : List Variable) (of set : Set) (f : Form) (v : Identifier)
-    → Denotes domain M vs of f → SameVariables us (others (data_variable v) vs) → IsDecided set → IsGuarded domain M v Data f
-    → IsDropData domain v of set → Denotes domain M us set (exists v Data f)
-drop_data_keeps domain M vs us of set f v = drop_sort_keeps domain M vs us of set f v Data (texts_data M) (λ t c. c) refl
-
-pub drop_named_keeps : (domain : List Text) (M : Structure) (vs us : List Variable) (of set : Set) (f : Form) (v name : Identifier)
-    → Denotes domain M vs of f → SameVariables us (others (data_variable v) vs) → IsDecided set → IsGuarded domain M v (Named name) f
-    → IsDropData domain v of set → Denotes domain M us set (exists v (Named name) f)
-drop_named_keeps domain M vs us of set f v name = drop_sort_keeps domain M vs us of set f v (Named name) (texts_named M name) (λ t c. c) refl
+-- the formula of a drop of texts holds where some constant completes the assignment
+pub drop_data_keeps : (domain : List Text) (M : Structure) (vs us : List Variable) (of set : Set) (f g : Form) (v : Identifier)
+    → Denotes domain M vs of f → SameVariables us (others (data_variable v) vs) → IsDecided set → IsDropData domain v of set → AreWithout v (free f) (free g)
+    → ((env : Assignment) → Satisfies g M env ↔ ForSome (λ t. Contains domain t × Satisfies f M (with_value v (text t) env))) → Denotes domain M us set g
+drop_data_keeps domain M vs us of set f g v a same decided is without says = record {
+  variables = same_without v vs (free f) us (free g) a.variables same without;
+  means = λ env k.
+      let l : (t : Text) → Contains domain t → of (with_value v (text t) env) ↔ Satisfies f M (with_value v (text t) env) =
+      λ t c. a.means (with_value v (text t) env) (constants_data domain vs env v t c (λ w d. k w ((same (data_variable w)).1 d))) in (
+        (λ h. let x = (is env).0 h in (says env).1 (λ none. none x.0 (x.1, (l x.0 x.1).0 x.2))),
+        λ h. stable_of (decided env) (λ n. (says env).0 h (λ t y. n ((is env).1 (t, y.0, (l t y.0).1 y.1)))),
+      );
+}

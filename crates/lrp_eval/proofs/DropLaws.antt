@@ -6,10 +6,8 @@ use Rattle.lrp_model.specs.Formulas.{Question, exists}
 use Rattle.lrp_model.specs.Variables.{time_variable, data_variable}
 use Rattle.lrp_model.specs.Satisfaction.{structure}
 use Rattle.lrp_model.specs.Domains.{constants}
-use Rattle.lrp_model.specs.Steps.{formula_at, reach_at}
-use Rattle.lrp_model.specs.Plans.{plan}
-use Rattle.lrp_model.specs.declared.relations.Sort.{Sort}
-use Rattle.lrp_model.specs.declared.relations.Sort.TheVariants.{Time, Data, Named}
+use Rattle.lrp_model.specs.Steps.{Steps, formula_at, reach_at}
+use Rattle.lrp_model.specs.declared.relations.Sort.TheVariants.{Time}
 use Rattle.lrp_model.specs.declared.relations.Relation.{Relation}
 use Rattle.lrp_model.specs.declared.plans.StepKind.TheVariants.{DropTime, DropData, Extend}
 use Rattle.lrp_store.specs.Stores.{IsStore, HasReach}
@@ -19,15 +17,13 @@ use Rattle.lrp_tables.specs.Tables.{Has, named_variables}
 use Rattle.lrp_tables.proofs.TableLaws.{decided_table}
 use Rattle.lrp_tables.proofs.DropCounts.{drop_time_counts, drop_data_counts}
 use Rattle.lrp_algebra.specs.Tables.{IsTimeDropped, IsTextDropped}
-use Rattle.lrp_plan_laws.specs.Made.{IsDataSort}
-use Rattle.lrp_plan_laws.specs.Guards.{IsGuarded}
 use Rattle.lrp_eval.specs.Running.{SameVariables, variables_of, IsStepTable, IsOperand, IsNext}
-use Rattle.lrp_eval.proofs.Denotes.{Denotes, IsDecided, IsDropData, others, drop_time_keeps, drop_data_keeps, drop_named_keeps}
+use Rattle.lrp_eval.proofs.Denotes.{Denotes, IsDecided, IsDropData, others, drop_time_keeps, drop_data_keeps}
 use Rattle.lrp_eval.proofs.Named.{time_dropped, text_dropped}
 use Rattle.lrp_eval.proofs.Nexts.{IsRead, formula_kind, reach_kind, keeps_kind, denotes_of, sound_step, meant, run, run_of, many_read, ascends, no_order, IsMeant}
 use Rattle.lrp_eval.proofs.Reading.{step_small, earlier, reach_within, numbered}
 
-module _ {db : List Relation} {q : Question} {cap : ℕ} {domain : List Text} {tables : List Table} {of : ℕ} {name : Identifier} {period : ℤ} (n : IsNext db q cap domain tables (DropTime of name) period) {table : Table} (o : IsOperand tables of table) where
+module _ {planned : Steps} {db : List Relation} {q : Question} {cap : ℕ} {domain : List Text} {tables : List Table} {of : ℕ} {name : Identifier} {period : ℤ} (n : IsNext planned db q cap domain tables (DropTime of name) period) {table : Table} (o : IsOperand tables of table) where
   before : IsRead n of
   before = (earlier n).0
 
@@ -44,8 +40,8 @@ module _ {db : List Relation} {q : Question} {cap : ℕ} {domain : List Text} {t
     denotes : Denotes (constants db q) (structure db q) (named_variables (other_names name table.vars.times) table.vars.texts) (Has made domain) n.step.formula
     denotes =
         subst (Denotes (constants db q) (structure db q) (named_variables (other_names name table.vars.times) table.vars.texts) (Has made domain)) (sym (formula_kind n))
-        (subst (λ c. Denotes (constants db q) (structure db q) (named_variables (other_names name table.vars.times) table.vars.texts) (Has made c) (exists name Time (formula_at (plan db q) of))) (sym n.domain_is)
-        (drop_time_keeps (constants db q) (structure db q) (variables_of table) (named_variables (other_names name table.vars.times) table.vars.texts) (Has table (constants db q)) (Has made (constants db q)) (formula_at (plan db q) of) name
+        (subst (λ c. Denotes (constants db q) (structure db q) (named_variables (other_names name table.vars.times) table.vars.texts) (Has made c) (exists name Time (formula_at planned of))) (sym n.domain_is)
+        (drop_time_keeps (constants db q) (structure db q) (variables_of table) (named_variables (other_names name table.vars.times) table.vars.texts) (Has table (constants db q)) (Has made (constants db q)) (formula_at planned of) name
         (denotes_of n of table before o) variables_are (λ env. decided_table (constants db q) (subst Ascends n.domain_is (ascends n)) made valid env)
         (λ env. ((λ h. d.to (constants db q) env h), λ h. d.from (constants db q) env h.0 h.1))))
 
@@ -60,13 +56,13 @@ module _ {db : List Relation} {q : Question} {cap : ℕ} {domain : List Text} {t
         (subst (λ c. InhabitsMoreThan cap c table.store.period table.vars.times table.vars.texts (Has table c)) n.domain_is
         (drop_time_counts domain table.store.period o.valid.period_low table.vars.times table.vars.texts name (Has made domain) (Has table domain) (λ env m. d.to domain env m) cap h)))
 
-    pub drop_time_run : IsStepTable db q cap (suc (length tables)) made
+    pub drop_time_run : IsStepTable planned db q cap (suc (length tables)) made
     drop_time_run =
         run n _ _ (Has made domain) table.store.period is_meant same_period made
         (record { times_are = d.times; texts_are = d.texts; period_is = d.period; sound = λ env h. h; whole = λ env h. h; numbered = d.numbered domain (numbered n o before) })
-        (subst (λ r. HasReach made.store r) (sym (reach_kind n)) (d.reach (reach_at (plan db q) of) (reach_within n o before (reach_at (plan db q) of) (omega arith)))) few (no_order n other made)
+        (subst (λ r. HasReach made.store r) (sym (reach_kind n)) (d.reach (reach_at planned of) (reach_within n o before (reach_at planned of) (omega arith)))) few (no_order n other made)
 
-module _ {db : List Relation} {q : Question} {cap : ℕ} {domain : List Text} {tables : List Table} {of : ℕ} {name : Identifier} {period : ℤ} (n : IsNext db q cap domain tables (DropData of name) period) {table : Table} (o : IsOperand tables of table) where
+module _ {planned : Steps} {db : List Relation} {q : Question} {cap : ℕ} {domain : List Text} {tables : List Table} {of : ℕ} {name : Identifier} {period : ℤ} (n : IsNext planned db q cap domain tables (DropData of name) period) {table : Table} (o : IsOperand tables of table) where
   text_before : IsRead n of
   text_before = (earlier n).0
 
@@ -83,21 +79,11 @@ module _ {db : List Relation} {q : Question} {cap : ℕ} {domain : List Text} {t
     decided : IsDecided (Has made (constants db q))
     decided env = decided_table (constants db q) (subst Ascends n.domain_is (ascends n)) made valid env
 
-    by_sort : (s : Sort) → IsDataSort s → IsGuarded (constants db q) (structure db q) name s (formula_at (plan db q) of)
-        → Denotes (constants db q) (structure db q) (named_variables table.vars.times (other_names name table.vars.texts)) (Has made (constants db q)) (exists name s (formula_at (plan db q) of))
-    by_sort Time h g = absurd h
-    by_sort Data h g = drop_data_keeps (constants db q) (structure db q) (variables_of table) (named_variables table.vars.times (other_names name table.vars.texts)) (Has table (constants db q)) (Has made (constants db q)) (formula_at (plan db q) of) name
-        (denotes_of n of table text_before o) text_variables decided g is_drop
-    by_sort (Named sort) h g =
-        drop_named_keeps (constants db q) (structure db q) (variables_of table) (named_variables table.vars.times (other_names name table.vars.texts)) (Has table (constants db q)) (Has made (constants db q)) (formula_at (plan db q) of) name sort
-        (denotes_of n of table text_before o) text_variables decided g is_drop
-
     text_denotes : Denotes (constants db q) (structure db q) (named_variables table.vars.times (other_names name table.vars.texts)) (Has made domain) n.step.formula
     text_denotes =
-        let f : (s : Sort) × IsDataSort s × (n.step.formula ≡ exists name s (formula_at (plan db q) of)) = formula_kind n in
-        subst (Denotes (constants db q) (structure db q) (named_variables table.vars.times (other_names name table.vars.texts)) (Has made domain)) (sym f.2)
-        (subst (λ c. Denotes (constants db q) (structure db q) (named_variables table.vars.times (other_names name table.vars.texts)) (Has made c) (exists name f.0 (formula_at (plan db q) of))) (sym n.domain_is)
-        (by_sort f.0 f.1 ((sound_step n).guarded of name f.0 (sym n.kind_is) f.1 f.2)))
+        subst (λ c. Denotes (constants db q) (structure db q) (named_variables table.vars.times (other_names name table.vars.texts)) (Has made c) n.step.formula) (sym n.domain_is)
+        (drop_data_keeps (constants db q) (structure db q) (variables_of table) (named_variables table.vars.times (other_names name table.vars.texts)) (Has table (constants db q)) (Has made (constants db q)) (formula_at planned of) n.step.formula name
+        (denotes_of n of table text_before o) text_variables decided is_drop (formula_kind n) ((sound_step n).drops of name (sym n.kind_is)))
 
     text_meant : IsMeant n (named_variables table.vars.times (other_names name table.vars.texts)) (Has made domain)
     text_meant = meant n _ _ text_other text_denotes
@@ -110,8 +96,8 @@ module _ {db : List Relation} {q : Question} {cap : ℕ} {domain : List Text} {t
         (subst (λ c. InhabitsMoreThan cap c table.store.period table.vars.times table.vars.texts (Has table c)) n.domain_is
         (drop_data_counts domain table.store.period o.valid.period_low table.vars.times table.vars.texts name (Has made domain) (Has table domain) (λ env m. d.to env m) cap h)))
 
-    pub drop_data_run : IsStepTable db q cap (suc (length tables)) made
+    pub drop_data_run : IsStepTable planned db q cap (suc (length tables)) made
     drop_data_run =
         run n _ _ (Has made domain) table.store.period text_meant text_period made
         (record { times_are = d.times; texts_are = d.texts; period_is = d.period; sound = λ env h. h; whole = λ env h. h; numbered = d.numbered (numbered n o text_before) })
-        (subst (λ r. HasReach made.store r) (sym (reach_kind n)) (d.reach (reach_at (plan db q) of) (reach_within n o text_before (reach_at (plan db q) of) (omega arith)))) text_few (no_order n text_other made)
+        (subst (λ r. HasReach made.store r) (sym (reach_kind n)) (d.reach (reach_at planned of) (reach_within n o text_before (reach_at planned of) (omega arith)))) text_few (no_order n text_other made)

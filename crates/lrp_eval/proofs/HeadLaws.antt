@@ -3,14 +3,12 @@ use Rattle.std.proofs.Common.{◌≡◌, ◌↔◌, ⊎_elim, ℕ, suc, List, �
 use Rattle.std.specs.Prelude.{ℤ}
 use Rattle.lrp_model.specs.Texts.{Text}
 use Rattle.lrp_model.specs.Formulas.{Question}
-use Rattle.lrp_model.specs.Core.{guarded, has_named_sort}
 use Rattle.lrp_model.specs.Variables.{Variable, time_variable, data_variable, free, head_variables}
 use Rattle.lrp_model.specs.Satisfaction.{Assignment, Satisfies, structure}
 use Rattle.lrp_model.specs.Domains.{constants}
 use Rattle.lrp_model.specs.Cells.{Differ, Many}
 use Rattle.lrp_model.specs.Caps.{step_variables, variables_with}
-use Rattle.lrp_model.specs.Steps.{formula_at, reach_at}
-use Rattle.lrp_model.specs.Plans.{plan, core_steps}
+use Rattle.lrp_model.specs.Steps.{Steps, formula_at, reach_at}
 use Rattle.lrp_model.specs.declared.relations.Relation.{Relation}
 use Rattle.lrp_model.specs.declared.plans.StepKind.TheVariants.{Extend}
 use Rattle.lrp_store.specs.Stores.{HasReach}
@@ -24,16 +22,15 @@ use Rattle.lrp_tables.specs.Tables.{Has, HasTexts, IsTableOf, IsExtended, named_
 use Rattle.lrp_tables.proofs.HeadNames.{head_names_differ}
 use Rattle.lrp_tables.proofs.TableLaws.{table_texts}
 use Rattle.lrp_plan_laws.specs.Scopes.{IsNarrow}
-use Rattle.lrp_plan_laws.proofs.Elements.{formula_front, formula_made}
-use Rattle.lrp_plan_laws.proofs.PlanSound.{steps_say}
 use Rattle.lrp_tables.proofs.Mapped.{many_map}
 use Rattle.lrp_eval.specs.Running.{HasConstants, variables_of, IsStepTable, IsOperand, IsNext, IsRunResult}
 use Rattle.lrp_eval.proofs.Named.{head_columns, times_in_head, texts_in_head, time_named, data_named, are_texts}
 use Rattle.lrp_eval.proofs.Nexts.{IsRead, formula_kind, reach_kind, keeps_kind, denotes_of, many_read, sound_plan, ran, run_of, IsMeant}
+use Rattle.lrp_eval.proofs.PlanEnds.{last_formula}
 use Rattle.lrp_eval.proofs.Reading.{earlier, reach_within, numbered, first_differ, second_differ}
 use Rattle.lrp_plan_laws.proofs.Members.{all_by, in_left, in_one}
 
-module _ {db : List Relation} {q : Question} {cap : ℕ} {domain : List Text} {tables : List Table} {of : ℕ} {period : ℤ} (n : IsNext db q cap domain tables (Extend of) period) {table : Table} (o : IsOperand tables of table) where
+module _ {planned : Steps} {db : List Relation} {q : Question} {cap : ℕ} {domain : List Text} {tables : List Table} {of : ℕ} {period : ℤ} (n : IsNext planned db q cap domain tables (Extend of) period) {table : Table} (o : IsOperand tables of table) where
   before : IsRead n of
   before = (earlier n).0
 
@@ -42,23 +39,23 @@ module _ {db : List Relation} {q : Question} {cap : ℕ} {domain : List Text} {t
 
   -- the columns of the table are the head's
   among : (v : Variable) → Contains (variables_of table) v → Contains (head_variables q.head) v
-  among v c = (sound_plan n).core v (subst (λ l. Contains (free (formula_at (plan db q) l)) v) (formula_kind n).0 (((denotes_of n of table before o).variables v).0 c))
+  among v c = (sound_plan n).core v (subst (λ l. Contains (free (formula_at planned l)) v) (formula_kind n).0 (((denotes_of n of table before o).variables v).0 c))
 
   head_numbered : AreNumbered domain table.store
   head_numbered = numbered n o before
 
   narrow : IsNarrow (head_variables q.head ++ free q.body)
-  narrow = n.planned.1.settled.whole
+  narrow = n.plan.1.settled.whole
 
   pub can_extend : CanExtend domain q.head table
   can_extend = record {
     numbered = head_numbered;
     times = λ v c. (times_in_head q.head v).1 (among (time_variable v) ((time_named table.vars.times table.vars.texts v).1 c));
     texts = λ v c. (texts_in_head q.head v).1 (among (data_variable v) ((data_named table.vars.times table.vars.texts v).1 c));
-    names = n.planned.1.settled.names;
-    few_times = narrow.times (head_times q.head) (first_differ (head_times q.head) (head_texts q.head) (head_names_differ q.head n.planned.1.settled.names))
+    names = n.plan.1.settled.names;
+    few_times = narrow.times (head_times q.head) (first_differ (head_times q.head) (head_texts q.head) (head_names_differ q.head n.plan.1.settled.names))
         (all_by _ (head_times q.head) (λ v c. in_left (head_variables q.head) (free q.body) (time_variable v) ((times_in_head q.head v).0 c)));
-    few_texts = narrow.texts (head_texts q.head) (second_differ (head_times q.head) (head_texts q.head) (head_names_differ q.head n.planned.1.settled.names))
+    few_texts = narrow.texts (head_texts q.head) (second_differ (head_times q.head) (head_texts q.head) (head_names_differ q.head n.plan.1.settled.names))
         (all_by _ (head_texts q.head) (λ v c. in_left (head_variables q.head) (free q.body) (data_variable v) ((texts_in_head q.head v).0 c)));
   }
 
@@ -66,22 +63,16 @@ module _ {db : List Relation} {q : Question} {cap : ℕ} {domain : List Text} {t
   step_is : step_variables q.head n.step ≡ head_variables q.head ++ free n.step.formula
   step_is = ap (λ k. variables_with k q.head (free n.step.formula)) (sym n.kind_is)
 
-  formula_is : n.step.formula ≡ formula_at (plan db q) (length (plan db q))
-  formula_is = (formula_kind n).1 ∙ sym last_formula
-    where
-      last_formula : formula_at (plan db q) (length (plan db q)) ≡ guarded (has_named_sort db) q.head q.body
-      last_formula = formula_made (structure db q) (Extend (length (core_steps db q))) (guarded (has_named_sort db) q.head q.body) (core_steps db q)
+  formula_is : n.step.formula ≡ formula_at planned (length planned)
+  formula_is = (formula_kind n).1 ∙ sym (last_formula (sound_plan n))
 
   head_means : (env : Assignment) → HasConstants (constants db q) names env → IsExtended (constants db q) q.head table env ↔ Satisfies n.step.formula (structure db q) env
   head_means env k =
       let own : HasConstants (constants db q) (variables_of table) env = λ v c. k v ((head_columns q.head (data_variable v)).1 (among (data_variable v) c)) in
-      let l : Has table (constants db q) env ↔ Satisfies (formula_at (plan db q) of) (structure db q) env = (denotes_of n of table before o).means env own in
-      let f : formula_at (plan db q) of ≡ formula_at (core_steps db q) (length (core_steps db q)) =
-      ap (formula_at (plan db q)) (formula_kind n).0 ∙ formula_front (core_steps db q) _ (length (core_steps db q)) (omega arith) in
-      let s : Satisfies (formula_at (core_steps db q) (length (core_steps db q))) (structure db q) env ↔ Satisfies (guarded (has_named_sort db) q.head q.body) (structure db q) env = steps_say db q n.planned.1.settled.elements env in
-      let t : Satisfies (formula_at (plan db q) of) (structure db q) env ↔ Satisfies n.step.formula (structure db q) env =
-      subst (λ g. Satisfies g (structure db q) env ↔ Satisfies n.step.formula (structure db q) env) (sym f)
-      (subst (λ g. Satisfies (formula_at (core_steps db q) (length (core_steps db q))) (structure db q) env ↔ Satisfies g (structure db q) env) (sym (formula_kind n).1) s) in
+      let l : Has table (constants db q) env ↔ Satisfies (formula_at planned of) (structure db q) env = (denotes_of n of table before o).means env own in
+      let t : Satisfies (formula_at planned of) (structure db q) env ↔ Satisfies n.step.formula (structure db q) env =
+      subst (λ g. Satisfies (formula_at planned of) (structure db q) env ↔ Satisfies g (structure db q) env) (sym formula_is)
+      (subst (λ i. Satisfies (formula_at planned i) (structure db q) env ↔ Satisfies (formula_at planned (length planned)) (structure db q) env) (sym (formula_kind n).0) ((sound_plan n).says env (λ v c. k v ((head_columns q.head (data_variable v)).1 c)))) in
       ((λ h. t.0 (l.0 h.has)), λ h. record { known = are_texts (constants db q) (head_times q.head) (head_texts q.head) env k; has = l.1 (t.1 h) })
 
   is_meant : IsMeant n names (IsExtended domain q.head table)
@@ -96,9 +87,9 @@ module _ {db : List Relation} {q : Question} {cap : ℕ} {domain : List Text} {t
   same_period : table.store.period ≡ n.step.period
   same_period = (run_of n of table before o).period ∙ sym (keeps_kind n)
 
-  pub head_ran : (result : Result Table StepFault) → IsExtendResult cap domain q.head table result → IsRunResult db q cap (suc (length tables)) result
+  pub head_ran : (result : Result Table StepFault) → IsExtendResult cap domain q.head table result → IsRunResult planned db q cap (suc (length tables)) result
   head_ran result is =
-      let most : ℕ = reach_at (plan db q) of in
+      let most : ℕ = reach_at planned of in
       ran n _ _ _ _ is_meant same_period (HasReach table.store) (λ high. high) most (reach_within n o before most (omega arith)) (sym (reach_kind n)) (λ t i step l at kind. (i.times_are, i.texts_are)) result is
 
   -- a table that has the head's columns already is that of the step
@@ -124,5 +115,5 @@ module _ {db : List Relation} {q : Question} {cap : ℕ} {domain : List Text} {t
         (subst (λ vs. Many (Differ vs) (Inhabits domain table.store.period vs (Has table domain)) cap) same own) in
         (run_of n of table before o).few (many_read n of table before o table.store.period (run_of n of table before o).period told)
 
-    pub head_stands : IsStepTable db q cap (suc (length tables)) table
+    pub head_stands : IsStepTable planned db q cap (suc (length tables)) table
     head_stands = (head_ran (Ok table) (record { table = as_it_is; reach = λ high r. r; few = no_more; many = λ e. cc })).table

@@ -10,39 +10,38 @@ use Rattle.lrp_model.specs.declared.relations.Sort.{Sort}
 use Rattle.lrp_model.specs.declared.relations.Sort.TheVariants.{Time, Data, Named}
 use Rattle.lrp_tables.specs.Columns.{head_times, head_texts, text_name, with_time_name}
 use Rattle.lrp_model.specs.Formulas.{Question}
-use Rattle.lrp_model.specs.Satisfaction.{structure}
-use Rattle.lrp_model.specs.Core.{guarded, has_named_sort}
-use Rattle.lrp_model.specs.Plans.{plan, core_steps}
+use Rattle.lrp_model.specs.Steps.{Steps}
 use Rattle.lrp_model.specs.declared.relations.Relation.{Relation}
 use Rattle.lrp_model.specs.declared.plans.Plan.{Plan}
 use Rattle.lrp_model.specs.declared.plans.StepKind.{StepKind}
 use Rattle.lrp_model.specs.declared.plans.StepKind.TheVariants.{Extend}
 use Rattle.lrp_tables.specs.declared.table.Table.{Table}
-use Rattle.lrp_plan_laws.proofs.Elements.{length_made, within}
+use Rattle.lrp_plan_laws.proofs.Elements.{within}
 use Rattle.lrp_eval.specs.Planned.{IsPlanOf}
 use Rattle.lrp_eval.specs.Running.{AreRun, IsLastRun, IsNext, IsStepTable, StandsAtHead}
 use Rattle.lrp_eval.proofs.HeadLaws.{head_stands}
 use Rattle.lrp_eval.proofs.LoopLaws.{at_last, last_run, more_count, more_run, zip_length}
 use Rattle.lrp_eval.proofs.Nexts.{formula_kind}
+use Rattle.lrp_eval.proofs.PlanEnds.{some_steps}
 
 -- there is a table
 pub some_table : (tables : List Table) (t : Table) → slice_get tables (length tables - 1) ≡ Some t → 0 < length tables
 some_table tables t e = let l : length tables - 1 < length tables = within tables (length tables - 1) t e in omega arith
 
-pub headed_run : (db : List Relation) (q : Question) (cap : ℕ) (p : Plan) (tables front : List Table) (t : Table) (kind : StepKind) (period : ℤ) → IsPlanOf db q p → IsNext db q cap p.domain tables kind period
-    → StandsAtHead q.head tables kind → AreRun db q cap tables → tables ≡ front ++ t ∷ [] → IsLastRun db q cap t
-headed_run db q cap p tables front t kind period h next s run same =
-    let n : IsNext db q cap p.domain tables (Extend (length tables)) period = subst (λ k. IsNext db q cap p.domain tables k period) s.kind_is next in
+pub headed_run : (planned : Steps) (db : List Relation) (q : Question) (cap : ℕ) (p : Plan) (tables front : List Table) (t : Table) (kind : StepKind) (period : ℤ) → IsPlanOf planned db q p → IsNext planned db q cap p.domain tables kind period
+    → StandsAtHead q.head tables kind → AreRun planned db q cap tables → tables ≡ front ++ t ∷ [] → IsLastRun planned db q cap t
+headed_run planned db q cap p tables front t kind period h next s run same =
+    let n : IsNext planned db q cap p.domain tables (Extend (length tables)) period = subst (λ k. IsNext planned db q cap p.domain tables k period) s.kind_is next in
     let count : length tables ≡ length front + 1 = ap length same ∙ more_count front t (length front) refl in
     let place : length tables - 1 ≡ length front = omega (arith, count) in
     let last : slice_get tables (length tables - 1) ≡ Some t = ap (slice_get tables) place ∙ ap (λ l. slice_get l (length front)) same ∙ at_last front t in
     let e : s.table ≡ t = (let o : Some s.table ≡ Some t = sym s.last.at ∙ last in cc) in
-    let r : IsStepTable db q cap (suc (length tables)) t = subst (IsStepTable db q cap (suc (length tables))) e (head_stands n s.last s.times s.texts) in
-    let steps : length p.steps ≡ length (plan db q) = zip_length p.steps (plan db q) h.is.steps in
-    let whole : length (plan db q) ≡ suc (length (core_steps db q)) = length_made (structure db q) (Extend (length (core_steps db q))) (guarded (has_named_sort db) q.head q.body) (core_steps db q) in
-    let of : length tables ≡ length (core_steps db q) = (formula_kind n).0 in
+    let r : IsStepTable planned db q cap (suc (length tables)) t = subst (IsStepTable planned db q cap (suc (length tables))) e (head_stands n s.last s.times s.texts) in
+    let steps : length p.steps ≡ length planned = zip_length p.steps planned h.is.steps in
+    let of : length tables ≡ length planned - 1 = (formula_kind n).0 in
+    let some : 0 < length planned = some_steps h.sound in
     let more : length (tables ++ t ∷ []) ≡ length tables + 1 = more_count tables t (length tables) refl in
-    last_run db q cap p (tables ++ t ∷ []) tables t h (omega (arith, steps, whole, of, more)) (omega (arith, steps, whole, of, more)) (more_run db q cap tables (tables ++ t ∷ []) t refl run r) refl
+    last_run planned db q cap p (tables ++ t ∷ []) tables t h (omega (arith, steps, some, of, more)) (omega (arith, steps, some, of, more)) (more_run planned db q cap tables (tables ++ t ∷ []) t refl run r) refl
 
 -- ---- the names of a head's columns
 -- what is left of a list behind its first element

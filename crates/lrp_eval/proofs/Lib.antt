@@ -4,6 +4,7 @@ pub mod Named
 pub mod Counted
 pub mod CellCounts
 pub mod AnswerCounts
+pub mod PlanEnds
 pub mod Nexts
 pub mod Reading
 pub mod AnswerLaws

@@ -6,8 +6,7 @@ use Rattle.lrp_model.specs.Formulas.{Question, conjunction, negation, no_forms, 
 use Rattle.lrp_model.specs.Variables.{time_variable, data_variable}
 use Rattle.lrp_model.specs.Satisfaction.{structure}
 use Rattle.lrp_model.specs.Domains.{constants}
-use Rattle.lrp_model.specs.Steps.{formula_at, reach_at}
-use Rattle.lrp_model.specs.Plans.{plan}
+use Rattle.lrp_model.specs.Steps.{Steps, formula_at, reach_at}
 use Rattle.lrp_model.specs.declared.relations.Relation.{Relation}
 use Rattle.lrp_model.specs.declared.plans.StepKind.TheVariants.{Minus, Complement, Extend}
 use Rattle.lrp_store.specs.Stores.{HasReach}
@@ -22,7 +21,7 @@ use Rattle.lrp_eval.proofs.Named.{time_named, data_named, texts_are, are_texts}
 use Rattle.lrp_eval.proofs.Nexts.{IsRead, formula_kind, variables_kind, reach_kind, keeps_kind, period_nat, denotes_of, meant, ran, run_of, ascends, no_order, IsMeant}
 use Rattle.lrp_eval.proofs.Reading.{step_small, earlier, multiples, period_divides, reach_within, numbered, variables, low}
 
-module _ {db : List Relation} {q : Question} {cap : ℕ} {domain : List Text} {tables : List Table} {left right : ℕ} {period : ℤ} (n : IsNext db q cap domain tables (Minus left right) period) {lt rt : Table} (lo : IsOperand tables left lt) (ro : IsOperand tables right rt) where
+module _ {planned : Steps} {db : List Relation} {q : Question} {cap : ℕ} {domain : List Text} {tables : List Table} {left right : ℕ} {period : ℤ} (n : IsNext planned db q cap domain tables (Minus left right) period) {lt rt : Table} (lo : IsOperand tables left lt) (ro : IsOperand tables right rt) where
   le : IsRead n left
   le = (earlier n).0
 
@@ -49,8 +48,8 @@ module _ {db : List Relation} {q : Question} {cap : ℕ} {domain : List Text} {t
   pub denotes : Denotes (constants db q) (structure db q) (variables_of lt) (IsMinus domain lt rt) n.step.formula
   denotes =
       subst (Denotes (constants db q) (structure db q) (variables_of lt) (IsMinus domain lt rt)) (sym (formula_kind n))
-      (subst (λ d. Denotes (constants db q) (structure db q) (variables_of lt) (IsMinus d lt rt) (conjunction (form (formula_at (plan db q) left) (form (negation (formula_at (plan db q) right)) no_forms)))) (sym n.domain_is)
-      (minus_keeps (constants db q) (structure db q) (variables_of lt) (variables_of rt) (Has lt (constants db q)) (Has rt (constants db q)) (IsMinus (constants db q) lt rt) (formula_at (plan db q) left) (formula_at (plan db q) right)
+      (subst (λ d. Denotes (constants db q) (structure db q) (variables_of lt) (IsMinus d lt rt) (conjunction (form (formula_at planned left) (form (negation (formula_at planned right)) no_forms)))) (sym n.domain_is)
+      (minus_keeps (constants db q) (structure db q) (variables_of lt) (variables_of rt) (Has lt (constants db q)) (Has rt (constants db q)) (IsMinus (constants db q) lt rt) (formula_at planned left) (formula_at planned right)
       (denotes_of n left lt le lo) (denotes_of n right rt re ro) known (λ env. ((λ h. (h.has, h.none)), λ h. record { has = h.0; none = h.1 }))))
 
   other : (l : ℕ) → Minus left right ≡ Extend l → ⊥
@@ -59,14 +58,14 @@ module _ {db : List Relation} {q : Question} {cap : ℕ} {domain : List Text} {t
   is_meant : IsMeant n (variables_of lt) (IsMinus domain lt rt)
   is_meant = meant n _ _ other denotes
 
-  pub minus_ran : (result : Result Table StepFault) → IsMinusResult cap period lt rt result → IsRunResult db q cap (suc (length tables)) result
+  pub minus_ran : (result : Result Table StepFault) → IsMinusResult cap period lt rt result → IsRunResult planned db q cap (suc (length tables)) result
   minus_ran result is =
-      let most : ℕ = max (reach_at (plan db q) left) (reach_at (plan db q) right) in
+      let most : ℕ = max (reach_at planned left) (reach_at planned right) in
       ran n _ _ _ _ is_meant (period_nat n) (BothReach lt rt) (λ high. high + 2 * nat_abs period) most
       (record { left_reach = reach_within n lo le most (omega arith); right_reach = reach_within n ro re most (omega arith) }) (sym (reach_kind n ∙ ap (λ k. most + 2 * k) (sym (period_nat n)))) (λ t i. no_order n other t) result
       (is.step domain (ascends n) (numbered n lo le))
 
-module _ {db : List Relation} {q : Question} {cap : ℕ} {domain : List Text} {tables : List Table} {of : ℕ} {period : ℤ} (n : IsNext db q cap domain tables (Complement of) period) {table : Table} (o : IsOperand tables of table) where
+module _ {planned : Steps} {db : List Relation} {q : Question} {cap : ℕ} {domain : List Text} {tables : List Table} {of : ℕ} {period : ℤ} (n : IsNext planned db q cap domain tables (Complement of) period) {table : Table} (o : IsOperand tables of table) where
   before : IsRead n of
   before = (earlier n).0
 
@@ -82,8 +81,8 @@ module _ {db : List Relation} {q : Question} {cap : ℕ} {domain : List Text} {t
   complement_denotes : Denotes (constants db q) (structure db q) (variables_of table) (IsComplement domain table) n.step.formula
   complement_denotes =
       subst (Denotes (constants db q) (structure db q) (variables_of table) (IsComplement domain table)) (sym (formula_kind n))
-      (subst (λ d. Denotes (constants db q) (structure db q) (variables_of table) (IsComplement d table) (negation (formula_at (plan db q) of))) (sym n.domain_is)
-      (complement_keeps (constants db q) (structure db q) (variables_of table) (Has table (constants db q)) (IsComplement (constants db q) table) (formula_at (plan db q) of) (denotes_of n of table before o)
+      (subst (λ d. Denotes (constants db q) (structure db q) (variables_of table) (IsComplement d table) (negation (formula_at planned of))) (sym n.domain_is)
+      (complement_keeps (constants db q) (structure db q) (variables_of table) (Has table (constants db q)) (IsComplement (constants db q) table) (formula_at planned of) (denotes_of n of table before o)
       (λ env. ((λ h. (texts_are (constants db q) table.vars.times table.vars.texts env h.known, h.none)), λ h. record { known = are_texts (constants db q) table.vars.times table.vars.texts env h.0; none = h.1 }))))
 
   complement_other : (l : ℕ) → Complement of ≡ Extend l → ⊥
@@ -92,7 +91,7 @@ module _ {db : List Relation} {q : Question} {cap : ℕ} {domain : List Text} {t
   complement_meant : IsMeant n (variables_of table) (IsComplement domain table)
   complement_meant = meant n _ _ complement_other complement_denotes
 
-  pub complement_ran : (result : Result Table StepFault) → IsComplementResult cap domain table result → IsRunResult db q cap (suc (length tables)) result
+  pub complement_ran : (result : Result Table StepFault) → IsComplementResult cap domain table result → IsRunResult planned db q cap (suc (length tables)) result
   complement_ran result is =
-      let most : ℕ = reach_at (plan db q) of in
+      let most : ℕ = reach_at planned of in
       ran n _ _ _ _ complement_meant same_period (HasReach table.store) (λ high. high + 2 * table.store.period) most (reach_within n o before most (omega arith)) (sym (reach_kind n ∙ ap (λ k. most + 2 * k) (sym same_period))) (λ t i. no_order n complement_other t) result is

@@ -5,15 +5,14 @@ use Rattle.std.proofs.Math.Nat.{pow-succ', mul-le-mul_right}
 use Rattle.std.specs.Prelude.{ℤ, nat_abs, flat_map, Contains}
 use Rattle.lrp_model.specs.Texts.{Text, Identifier, Ascends}
 use Rattle.lrp_model.specs.Formulas.{Question, conjunction, no_forms}
-use Rattle.lrp_model.specs.Core.{guarded, has_named_sort}
 use Rattle.lrp_model.specs.Variables.{Variable, free}
 use Rattle.lrp_model.specs.Satisfaction.{Assignment, Satisfies, structure}
 use Rattle.lrp_model.specs.Domains.{constants, all_texts}
 use Rattle.lrp_model.specs.Cells.{Differ, Many}
 use Rattle.lrp_model.specs.Caps.{ManyAt, step_variables, variables_with}
 use Rattle.lrp_model.specs.Reach.{step_reach}
-use Rattle.lrp_model.specs.Steps.{PlanStep, step_at, formula_at, reach_at}
-use Rattle.lrp_model.specs.Plans.{plan, core_steps, query_reach}
+use Rattle.lrp_model.specs.Steps.{PlanStep, Steps, step_at, formula_at, reach_at}
+use Rattle.lrp_model.specs.Plans.{query_reach}
 use Rattle.lrp_model.specs.Sorts.{time_count}
 use Rattle.lrp_model.specs.declared.relations.Relation.{Relation}
 use Rattle.lrp_model.specs.declared.relations.Column.{Column}
@@ -30,12 +29,11 @@ use Rattle.lrp_plan_laws.specs.Made.{IsMade, IsFormula, HasVariables, operands, 
 use Rattle.lrp_plan_laws.specs.Rising.{IsRising, KeepsPeriod, period_at}
 use Rattle.lrp_plan_laws.specs.Scopes.{IsNarrow}
 use Rattle.lrp_plan_laws.specs.Settled.{IsSoundPlan, IsSoundStep}
-use Rattle.lrp_plan_laws.proofs.SettledLaws.{sound}
-use Rattle.lrp_plan_laws.proofs.Elements.{found, length_made, within as inside}
-use Rattle.lrp_plan_laws.proofs.NarrowLaws.{no_other_head}
+use Rattle.lrp_plan_laws.proofs.Elements.{found, within as inside}
 use Rattle.lrp_eval.specs.Running.{HasConstants, SameVariables, variables_of, variables_at, IsStepTable, IsOperand, IsNext, HasHeadColumns, IsRunResult}
 use Rattle.lrp_eval.proofs.Denotes.{Set, Denotes}
 use Rattle.lrp_eval.proofs.Counted.{many_at}
+use Rattle.lrp_eval.proofs.PlanEnds.{no_other_head}
 
 -- ---- places
 
@@ -74,42 +72,42 @@ own_variables (DropTime of v) cs vs h = refl
 own_variables (DropData of v) cs vs h = refl
 own_variables (Extend of) cs vs h = absurd (h of refl)
 
-module _ {db : List Relation} {q : Question} {cap : ℕ} {domain : List Text} {tables : List Table} {kind : StepKind} {period : ℤ} (n : IsNext db q cap domain tables kind period) where
-  pub sound_plan : IsSoundPlan db q
-  sound_plan = sound db q n.planned.1.settled
+module _ {planned : Steps} {db : List Relation} {q : Question} {cap : ℕ} {domain : List Text} {tables : List Table} {kind : StepKind} {period : ℤ} (n : IsNext planned db q cap domain tables kind period) where
+  pub sound_plan : IsSoundPlan planned db q
+  sound_plan = n.plan.1.sound
 
-  pub sound_step : IsSoundStep db q (suc (length tables)) n.step
-  sound_step = sound_plan.steps (suc (length tables)) n.step n.at
+  pub sound_step : IsSoundStep planned db q (suc (length tables)) n.step
+  sound_step = sound_plan.each (suc (length tables)) n.step n.at
 
-  pub rises : IsRising db q (suc (length tables)) n.step
+  pub rises : IsRising planned db q (suc (length tables)) n.step
   rises = sound_step.rises
 
-  pub made : IsMade (structure db q) (head_step db q) (plan db q) (suc (length tables)) n.step
+  pub made : IsMade (structure db q) (head_step planned db q) planned (suc (length tables)) n.step
   made = sound_step.made
 
   pub of_kind : (p : StepKind → Type 0) → p n.step.kind → p kind
   of_kind p h = subst p (sym n.kind_is) h
 
-  pub formula_kind : IsFormula (structure db q) (head_step db q) (formula_at (plan db q)) kind n.step.formula
-  formula_kind = of_kind (λ k. IsFormula (structure db q) (head_step db q) (formula_at (plan db q)) k n.step.formula) made.formula
+  pub formula_kind : IsFormula (structure db q) (head_step planned db q) (formula_at planned) kind n.step.formula
+  formula_kind = of_kind (λ k. IsFormula (structure db q) (head_step planned db q) (formula_at planned) k n.step.formula) made.formula
 
-  pub variables_kind : HasVariables (formula_at (plan db q)) kind
-  variables_kind = of_kind (λ k. HasVariables (formula_at (plan db q)) k) made.variables
+  pub variables_kind : HasVariables (formula_at planned) kind
+  variables_kind = of_kind (λ k. HasVariables (formula_at planned) k) made.variables
 
-  pub reach_kind : n.step.reach ≡ step_reach db (reach_at (plan db q)) n.step.period kind
-  reach_kind = of_kind (λ k. n.step.reach ≡ step_reach db (reach_at (plan db q)) n.step.period k) made.reach
+  pub reach_kind : n.step.reach ≡ step_reach db (reach_at planned) n.step.period kind
+  reach_kind = of_kind (λ k. n.step.reach ≡ step_reach db (reach_at planned) n.step.period k) made.reach
 
-  pub keeps_kind : KeepsPeriod (period_at (plan db q)) n.step.period kind
-  keeps_kind = of_kind (λ k. KeepsPeriod (period_at (plan db q)) n.step.period k) rises.keeps
+  pub keeps_kind : KeepsPeriod (period_at planned) n.step.period kind
+  keeps_kind = of_kind (λ k. KeepsPeriod (period_at planned) n.step.period k) rises.keeps
 
-  pub narrow_kind : IsNarrow (flat_map (λ l. free (formula_at (plan db q) l)) (operands kind))
-  narrow_kind = of_kind (λ k. IsNarrow (flat_map (λ l. free (formula_at (plan db q) l)) (operands k))) sound_step.narrow.read
+  pub narrow_kind : IsNarrow (flat_map (λ l. free (formula_at planned l)) (operands kind))
+  narrow_kind = of_kind (λ k. IsNarrow (flat_map (λ l. free (formula_at planned l)) (operands k))) sound_step.narrow.read
 
   pub period_nat : nat_abs period ≡ n.step.period
   period_nat = ap nat_abs n.period_is
 
-  pub reach_low : query_reach db q ≤ 2 ^ 61
-  reach_low = half_reach (time_count q.head) (query_reach db q) n.planned.1.reach
+  pub reach_low : query_reach planned ≤ 2 ^ 61
+  reach_low = half_reach (time_count q.head) (query_reach planned) n.plan.1.reach
 
   -- ---- the tables that it reads
 
@@ -117,45 +115,44 @@ module _ {db : List Relation} {q : Question} {cap : ℕ} {domain : List Text} {t
   abbrev pub IsRead : ℕ → Type 0
   IsRead l = (0 < l) × (l < suc (length tables)) × Contains (operands kind) l
 
-  pub run_of : (l : ℕ) (t : Table) → IsRead l → IsOperand tables l t → IsStepTable db q cap l t
-  run_of l t e o = subst (λ s. IsStepTable db q cap s t) (suc_pred l e.0) (n.before (l - 1) t o.at (subst (Contains (operands kind)) (sym (suc_pred l e.0)) e.2))
+  pub run_of : (l : ℕ) (t : Table) → IsRead l → IsOperand tables l t → IsStepTable planned db q cap l t
+  run_of l t e o = subst (λ s. IsStepTable planned db q cap s t) (suc_pred l e.0) (n.before (l - 1) t o.at (subst (Contains (operands kind)) (sym (suc_pred l e.0)) e.2))
 
   pub within : (l : ℕ) → IsRead l → l ≤ length tables
   within l e = let b : l < suc (length tables) = e.1 in omega arith
 
-  pub step_before : (l : ℕ) → IsRead l → (step : PlanStep) × (step_at (plan db q) l ≡ Some step)
+  pub step_before : (l : ℕ) → IsRead l → (step : PlanStep) × (step_at planned l ≡ Some step)
   step_before l e =
-      let lt : length tables < length (plan db q) = inside (plan db q) (length tables) n.step n.at in
+      let lt : length tables < length planned = inside planned (length tables) n.step n.at in
       let b : l < suc (length tables) = e.1 in
       let low : 0 < l = e.0 in
-      let x : (step : PlanStep) × (slice_get (plan db q) (l - 1) ≡ Some step) = found (plan db q) (l - 1) (omega arith) in
-      (x.0, subst (λ s. step_at (plan db q) s ≡ Some x.0) (suc_pred l low) x.1)
+      let x : (step : PlanStep) × (slice_get planned (l - 1) ≡ Some step) = found planned (l - 1) (omega arith) in
+      (x.0, subst (λ s. step_at planned s ≡ Some x.0) (suc_pred l low) x.1)
 
-  not_head : (l : ℕ) → IsRead l → (step : PlanStep) → step_at (plan db q) l ≡ Some step → (of : ℕ) → step.kind ≡ Extend of → ⊥
+  not_head : (l : ℕ) → IsRead l → (step : PlanStep) → step_at planned l ≡ Some step → (of : ℕ) → step.kind ≡ Extend of → ⊥
   not_head l e step at of k =
-      let lt : length tables < length (plan db q) = inside (plan db q) (length tables) n.step n.at in
+      let lt : length tables < length planned = inside planned (length tables) n.step n.at in
       let b : l < suc (length tables) = e.1 in
-      let whole : length (plan db q) ≡ suc (length (core_steps db q)) = length_made (structure db q) (Extend (length (core_steps db q))) (guarded (has_named_sort db) q.head q.body) (core_steps db q) in
-      no_other_head db q n.planned.1.settled.elements l step at (omega arith) of k
+      no_other_head sound_plan l step at (omega arith) of k
 
   -- a table that is read stands for its step's formula
-  pub denotes_of : (l : ℕ) (t : Table) → IsRead l → IsOperand tables l t → Denotes (constants db q) (structure db q) (variables_of t) (Has t (constants db q)) (formula_at (plan db q) l)
+  pub denotes_of : (l : ℕ) (t : Table) → IsRead l → IsOperand tables l t → Denotes (constants db q) (structure db q) (variables_of t) (Has t (constants db q)) (formula_at planned l)
   denotes_of l t e o =
-      let r : IsStepTable db q cap l t = run_of l t e o in
-      let x : (step : PlanStep) × (step_at (plan db q) l ≡ Some step) = step_before l e in
-      let own : variables_at db q l ≡ free (formula_at (plan db q) l) =
+      let r : IsStepTable planned db q cap l t = run_of l t e o in
+      let x : (step : PlanStep) × (step_at planned l ≡ Some step) = step_before l e in
+      let own : variables_at planned q l ≡ free (formula_at planned l) =
       ap (λ p. unwrap_or (option_map (step_variables q.head) p) []) x.1 ∙ own_variables x.0.kind q.head (free x.0.formula) (not_head l e x.0 x.1)
       ∙ sym (ap (λ p. free (unwrap_or (option_map (λ step. step.formula) p) (conjunction no_forms))) x.1) in
       record { variables = subst (λ vs. SameVariables (variables_of t) vs) own r.variables; means = r.means }
 
   -- a table that is read has no more cells than its step
-  pub many_read : (l : ℕ) (t : Table) → IsRead l → IsOperand tables l t → (K : ℕ) → K ≡ period_at (plan db q) l
-      → Many (Differ (variables_of t)) (Inhabits (constants db q) K (variables_of t) (Has t (constants db q))) cap → ManyAt db q cap l
+  pub many_read : (l : ℕ) (t : Table) → IsRead l → IsOperand tables l t → (K : ℕ) → K ≡ period_at planned l
+      → Many (Differ (variables_of t)) (Inhabits (constants db q) K (variables_of t) (Has t (constants db q))) cap → ManyAt planned db q cap l
   many_read l t e o K same m =
-      let r : IsStepTable db q cap l t = run_of l t e o in
-      let x : (step : PlanStep) × (step_at (plan db q) l ≡ Some step) = step_before l e in
+      let r : IsStepTable planned db q cap l t = run_of l t e o in
+      let x : (step : PlanStep) × (step_at planned l ≡ Some step) = step_before l e in
       let k : K ≡ x.0.period = same ∙ ap (λ p. unwrap_or (option_map (λ step. step.period) p) 1) x.1 in
-      (many_at db q (variables_of t) (Has t (constants db q)) x.0 l cap x.1
+      (many_at planned db q (variables_of t) (Has t (constants db q)) x.0 l cap x.1
       (subst (λ vs. SameVariables (variables_of t) vs) (ap (λ p. unwrap_or (option_map (step_variables q.head) p) []) x.1) r.variables)
       (λ env c. subst (λ f. Has t (constants db q) env ↔ Satisfies f (structure db q) env) (ap (λ p. unwrap_or (option_map (λ step. step.formula) p) (conjunction no_forms)) x.1) (r.means env c))).0
       (subst (λ k. Many (Differ (variables_of t)) (Inhabits (constants db q) k (variables_of t) (Has t (constants db q))) cap) k m)
@@ -165,16 +162,16 @@ module _ {db : List Relation} {q : Question} {cap : ℕ} {domain : List Text} {t
 
   -- ---- its own table
 
-  pub at_formula : formula_at (plan db q) (suc (length tables)) ≡ n.step.formula
+  pub at_formula : formula_at planned (suc (length tables)) ≡ n.step.formula
   at_formula = ap (λ p. unwrap_or (option_map (λ step. step.formula) p) (conjunction no_forms)) n.at
 
-  pub at_reach : reach_at (plan db q) (suc (length tables)) ≡ n.step.reach
+  pub at_reach : reach_at planned (suc (length tables)) ≡ n.step.reach
   at_reach = ap (λ p. unwrap_or (option_map (λ step. step.reach) p) 0) n.at
 
-  pub at_period : period_at (plan db q) (suc (length tables)) ≡ n.step.period
+  pub at_period : period_at planned (suc (length tables)) ≡ n.step.period
   at_period = ap (λ p. unwrap_or (option_map (λ step. step.period) p) 1) n.at
 
-  at_variables : variables_at db q (suc (length tables)) ≡ step_variables q.head n.step
+  at_variables : variables_at planned q (suc (length tables)) ≡ step_variables q.head n.step
   at_variables = ap (λ p. unwrap_or (option_map (step_variables q.head) p) []) n.at
 
   -- a set over the variables of the step that is the meaning of its formula
@@ -190,17 +187,17 @@ module _ {db : List Relation} {q : Question} {cap : ℕ} {domain : List Text} {t
   }
 
   module _ (times texts : List Identifier) (set : Set) (K : ℕ) (m : IsMeant (named_variables times texts) set) (k : K ≡ n.step.period) where
-    cap_of : InhabitsMoreThan cap domain K times texts set ↔ ManyAt db q cap (suc (length tables))
-    cap_of = subst (λ d. InhabitsMoreThan cap d K times texts set ↔ ManyAt db q cap (suc (length tables))) (sym n.domain_is)
-        (subst (λ p. InhabitsMoreThan cap (constants db q) p times texts set ↔ ManyAt db q cap (suc (length tables))) (sym k)
-        (many_at db q (named_variables times texts) set n.step (suc (length tables)) cap n.at m.variables m.means))
+    cap_of : InhabitsMoreThan cap domain K times texts set ↔ ManyAt planned db q cap (suc (length tables))
+    cap_of = subst (λ d. InhabitsMoreThan cap d K times texts set ↔ ManyAt planned db q cap (suc (length tables))) (sym n.domain_is)
+        (subst (λ p. InhabitsMoreThan cap (constants db q) p times texts set ↔ ManyAt planned db q cap (suc (length tables))) (sym k)
+        (many_at planned db q (named_variables times texts) set n.step (suc (length tables)) cap n.at m.variables m.means))
 
     -- the set has too many cells, so the step has
-    pub too_many : InhabitsMoreThan cap domain K times texts set → ManyAt db q cap (suc (length tables))
+    pub too_many : InhabitsMoreThan cap domain K times texts set → ManyAt planned db q cap (suc (length tables))
     too_many h = cap_of.0 h
 
     -- a table of the set is the step's table
-    pub run : (t : Table) → IsTableOf domain times texts K set t → HasReach t.store n.step.reach → (InhabitsMoreThan cap domain K times texts set → ⊥) → HasHeadColumns db q (suc (length tables)) t → IsStepTable db q cap (suc (length tables)) t
+    pub run : (t : Table) → IsTableOf domain times texts K set t → HasReach t.store n.step.reach → (InhabitsMoreThan cap domain K times texts set → ⊥) → HasHeadColumns planned q (suc (length tables)) t → IsStepTable planned db q cap (suc (length tables)) t
     run t is reach few order =
         let d : IsTableOf (constants db q) times texts K set t = subst (λ c. IsTableOf c times texts K set t) n.domain_is is in
         let vs : variables_of t ≡ named_variables times texts = ap₂ named_variables d.times_are d.texts_are in
@@ -217,17 +214,17 @@ module _ {db : List Relation} {q : Question} {cap : ℕ} {domain : List Text} {t
         }
 
     -- what a step makes of the set is what running it makes
-    pub ran : (has : ℕ → Type 0) (most : ℕ → ℕ) (high : ℕ) → has high → most high ≡ n.step.reach → ((t : Table) → IsTableOf domain times texts K set t → HasHeadColumns db q (suc (length tables)) t)
-        → (result : Result Table StepFault) → IsStepResult cap domain times texts K set has most result → IsRunResult db q cap (suc (length tables)) result
+    pub ran : (has : ℕ → Type 0) (most : ℕ → ℕ) (high : ℕ) → has high → most high ≡ n.step.reach → ((t : Table) → IsTableOf domain times texts K set t → HasHeadColumns planned q (suc (length tables)) t)
+        → (result : Result Table StepFault) → IsStepResult cap domain times texts K set has most result → IsRunResult planned db q cap (suc (length tables)) result
     ran has most high h e order (Ok t) is = record { table = run t is.table (subst (λ r. HasReach t.store r) e (is.reach high h)) is.few (order t is.table); many = λ x. too_many (is.many x) }
     ran has most high h e order (Err fault) is = record { table = tt; many = λ x. too_many (is.many x) }
 
   -- no order is asked of a step other than `head`
-  pub no_order : ((of : ℕ) → kind ≡ Extend of → ⊥) → (t : Table) → HasHeadColumns db q (suc (length tables)) t
+  pub no_order : ((of : ℕ) → kind ≡ Extend of → ⊥) → (t : Table) → HasHeadColumns planned q (suc (length tables)) t
   no_order other t step of at e =
       let same : n.step ≡ step = cc (n.at, at) in
       absurd (other of (n.kind_is ∙ ap (λ s. s.kind) same ∙ e))
 
 -- the same step, by what its kind is
-pub as_kind : {db : List Relation} {q : Question} {cap : ℕ} {domain : List Text} {tables : List Table} {kind : StepKind} {period : ℤ} (k : StepKind) → IsNext db q cap domain tables kind period → kind ≡ k → IsNext db q cap domain tables k period
-as_kind {db} {q} {cap} {domain} {tables} {kind} {period} k n e = subst (λ s. IsNext db q cap domain tables s period) e n
+pub as_kind : {planned : Steps} {db : List Relation} {q : Question} {cap : ℕ} {domain : List Text} {tables : List Table} {kind : StepKind} {period : ℤ} (k : StepKind) → IsNext planned db q cap domain tables kind period → kind ≡ k → IsNext planned db q cap domain tables k period
+as_kind {planned} {db} {q} {cap} {domain} {tables} {kind} {period} k n e = subst (λ s. IsNext planned db q cap domain tables s period) e n

@@ -10,8 +10,7 @@ use Rattle.lrp_model.specs.Texts.{Text, Identifier, AreDistinct}
 use Rattle.lrp_model.specs.Formulas.{Question}
 use Rattle.lrp_model.specs.Variables.{Variable, time_variable, data_variable, variables_of_test, free}
 use Rattle.lrp_model.specs.Periods.{test_periods}
-use Rattle.lrp_model.specs.Steps.{formula_at, reach_at}
-use Rattle.lrp_model.specs.Plans.{plan}
+use Rattle.lrp_model.specs.Steps.{Steps, formula_at, reach_at}
 use Rattle.lrp_model.specs.TestPoints.{points, test_points}
 use Rattle.lrp_model.specs.declared.relations.Relation.{Relation}
 use Rattle.lrp_model.specs.declared.formulas.Test.{Test}
@@ -27,10 +26,9 @@ use Rattle.lrp_plan_laws.specs.Made.{IsEarlier, operands, AreAmong}
 use Rattle.lrp_plan_laws.specs.Points.{step_points}
 use Rattle.lrp_plan_laws.specs.Rising.{period_at, named_periods}
 use Rattle.lrp_plan_laws.specs.Scopes.{IsNarrow}
-use Rattle.lrp_plan_laws.proofs.PointLaws.{points_known}
 use Rattle.lrp_eval.specs.Running.{variables_of, IsOperand, IsNext}
 use Rattle.lrp_eval.proofs.Named.{all_of, in_joint, time_named, data_named, times_in_test, texts_in_test}
-use Rattle.lrp_eval.proofs.Nexts.{IsRead, of_kind, run_of, made, rises, reach_low, denotes_of}
+use Rattle.lrp_eval.proofs.Nexts.{IsRead, of_kind, run_of, made, rises, sound_step, reach_low, denotes_of}
 use Rattle.lrp_plan_laws.proofs.Members.{all_by, in_left, in_right}
 use Rattle.lrp_algebra.proofs.Steps.{abs_is, farther}
 use Rattle.lrp_slots.proofs.Keys.{all_front}
@@ -127,7 +125,7 @@ carried times texts K t among h m = record {
   divides = divides_test t K h m;
 }
 
-module _ {db : List Relation} {q : Question} {cap : ℕ} {domain : List Text} {tables : List Table} {kind : StepKind} {period : ℤ} (n : IsNext db q cap domain tables kind period) where
+module _ {planned : Steps} {db : List Relation} {q : Question} {cap : ℕ} {domain : List Text} {tables : List Table} {kind : StepKind} {period : ℤ} (n : IsNext planned db q cap domain tables kind period) where
   -- ---- periods
 
   pub low : pos 1 ≤ℤ period
@@ -144,18 +142,18 @@ module _ {db : List Relation} {q : Question} {cap : ℕ} {domain : List Text} {t
       omega (arith, ints)
 
   -- the period is its word
-  pub worded : IsNext db q cap domain tables kind (to_z w64 (of_z w64 period))
+  pub worded : IsNext planned db q cap domain tables kind (to_z w64 (of_z w64 period))
   worded =
       let a = low in
       let b = high in
       let e : period ≡ to_z w64 (of_z w64 period) = omega (arith, ints) in
-      subst (λ p. IsNext db q cap domain tables kind p) e n
+      subst (λ p. IsNext planned db q cap domain tables kind p) e n
 
   pub point_periods : AllByRecursion (λ at. pos 1 ≤ℤ at.period) (step_points kind)
   point_periods = of_kind n (λ k. AllByRecursion (λ at. pos 1 ≤ℤ at.period) (step_points k))
       (all_by (λ at. pos 1 ≤ℤ at.period) (step_points n.step.kind) (λ at c.
-      all_of (λ at. pos 1 ≤ℤ at.period) (points q.body) at n.planned.1.points
-      (all_of (Contains (points q.body)) (step_points n.step.kind) at (points_known db q n.planned.1.settled.elements (suc (length tables)) n.step n.at) c)))
+      all_of (λ at. pos 1 ≤ℤ at.period) (points q.body) at n.plan.1.points
+      (all_of (Contains (points q.body)) (step_points n.step.kind) at (sound_step n).points c)))
 
   pub own_periods : AllByRecursion (λ k. (1 ≤ k) × IsMultiple k n.step.period) (named_periods db kind)
   own_periods = of_kind n (λ k. AllByRecursion (λ k. (1 ≤ k) × IsMultiple k n.step.period) (named_periods db k)) (rises n).points
@@ -165,34 +163,34 @@ module _ {db : List Relation} {q : Question} {cap : ℕ} {domain : List Text} {t
       let e : IsEarlier (suc (length tables)) l = all_of (IsEarlier (suc (length tables))) (operands kind) l (of_kind n (λ k. AllByRecursion (IsEarlier (suc (length tables))) (operands k)) (made n).earlier) c in
       (e.0, e.1, c))
 
-  pub multiples : AllByRecursion (λ l. IsMultiple (period_at (plan db q) l) n.step.period) (operands kind)
-  multiples = of_kind n (λ k. AllByRecursion (λ l. IsMultiple (period_at (plan db q) l) n.step.period) (operands k)) (rises n).multiple
+  pub multiples : AllByRecursion (λ l. IsMultiple (period_at planned l) n.step.period) (operands kind)
+  multiples = of_kind n (λ k. AllByRecursion (λ l. IsMultiple (period_at planned l) n.step.period) (operands k)) (rises n).multiple
 
   -- ---- a table that is read
 
   module _ {l : ℕ} {t : Table} (o : IsOperand tables l t) (e : IsRead n l) where
-    pub period_divides : IsMultiple (period_at (plan db q) l) n.step.period → Divides (pos t.store.period) period
+    pub period_divides : IsMultiple (period_at planned l) n.step.period → Divides (pos t.store.period) period
     period_divides m =
         subst (λ p. Divides (pos t.store.period) p) (sym n.period_is) (subst (λ k. Divides (pos k) (pos n.step.period)) (sym (run_of n l t e o).period) m)
 
-    pub reach_within : (high : ℕ) → reach_at (plan db q) l ≤ high → HasReach t.store high
-    reach_within high le = farther t.store (reach_at (plan db q) l) high le (run_of n l t e o).reach
+    pub reach_within : (high : ℕ) → reach_at planned l ≤ high → HasReach t.store high
+    reach_within high le = farther t.store (reach_at planned l) high le (run_of n l t e o).reach
 
     pub numbered : AreNumbered domain t.store
     numbered = subst (λ d. AreNumbered d t.store) (sym n.domain_is) (run_of n l t e o).numbered
 
-    pub variables : (v : Variable) → Contains (variables_of t) v ↔ Contains (free (formula_at (plan db q) l)) v
+    pub variables : (v : Variable) → Contains (variables_of t) v ↔ Contains (free (formula_at planned l)) v
     variables = (denotes_of n l t e o).variables
 
   -- ---- two tables that are read
 
   module _ {l r : ℕ} {lt rt : Table} (lo : IsOperand tables l lt) (ro : IsOperand tables r rt) (le : IsRead n l) (re : IsRead n r)
-      (narrow : IsNarrow (free (formula_at (plan db q) l) ++ (free (formula_at (plan db q) r) ++ []))) where
-    left_in : (v : Variable) → Contains (variables_of lt) v → Contains (free (formula_at (plan db q) l) ++ (free (formula_at (plan db q) r) ++ [])) v
-    left_in v c = in_left (free (formula_at (plan db q) l)) (free (formula_at (plan db q) r) ++ []) v ((variables lo le v).0 c)
+      (narrow : IsNarrow (free (formula_at planned l) ++ (free (formula_at planned r) ++ []))) where
+    left_in : (v : Variable) → Contains (variables_of lt) v → Contains (free (formula_at planned l) ++ (free (formula_at planned r) ++ [])) v
+    left_in v c = in_left (free (formula_at planned l)) (free (formula_at planned r) ++ []) v ((variables lo le v).0 c)
 
-    right_in : (v : Variable) → Contains (variables_of rt) v → Contains (free (formula_at (plan db q) l) ++ (free (formula_at (plan db q) r) ++ [])) v
-    right_in v c = in_right (free (formula_at (plan db q) l)) (free (formula_at (plan db q) r) ++ []) v (in_left (free (formula_at (plan db q) r)) [] v ((variables ro re v).0 c))
+    right_in : (v : Variable) → Contains (variables_of rt) v → Contains (free (formula_at planned l) ++ (free (formula_at planned r) ++ [])) v
+    right_in v c = in_right (free (formula_at planned l)) (free (formula_at planned r) ++ []) v (in_left (free (formula_at planned r)) [] v ((variables ro re v).0 c))
 
     pub can_meet : CanMeet lt rt
     can_meet = record {

@@ -5,6 +5,7 @@ use Rattle.std.specs.List.{AllByRecursion, AllZip}
 use Rattle.std.proofs.lemmas.Int.{ints}
 use Rattle.lrp_theory.specs.Divides.{Divides, IsMultiple}
 use Rattle.lrp_model.specs.Texts.{Text, Identifier}
+use Rattle.lrp_model.specs.Steps.{Steps}
 use Rattle.lrp_model.specs.Formulas.{Question, atom}
 use Rattle.lrp_model.specs.Sorts.{is_data, FitsColumn, time_count, text_count}
 use Rattle.lrp_model.specs.Rows.{text, IsInRow, rows_of, rows_in, relation_named}
@@ -91,7 +92,7 @@ found_texts (s ∷ db) name r p e h =
 
 -- ---- the step of an atom
 
-module _ {db : List Relation} {q : Question} {cap : ℕ} {domain : List Text} {tables : List Table} {name : Identifier} {terms : List Term} {period : ℤ} (n : IsNext db q cap domain tables (Scan name terms) period) where
+module _ {planned : Steps} {db : List Relation} {q : Question} {cap : ℕ} {domain : List Text} {tables : List Table} {name : Identifier} {terms : List Term} {period : ℤ} (n : IsNext planned db q cap domain tables (Scan name terms) period) where
   scan_is : IsKnownScan db q (record { name = name; terms = terms })
   scan_is = (sound_step n).scans name terms (sym n.kind_is)
 
@@ -141,7 +142,7 @@ module _ {db : List Relation} {q : Question} {cap : ℕ} {domain : List Text} {t
     is_meant : IsMeant n (named_variables (scan_times terms) (scan_texts terms)) (IsScanned domain relation terms)
     is_meant = meant n _ _ other denotes
 
-    pub scan_ran : (result : Result Table StepFault) → IsScanResult cap domain period relation terms result → IsRunResult db q cap (suc (length tables)) result
+    pub scan_ran : (result : Result Table StepFault) → IsScanResult cap domain period relation terms result → IsRunResult planned db q cap (suc (length tables)) result
     scan_ran result is =
         ran n _ _ _ _ is_meant (period_nat n) (λ high. scan_reach relation.rows terms (nat_abs period) ≤ high) (λ high. high) (scan_reach relation.rows terms (nat_abs period)) (omega arith) (sym reach_is) (λ t i. no_order n other t) result is
 
@@ -170,7 +171,7 @@ listed_row (u ∷ us) row x c is =
     ⊎_elim (λ e. let i : IsInRow (text_row u) (text x ∷ []) = subst (λ r. IsInRow r (text x ∷ [])) (sym e) is in subst (λ z. Contains (u ∷ us) z) (sym i.values.0) (contains_first u us))
     (λ d. contains_later u x us (listed_row us row x d is)) (cons_cases (text_row u) row (map text_row us) c)
 
-module _ {db : List Relation} {q : Question} {cap : ℕ} {domain : List Text} {tables : List Table} {name : Identifier} {s : Sort} {texts : List Text} {period : ℤ} (n : IsNext db q cap domain tables (SortStep name s texts) period)
+module _ {planned : Steps} {db : List Relation} {q : Question} {cap : ℕ} {domain : List Text} {tables : List Table} {name : Identifier} {s : Sort} {texts : List Text} {period : ℤ} (n : IsNext planned db q cap domain tables (SortStep name s texts) period)
     (column : Identifier) (relation : Relation) (columns : relation.columns ≡ text_column column ∷ []) (rows : relation.rows ≡ map text_row texts) where
   known : AllByRecursion (Contains domain) texts
   known = subst (λ d. AllByRecursion (Contains d) texts) (sym n.domain_is) (all_by (Contains (constants db q)) texts (λ t c. (sound_plan n).sorts s t (subst (λ ts. Contains ts t) (formula_kind n).1 c)))
@@ -208,6 +209,6 @@ module _ {db : List Relation} {q : Question} {cap : ℕ} {domain : List Text} {t
   sort_meant : IsMeant n (named_variables (scan_times (variable_term name)) (scan_texts (variable_term name))) (IsScanned domain relation (variable_term name))
   sort_meant = meant n _ _ sort_other sort_denotes
 
-  pub sort_ran : (result : Result Table StepFault) → IsScanResult cap domain (pos 1) relation (variable_term name) result → IsRunResult db q cap (suc (length tables)) result
+  pub sort_ran : (result : Result Table StepFault) → IsScanResult cap domain (pos 1) relation (variable_term name) result → IsRunResult planned db q cap (suc (length tables)) result
   sort_ran result is =
       ran n (scan_times (variable_term name)) (scan_texts (variable_term name)) _ _ sort_meant (sym (keeps_kind n)) (λ high. scan_reach relation.rows (variable_term name) 1 ≤ high) (λ high. high) (scan_reach relation.rows (variable_term name) 1) (omega arith) (reach_one ∙ sym (reach_kind n)) (λ t i. no_order n sort_other t) result is

@@ -7,8 +7,7 @@ use Rattle.lrp_model.specs.Variables.{variables_of_test}
 use Rattle.lrp_model.specs.Satisfaction.{structure}
 use Rattle.lrp_model.specs.Domains.{constants}
 use Rattle.lrp_model.specs.Reach.{test_reach}
-use Rattle.lrp_model.specs.Steps.{formula_at, reach_at}
-use Rattle.lrp_model.specs.Plans.{plan}
+use Rattle.lrp_model.specs.Steps.{Steps, formula_at, reach_at}
 use Rattle.lrp_model.specs.declared.relations.Relation.{Relation}
 use Rattle.lrp_model.specs.declared.formulas.Test.{Test}
 use Rattle.lrp_model.specs.declared.formulas.Test.TheVariants.{Compare, Member, Equal}
@@ -35,7 +34,7 @@ same_period (Compare left op right) = refl
 same_period (Member term point) = refl
 same_period (Equal left right) = refl
 
-module _ {db : List Relation} {q : Question} {cap : ℕ} {domain : List Text} {tables : List Table} {t : Test} {period : ℤ} (n : IsNext db q cap domain tables (Leaf t) period) where
+module _ {planned : Steps} {db : List Relation} {q : Question} {cap : ℕ} {domain : List Text} {tables : List Table} {t : Test} {period : ℤ} (n : IsNext planned db q cap domain tables (Leaf t) period) where
   pub can_test : CanTest t
   can_test = record { low = low_period t (point_periods n); reach = (let e = reach_kind n in let s = step_small n in omega arith) }
 
@@ -55,10 +54,10 @@ module _ {db : List Relation} {q : Question} {cap : ℕ} {domain : List Text} {t
   leaf_meant : IsMeant n (named_variables (test_times t) (test_names t)) (IsTested domain t)
   leaf_meant = meant n _ _ leaf_other leaf_denotes
 
-  pub leaf_ran : (result : Result Table StepFault) → IsLeafResult cap domain t result → IsRunResult db q cap (suc (length tables)) result
+  pub leaf_ran : (result : Result Table StepFault) → IsLeafResult cap domain t result → IsRunResult planned db q cap (suc (length tables)) result
   leaf_ran result is = ran n _ _ _ _ leaf_meant leaf_period (λ high. test_reach t ≤ high) (λ high. high) (test_reach t) (omega arith) (sym (reach_kind n)) (λ u i. no_order n leaf_other u) result is
 
-module _ {db : List Relation} {q : Question} {cap : ℕ} {domain : List Text} {tables : List Table} {of : ℕ} {t : Test} {period : ℤ} (n : IsNext db q cap domain tables (Select of t) period) {table : Table} (o : IsOperand tables of table) where
+module _ {planned : Steps} {db : List Relation} {q : Question} {cap : ℕ} {domain : List Text} {tables : List Table} {of : ℕ} {t : Test} {period : ℤ} (n : IsNext planned db q cap domain tables (Select of t) period) {table : Table} (o : IsOperand tables of table) where
   before : IsRead n of
   before = (earlier n).0
 
@@ -78,8 +77,8 @@ module _ {db : List Relation} {q : Question} {cap : ℕ} {domain : List Text} {t
   denotes : Denotes (constants db q) (structure db q) (variables_of table) (IsSelected domain table t) n.step.formula
   denotes =
       subst (Denotes (constants db q) (structure db q) (variables_of table) (IsSelected domain table t)) (sym (formula_kind n))
-      (subst (λ d. Denotes (constants db q) (structure db q) (variables_of table) (IsSelected d table t) (conjunction (form (formula_at (plan db q) of) (form (test t) no_forms)))) (sym n.domain_is)
-      (select_keeps (constants db q) (structure db q) (variables_of table) (Has table (constants db q)) (IsSelected (constants db q) table t) (formula_at (plan db q) of) t (denotes_of n of table before o)
+      (subst (λ d. Denotes (constants db q) (structure db q) (variables_of table) (IsSelected d table t) (conjunction (form (formula_at planned of) (form (test t) no_forms)))) (sym n.domain_is)
+      (select_keeps (constants db q) (structure db q) (variables_of table) (Has table (constants db q)) (IsSelected (constants db q) table t) (formula_at planned of) t (denotes_of n of table before o)
       (λ v c. ⊎_elim (λ a. known v a) (λ b. absurd (contains_none v b)) (in_one (variables_of_test t) [] v c))
       (λ env. ((λ h. (h.has, h.passes)), λ h. record { has = h.0; passes = h.1 }))))
 
@@ -89,8 +88,8 @@ module _ {db : List Relation} {q : Question} {cap : ℕ} {domain : List Text} {t
   is_meant : IsMeant n (variables_of table) (IsSelected domain table t)
   is_meant = meant n _ _ other denotes
 
-  pub select_ran : (result : Result Table StepFault) → IsSelectResult cap domain period table t result → IsRunResult db q cap (suc (length tables)) result
+  pub select_ran : (result : Result Table StepFault) → IsSelectResult cap domain period table t result → IsRunResult planned db q cap (suc (length tables)) result
   select_ran result is =
-      let most : ℕ = max (reach_at (plan db q) of) (test_reach t) in
+      let most : ℕ = max (reach_at planned of) (test_reach t) in
       ran n _ _ _ _ is_meant (period_nat n) (λ high. HasReach table.store high × (test_reach t ≤ high)) (λ high. high + nat_abs period) most
       (reach_within n o before most (omega arith), omega arith) (sym (reach_kind n ∙ ap (λ k. most + k) (sym (period_nat n)))) (λ u i. no_order n other u) result is

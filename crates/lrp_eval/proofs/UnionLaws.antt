@@ -5,8 +5,7 @@ use Rattle.lrp_model.specs.Texts.{Text, Ascends}
 use Rattle.lrp_model.specs.Formulas.{Question, disjunction, no_forms, form}
 use Rattle.lrp_model.specs.Satisfaction.{Assignment, structure}
 use Rattle.lrp_model.specs.Domains.{constants}
-use Rattle.lrp_model.specs.Steps.{formula_at, reach_at}
-use Rattle.lrp_model.specs.Plans.{plan}
+use Rattle.lrp_model.specs.Steps.{Steps, formula_at, reach_at}
 use Rattle.lrp_model.specs.declared.relations.Relation.{Relation}
 use Rattle.lrp_model.specs.declared.plans.StepKind.TheVariants.{Union, Extend}
 use Rattle.lrp_model.proofs.Decided.{Decided, decided_iff, decided_both, decided_all, decided_contains}
@@ -34,7 +33,7 @@ decided_united domain a tables l r lt rt lo ro env =
     (decided_both (decided_all (λ name. Contains domain (env.texts name)) (λ name. decided_contains domain (env.texts name)) (joint lt.vars.texts rt.vars.texts))
     (decided_one (decided_table domain a lt lo.valid env) (decided_table domain a rt ro.valid env)))
 
-module _ {db : List Relation} {q : Question} {cap : ℕ} {domain : List Text} {tables : List Table} {left right : ℕ} {period : ℤ} (n : IsNext db q cap domain tables (Union left right) period) {lt rt : Table} (lo : IsOperand tables left lt) (ro : IsOperand tables right rt) where
+module _ {planned : Steps} {db : List Relation} {q : Question} {cap : ℕ} {domain : List Text} {tables : List Table} {left right : ℕ} {period : ℤ} (n : IsNext planned db q cap domain tables (Union left right) period) {lt rt : Table} (lo : IsOperand tables left lt) (ro : IsOperand tables right rt) where
   le : IsRead n left
   le = (earlier n).0
 
@@ -60,9 +59,9 @@ module _ {db : List Relation} {q : Question} {cap : ℕ} {domain : List Text} {t
   denotes =
       let c : Ascends (constants db q) = subst Ascends n.domain_is (ascends n) in
       subst (Denotes (constants db q) (structure db q) (named_variables (joint lt.vars.times rt.vars.times) (joint lt.vars.texts rt.vars.texts)) (IsUnited domain lt rt)) (sym (formula_kind n))
-      (subst (λ d. Denotes (constants db q) (structure db q) (named_variables (joint lt.vars.times rt.vars.times) (joint lt.vars.texts rt.vars.texts)) (IsUnited d lt rt) (disjunction (form (formula_at (plan db q) left) (form (formula_at (plan db q) right) no_forms)))) (sym n.domain_is)
+      (subst (λ d. Denotes (constants db q) (structure db q) (named_variables (joint lt.vars.times rt.vars.times) (joint lt.vars.texts rt.vars.texts)) (IsUnited d lt rt) (disjunction (form (formula_at planned left) (form (formula_at planned right) no_forms)))) (sym n.domain_is)
       (union_keeps (constants db q) (structure db q) (variables_of lt) (variables_of rt) (named_variables (joint lt.vars.times rt.vars.times) (joint lt.vars.texts rt.vars.texts)) (Has lt (constants db q)) (Has rt (constants db q))
-      (IsUnited (constants db q) lt rt) (formula_at (plan db q) left) (formula_at (plan db q) right) (denotes_of n left lt le lo) (denotes_of n right rt re ro)
+      (IsUnited (constants db q) lt rt) (formula_at planned left) (formula_at planned right) (denotes_of n left lt le lo) (denotes_of n right rt re ro)
       (joint_variables lt.vars.times lt.vars.texts rt.vars.times rt.vars.texts) (decided_united (constants db q) c tables left right lt rt lo ro)
       (λ env. (
         (λ h. (texts_are (constants db q) (joint lt.vars.times rt.vars.times) (joint lt.vars.texts rt.vars.texts) env h.known, h.has)),
@@ -75,8 +74,8 @@ module _ {db : List Relation} {q : Question} {cap : ℕ} {domain : List Text} {t
   is_meant : IsMeant n (named_variables (joint lt.vars.times rt.vars.times) (joint lt.vars.texts rt.vars.texts)) (IsUnited domain lt rt)
   is_meant = meant n _ _ other denotes
 
-  pub union_ran : (result : Result Table StepFault) → IsUnionResult cap domain period lt rt result → IsRunResult db q cap (suc (length tables)) result
+  pub union_ran : (result : Result Table StepFault) → IsUnionResult cap domain period lt rt result → IsRunResult planned db q cap (suc (length tables)) result
   union_ran result is =
-      let most : ℕ = max (reach_at (plan db q) left) (reach_at (plan db q) right) in
+      let most : ℕ = max (reach_at planned left) (reach_at planned right) in
       ran n _ _ _ _ is_meant (period_nat n) (BothReach lt rt) (λ high. high + nat_abs period) most
       (record { left_reach = reach_within n lo le most (omega arith); right_reach = reach_within n ro re most (omega arith) }) (sym (reach_kind n ∙ ap (λ k. most + k) (sym (period_nat n)))) (λ t i. no_order n other t) result is

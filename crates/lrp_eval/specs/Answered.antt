@@ -6,7 +6,8 @@ use Rattle.lrp_model.specs.Formulas.{Question}
 use Rattle.lrp_model.specs.Satisfaction.{IsAnswer}
 use Rattle.lrp_model.specs.Domains.{constants}
 use Rattle.lrp_model.specs.Caps.{ManyAt}
-use Rattle.lrp_model.specs.Plans.{plan, query_reach}
+use Rattle.lrp_model.specs.Steps.{Steps}
+use Rattle.lrp_model.specs.Plans.{query_reach}
 use Rattle.lrp_model.specs.Sorts.{time_count}
 use Rattle.lrp_model.specs.declared.relations.Relation.{Relation}
 use Rattle.lrp_model.specs.declared.tuples.Cell.{Cell}
@@ -19,13 +20,13 @@ use Rattle.lrp_cutting.specs.Settling.{IsSmallZone}
 use Rattle.lrp_plan_laws.specs.Rising.{period_at}
 use Rattle.lrp_eval.specs.Counts.{HasCells}
 
--- the answer has the head, the constants and the answers of the query, and the period and the number of cells of the last step; its cells are settled, no bound of theirs is above the last reach times the head's time columns, and no step has more than cap cells
-pub record IsAnswerOf (db : List Relation) (q : Question) (cap : ℕ) (a : Answer) : Type 0 where
+-- the answer has the head, the constants and the answers of the query, and the period and the number of cells of the last of these steps; its cells are settled, no bound of theirs is above the last reach times the head's time columns, and no step has more than cap cells
+pub record IsAnswerOf (planned : Steps) (db : List Relation) (q : Question) (cap : ℕ) (a : Answer) : Type 0 where
   pub head : a.head.columns ≡ q.head
   pub domain : a.domain ≡ constants db q
-  pub period : a.period ≡ pos (period_at (plan db q) (length (plan db q)))
+  pub period : a.period ≡ pos (period_at planned (length planned))
   pub answers : (tuple : List Datum) → InAnswer a.head.columns a.domain a.store tuple ↔ IsAnswer db q tuple
-  pub cells : HasCells db q (length (plan db q)) (finite.len a.store.tables)
+  pub cells : HasCells planned db q (length planned) (finite.len a.store.tables)
   pub settled : (cell : Cell) (z : ZoneView) → Contains (zones_at a.store cell) z → AreSettled z (zones_at a.store cell)
-  pub small : (cell : Cell) (z : ZoneView) → Contains (zones_at a.store cell) z → IsSmallZone z (time_count q.head * query_reach db q)
-  pub few : (s : ℕ) → ManyAt db q cap s → ⊥
+  pub small : (cell : Cell) (z : ZoneView) → Contains (zones_at a.store cell) z → IsSmallZone z (time_count q.head * query_reach planned)
+  pub few : (s : ℕ) → ManyAt planned db q cap s → ⊥

@@ -7,7 +7,6 @@ use Rattle.lrp_model.specs.Satisfaction.{Assignment, Satisfies, structure}
 use Rattle.lrp_model.specs.Domains.{constants}
 use Rattle.lrp_model.specs.Caps.{IsFirstMany, ManyAt, step_variables}
 use Rattle.lrp_model.specs.Steps.{PlanStep, Steps, step_at, formula_at, reach_at}
-use Rattle.lrp_model.specs.Plans.{plan}
 use Rattle.lrp_model.specs.declared.relations.Sort.{Sort}
 use Rattle.lrp_model.specs.declared.relations.Sort.TheVariants.{Data}
 use Rattle.lrp_model.specs.declared.relations.Column.{Column}
@@ -43,23 +42,23 @@ abbrev pub variables_of : Table → List Variable
 variables_of table = named_variables table.vars.times table.vars.texts
 
 -- the variables of the cells of step s; only steps that are there are asked for
-abbrev pub variables_at : List Relation → Question → ℕ → List Variable
-variables_at db q s = unwrap_or (option_map (step_variables q.head) (step_at (plan db q) s)) []
+abbrev pub variables_at : Steps → Question → ℕ → List Variable
+variables_at planned q s = unwrap_or (option_map (step_variables q.head) (step_at planned s)) []
 
 -- at the step `head` the columns are the head's, in its order
-abbrev pub HasHeadColumns : List Relation → Question → ℕ → Table → Type 0
-HasHeadColumns db q s table =
-    (step : PlanStep) (of : ℕ) → step_at (plan db q) s ≡ Some step → step.kind ≡ Extend of → (table.vars.times ≡ head_times q.head) × (table.vars.texts ≡ head_texts q.head)
+abbrev pub HasHeadColumns : Steps → Question → ℕ → Table → Type 0
+HasHeadColumns planned q s table =
+    (step : PlanStep) (of : ℕ) → step_at planned s ≡ Some step → step.kind ≡ Extend of → (table.vars.times ≡ head_times q.head) × (table.vars.texts ≡ head_texts q.head)
 
 -- the table has just the assignments that satisfy the formula of step s, over its variables; it has the step's period, and no more than its reach and cap cells
-pub record IsStepTable (db : List Relation) (q : Question) (cap s : ℕ) (table : Table) : Type 0 where
-  pub variables : SameVariables (variables_of table) (variables_at db q s)
-  pub means : (env : Assignment) → HasConstants (constants db q) (variables_of table) env → Has table (constants db q) env ↔ Satisfies (formula_at (plan db q) s) (structure db q) env
+pub record IsStepTable (planned : Steps) (db : List Relation) (q : Question) (cap s : ℕ) (table : Table) : Type 0 where
+  pub variables : SameVariables (variables_of table) (variables_at planned q s)
+  pub means : (env : Assignment) → HasConstants (constants db q) (variables_of table) env → Has table (constants db q) env ↔ Satisfies (formula_at planned s) (structure db q) env
   pub numbered : AreNumbered (constants db q) table.store
-  pub period : table.store.period ≡ period_at (plan db q) s
-  pub reach : HasReach table.store (reach_at (plan db q) s)
-  pub few : ManyAt db q cap s → ⊥
-  pub order : HasHeadColumns db q s table
+  pub period : table.store.period ≡ period_at planned s
+  pub reach : HasReach table.store (reach_at planned s)
+  pub few : ManyAt planned db q cap s → ⊥
+  pub order : HasHeadColumns planned q s table
 
 -- the table of a step by its number, from 1
 pub record IsOperand (tables : List Table) (number : ℕ) (table : Table) : Type 0 where
@@ -78,41 +77,41 @@ pub record IsReadBehind (steps : Steps) (count s : ℕ) : Type 0 where
   pub reads : Contains (operands step.kind) s
 
 -- of the first steps, the last one and each that a later step reads have their tables, and none has more than cap cells
-pub record AreRun (db : List Relation) (q : Question) (cap : ℕ) (tables : List Table) : Type 0 where
-  pub read : (i : ℕ) (table : Table) → slice_get tables i ≡ Some table → IsReadBehind (plan db q) (length tables) (suc i) → IsStepTable db q cap (suc i) table
-  pub last : (i : ℕ) (table : Table) → slice_get tables i ≡ Some table → suc i ≡ length tables → IsStepTable db q cap (suc i) table
-  pub few : (s : ℕ) → s ≤ length tables → ManyAt db q cap s → ⊥
+pub record AreRun (planned : Steps) (db : List Relation) (q : Question) (cap : ℕ) (tables : List Table) : Type 0 where
+  pub read : (i : ℕ) (table : Table) → slice_get tables i ≡ Some table → IsReadBehind planned (length tables) (suc i) → IsStepTable planned db q cap (suc i) table
+  pub last : (i : ℕ) (table : Table) → slice_get tables i ≡ Some table → suc i ≡ length tables → IsStepTable planned db q cap (suc i) table
+  pub few : (s : ℕ) → s ≤ length tables → ManyAt planned db q cap s → ⊥
 
 -- some query has the plan, and these are the tables of its first steps
 abbrev pub AreRunBySome : List Relation → Plan → ℕ → List Table → Type 0
-AreRunBySome db p cap tables = (q : Question) × IsPlanOf db q p × AreRun db q cap tables
+AreRunBySome db p cap tables = (planned : Steps) × (q : Question) × IsPlanOf planned db q p × AreRun planned db q cap tables
 
 -- in each query that has the plan the new ones are too, where the old ones are
 abbrev pub AreRunThen : List Relation → Plan → ℕ → List Table → List Table → Type 0
-AreRunThen db p cap old new = (q : Question) → IsPlanOf db q p → AreRun db q cap old → AreRun db q cap new
+AreRunThen db p cap old new = (planned : Steps) (q : Question) → IsPlanOf planned db q p → AreRun planned db q cap old → AreRun planned db q cap new
 
 -- the fault names the first step with too many cells, in each query that has the plan and whose first steps have these tables
 abbrev pub NamesFirstMany : List Relation → Plan → ℕ → List Table → EvalFault → Type 0
-NamesFirstMany db p cap tables fault = (step : ℕ) → fault ≡ TooManyCellsAt step → (q : Question) → IsPlanOf db q p → AreRun db q cap tables → IsFirstMany db q cap step
+NamesFirstMany db p cap tables fault = (step : ℕ) → fault ≡ TooManyCellsAt step → (planned : Steps) (q : Question) → IsPlanOf planned db q p → AreRun planned db q cap tables → IsFirstMany planned db q cap step
 
 -- the tables that a step of this kind reads are those of their steps
-abbrev pub AreReadBy : List Relation → Question → ℕ → List Table → StepKind → Type 0
-AreReadBy db q cap tables kind = (i : ℕ) (table : Table) → slice_get tables i ≡ Some table → Contains (operands kind) (suc i) → IsStepTable db q cap (suc i) table
+abbrev pub AreReadBy : Steps → List Relation → Question → ℕ → List Table → StepKind → Type 0
+AreReadBy planned db q cap tables kind = (i : ℕ) (table : Table) → slice_get tables i ≡ Some table → Contains (operands kind) (suc i) → IsStepTable planned db q cap (suc i) table
 
 -- the step behind these tables has this kind and period
-pub record IsNext (db : List Relation) (q : Question) (cap : ℕ) (domain : List Text) (tables : List Table) (kind : StepKind) (period : ℤ) : Type 0 where
-  pub planned : (p : Plan) × IsPlanOf db q p
+pub record IsNext (planned : Steps) (db : List Relation) (q : Question) (cap : ℕ) (domain : List Text) (tables : List Table) (kind : StepKind) (period : ℤ) : Type 0 where
+  pub plan : (p : Plan) × IsPlanOf planned db q p
   pub step : PlanStep
-  pub at : step_at (plan db q) (suc (length tables)) ≡ Some step
+  pub at : step_at planned (suc (length tables)) ≡ Some step
   pub kind_is : kind ≡ step.kind
   pub period_is : period ≡ pos step.period
   pub domain_is : domain ≡ constants db q
-  pub before : AreReadBy db q cap tables kind
+  pub before : AreReadBy planned db q cap tables kind
 
 -- the result of running step s: its table, or `TooManyCells` where it has more than cap cells
-pub record IsRunResult (db : List Relation) (q : Question) (cap s : ℕ) (result : Result Table StepFault) : Type 0 where
-  pub table : IfOk result (IsStepTable db q cap s)
-  pub many : result ≡ Err TooManyCells → ManyAt db q cap s
+pub record IsRunResult (planned : Steps) (db : List Relation) (q : Question) (cap s : ℕ) (result : Result Table StepFault) : Type 0 where
+  pub table : IfOk result (IsStepTable planned db q cap s)
+  pub many : result ≡ Err TooManyCells → ManyAt planned db q cap s
 
 -- the step is the step `head` of the last table, whose columns are these, in order
 pub record StandsAtHead (columns : List Column) (tables : List Table) (kind : StepKind) : Type 0 where
@@ -134,21 +133,22 @@ text_column name = record { name = name; sort = Data }
 
 -- some database and query have the step of a sort next
 pub record IsSomeSort (cap : ℕ) (domain : List Text) (name : Identifier) (texts : List Text) : Type 0 where
+  pub planned : Steps
   pub database : List Relation
   pub query : Question
   pub tables : List Table
   pub sort : Sort
   pub period : ℤ
-  pub is : IsNext database query cap domain tables (SortStep name sort texts) period
+  pub is : IsNext planned database query cap domain tables (SortStep name sort texts) period
 
 -- the result is that of running the step, in each database and query that has it next
 abbrev pub IsSortResult : ℕ → List Text → Identifier → List Text → Result Table StepFault → Type 0
 IsSortResult cap domain name texts result =
-    (db : List Relation) (q : Question) (tables : List Table) (sort : Sort) (period : ℤ) → IsNext db q cap domain tables (SortStep name sort texts) period → IsRunResult db q cap (suc (length tables)) result
+    (planned : Steps) (db : List Relation) (q : Question) (tables : List Table) (sort : Sort) (period : ℤ) → IsNext planned db q cap domain tables (SortStep name sort texts) period → IsRunResult planned db q cap (suc (length tables)) result
 
 -- ---- the whole plan
 
 -- the table is that of the last step, and no step has more than cap cells
-pub record IsLastRun (db : List Relation) (q : Question) (cap : ℕ) (table : Table) : Type 0 where
-  pub run : IsStepTable db q cap (length (plan db q)) table
-  pub few : (s : ℕ) → ManyAt db q cap s → ⊥
+pub record IsLastRun (planned : Steps) (db : List Relation) (q : Question) (cap : ℕ) (table : Table) : Type 0 where
+  pub run : IsStepTable planned db q cap (length planned) table
+  pub few : (s : ℕ) → ManyAt planned db q cap s → ⊥

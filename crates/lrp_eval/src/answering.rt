@@ -2,6 +2,7 @@
 ghost use Rattle.std.specs.Prelude.{IfOk, IfErr};
 ghost use Rattle.lrp_model.specs.DataTexts.{IsDomain};
 ghost use Rattle.lrp_model.specs.Formulas.{Question};
+ghost use Rattle.lrp_model.specs.Steps.{Steps};
 ghost use Rattle.lrp_store.specs.Stores.{IsStore};
 ghost use Rattle.lrp_eval.specs.Answered.{IsAnswerOf};
 ghost use Rattle.lrp_eval.specs.Planned.{IsEvalCause, IsPlanOf, IsSomePlan};
@@ -23,8 +24,9 @@ pub fn answer(
     cap: u32,
 ) -> Result<Answer, EvalFault>
     requires plan { IsSomePlan database.now plan.now }
-    ensures answer { IfOk result (λ made. (q : Question) → IsPlanOf database.now q plan.now
-        → IsAnswerOf database.now q cap made) }
+    ensures answer { IfOk result (λ made. (planned : Steps) (q : Question)
+        → IsPlanOf planned database.now q plan.now
+        → IsAnswerOf planned database.now q cap made) }
     ensures valid { IfOk result (λ made. IsStore made.store) }
     ensures domain { IfOk result (λ made. IsDomain made.domain) }
     ensures fault { IfErr result (λ fault. IsEvalCause database.now plan.now cap fault) }

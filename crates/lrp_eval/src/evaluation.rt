@@ -3,6 +3,7 @@ ghost use Rattle.std.specs.Prelude.{◌≡◌, ◌<◌, ◌≤◌, ◌+◌, ◌+
 ghost use Rattle.lrp_store.specs.Stores.{IsStore};
 ghost use Rattle.lrp_tables.specs.declared.table.Table.{Table as TableOf};
 ghost use Rattle.lrp_model.specs.Formulas.{Question};
+ghost use Rattle.lrp_model.specs.Steps.{Steps};
 ghost use Rattle.lrp_tables.specs.declared.table.StepFault.TheVariants.{TooManyCells as too_many};
 ghost use Rattle.lrp_eval.specs.Freeing.{AreLastReaders};
 ghost use Rattle.lrp_eval.specs.Planned.{HasAnswers, IsEvalCause, IsPlanOf, IsSomePlan};
@@ -49,8 +50,9 @@ pub fn run_steps(
     cap: u32,
 ) -> Result<Table, EvalFault>
     requires plan { IsSomePlan database.now plan.now }
-    ensures table { IfOk result (λ made. (q : Question) → IsPlanOf database.now q plan.now
-        → HasAnswers database.now q cap made) }
+    ensures table { IfOk result (λ made. (planned : Steps) (q : Question)
+        → IsPlanOf planned database.now q plan.now
+        → HasAnswers planned database.now q cap made) }
     ensures valid { IfOk result (λ made. IsStore made.store) }
     ensures fault { IfErr result (λ fault. IsEvalCause database.now plan.now cap fault) }
 {

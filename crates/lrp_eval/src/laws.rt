@@ -1,6 +1,7 @@
 // What is proved of counts, each law as the contract of a function that does nothing.
 ghost use Rattle.std.specs.Prelude.{◌≡◌, ℕ, ℤ, List, length, false, None};
 ghost use Rattle.lrp_model.specs.Formulas.{Question};
+ghost use Rattle.lrp_model.specs.Steps.{Steps};
 ghost use Rattle.lrp_model.specs.Pages.{IsPage};
 ghost use Rattle.lrp_model.specs.Rows.{Tuple};
 ghost use Rattle.lrp_model.specs.Satisfaction.{IsAnswer};
@@ -17,9 +18,9 @@ pub fn whole_pages_count_answers()
 
 /// A step has one number of cells, and a window one number of answers.
 pub fn counts_are_unique()
-    ensures cells { (db : List Relation) (q : Question) (s count other : ℕ)
-        → HasCells db q s count
-        → HasCells db q s other
+    ensures cells { (planned : Steps) (db : List Relation) (q : Question) (s count other : ℕ)
+        → HasCells planned db q s count
+        → HasCells planned db q s other
         → count ≡ other }
     ensures answers { (db : List Relation) (q : Question) (from to : ℤ) (count other : ℕ)
         → HasAnswerCount db q from to count

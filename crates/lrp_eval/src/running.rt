@@ -1,6 +1,7 @@
 // The steps of a plan, each by its call.
 ghost use Rattle.std.specs.Prelude.{◌≡◌, ◌<◌, ◌≤◌, suc, length};
 ghost use Rattle.lrp_model.specs.Formulas.{Question};
+ghost use Rattle.lrp_model.specs.Steps.{Steps};
 ghost use Rattle.lrp_eval.specs.Running.{IsNext, IsOperand, IsRunResult};
 
 use crate::sorting::sort_step;
@@ -29,13 +30,13 @@ pub(crate) fn run_step(
     tables: &[Table],
     step: &Step,
 ) -> Result<Table, StepFault>
-    requires next { (q : Question) × (head.now.columns ≡ q.head)
-        × IsNext database.now q setting.now.cap setting.now.domain.now tables.now step.now.kind
+    requires next { (planned : Steps) × (q : Question) × (head.now.columns ≡ q.head)
+        × IsNext planned database.now q setting.now.cap setting.now.domain.now tables.now step.now.kind
         step.now.period }
-    ensures { (q : Question) → head.now.columns ≡ q.head
-        → IsNext database.now q setting.now.cap setting.now.domain.now tables.now step.now.kind
+    ensures { (planned : Steps) (q : Question) → head.now.columns ≡ q.head
+        → IsNext planned database.now q setting.now.cap setting.now.domain.now tables.now step.now.kind
         step.now.period
-        → IsRunResult database.now q setting.now.cap (suc (length tables.now)) result }
+        → IsRunResult planned database.now q setting.now.cap (suc (length tables.now)) result }
 {
     let period = step.period;
     match &step.kind {

@@ -1,5 +1,5 @@
 -- What each call on the planner's draft promises, from the step that it adds.
-use Rattle.std.proofs.Common.{◌≡◌, ◌+◌, ◌*◌, ℕ, max, true, false, List, [], ◌∷◌, option_map, unwrap_or, map, flat_map, Result, Ok, Err}
+use Rattle.std.proofs.Common.{◌≡◌, ◌+◌, ◌*◌, ℕ, max, true, false, List, [], ◌∷◌, option_map, unwrap_or, map, flat_map, Result, Ok, Err, length, subst}
 use Rattle.std.specs.Result.{OnOk}
 use Rattle.lrp_model.specs.Texts.{Text, Identifier}
 use Rattle.lrp_model.specs.Formulas.{Form, atom, test}
@@ -13,6 +13,7 @@ use Rattle.lrp_model.specs.Steps.{scan_of, leaf, sort_texts, join, select, union
 use Rattle.lrp_model.specs.declared.relations.Sort.{Sort}
 use Rattle.lrp_model.specs.declared.formulas.Term.{Term}
 use Rattle.lrp_model.specs.declared.formulas.Test.{Test}
+use Rattle.lrp_model.specs.declared.plans.StepKind.{StepKind}
 use Rattle.lrp_model.specs.declared.plans.StepKind.TheVariants.{Scan, Leaf, Sort as SortStep, Join, Select, Union, Minus, Complement, DropTime, DropData, Extend}
 use Rattle.lrp_plan.specs.declared.drafts.Draft.{Draft}
 use Rattle.lrp_plan.specs.declared.drafts.PlannedOperand.{PlannedOperand}
@@ -20,6 +21,7 @@ use Rattle.lrp_limits.specs.declared.facts.Facts.{Facts}
 use Rattle.lrp_limits.specs.Capped.{capped}
 use Rattle.lrp_limits.specs.Multiples.{IsPeriod, IsLeastWithinLimit, AlwaysJoins}
 use Rattle.lrp_limits.specs.Facts.{AreFacts}
+use Rattle.lrp_plan_laws.specs.GuardedConjunctions.{select_from}
 use Rattle.lrp_plan.specs.Drafts.{AddsStep, AreTests, Extends, ExtendsBoth, with_head_step}
 use Rattle.lrp_plan.proofs.Made.{scan_follows, leaf_follows, sort_follows, join_follows, select_follows, union_follows, minus_follows, complement_follows, drop_time_follows, drop_data_follows, head_follows}
 
@@ -43,10 +45,19 @@ pub joins : {T E : Type 0} (r : Result T E) (left : PlannedOperand) (tests : Lis
 joins (Ok x) left tests k t reach old new j e f a = λ M K h. record { follows = λ planned i d o. join_follows M K left tests k t reach old new planned i d o a h j e f }
 joins (Err x) left tests k t reach old new j e f a = tt
 
-pub selects : {T E : Type 0} (r : Result T E) (t : Test) (x reach : ℕ) (old new : Draft) → x ≡ capped (test_reach t) → reach ≡ max old.last.reach x + old.last.period.number
-    → OnOk r (AddsStep (Select old.last.number t) old.last.period.number (capped reach) old new) → OnOk r ((M : Structure) (K : ℕ) → AreTests (t ∷ []) → Extends M K (select t) old new)
-selects (Ok y) t x reach old new e f a = λ M K h. record { follows = λ planned d. select_follows M K t x reach old new planned d a h.0 e f }
-selects (Err y) t x reach old new e f a = tt
+pub selects : {T E : Type 0} (r : Result T E) (t : Test) (x reach : ℕ) (of : PlannedOperand) (old new : Draft) → x ≡ capped (test_reach t) → reach ≡ max of.reach x + of.period.number
+    → OnOk r (AddsStep (Select of.number t) of.period.number (capped reach) old new) → OnOk r ((M : Structure) (K : ℕ) → AreTests (t ∷ []) → ExtendsBoth M K of (λ number. select_from number t) old new)
+selects (Ok y) t x reach of old new e f a = λ M K h. record { follows = λ planned i d o. select_follows M K t x reach i of old new planned d o a h.0 e f }
+selects (Err y) t x reach of old new e f a = tt
+
+-- of the last step
+pub selects_last : {T E : Type 0} (r : Result T E) (t : Test) (old new : Draft) → OnOk r ((M : Structure) (K : ℕ) → AreTests (t ∷ []) → ExtendsBoth M K old.last (λ number. select_from number t) old new) → OnOk r ((M : Structure) (K : ℕ) → AreTests (t ∷ []) → Extends M K (select t) old new)
+selects_last (Ok y) t old new h = λ M K k. record { follows = λ planned d. (h M K k).follows planned (length planned) d d.last }
+selects_last (Err y) t old new h = tt
+
+-- a step of another reach that is the same
+pub adds_same : {T E : Type 0} (r : Result T E) (kind : StepKind) (k a b : ℕ) (old new : Draft) → a ≡ b → OnOk r (AddsStep kind k (capped a) old new) → OnOk r (AddsStep kind k (capped b) old new)
+adds_same r kind k a b old new e = subst (λ x. OnOk r (AddsStep kind k (capped x) old new)) e
 
 pub unions : {T E : Type 0} (r : Result T E) (left : PlannedOperand) (k reach : ℕ) (old new : Draft) → AlwaysJoins left.period.number old.last.period.number k → reach ≡ max left.reach old.last.reach + k
     → OnOk r (AddsStep (Union left.number old.last.number) k (capped reach) old new) → OnOk r ((M : Structure) (K : ℕ) → ExtendsBoth M K left union old new)

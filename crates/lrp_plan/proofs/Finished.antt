@@ -23,6 +23,10 @@ exact (s ∷ ss) (p ∷ ps) h low =
     let c : capped p.reach ≡ p.reach = omega arith in
     (record { kind = h.0.kind; period = h.0.period; reach = h.0.reach ∙ ap pos c }, exact ss ps h.1 (λ i q e. low (suc i) q e))
 
--- the steps of a draft of the whole plan, where the query's reach is at most 2^62
-pub finished : (db : List Relation) (q : Question) (K : ℕ) (draft : Draft) → HasElements q.body → HasPeriods db q → query_reach db q ≤ 2 ^ 62 → IsDraft db K draft (plan db q) → AllZip IsStep draft.steps (plan db q)
-finished db q K draft h low le d = exact draft.steps (plan db q) d.steps (λ i p e. let r : IsRising db q (suc i) p = rises db q h low (suc i) p e in let b : p.reach ≤ query_reach db q = r.below in omega arith)
+-- the steps of a draft of a whole plan in which no reach is above the query's, where that is at most 2^62
+pub finished : (db : List Relation) (K : ℕ) (draft : Draft) (planned : Steps) → ((i : ℕ) (p : PlanStep) → slice_get planned i ≡ Some p → p.reach ≤ query_reach planned) → query_reach planned ≤ 2 ^ 62 → IsDraft db K draft planned → AllZip IsStep draft.steps planned
+finished db K draft planned below low d = exact draft.steps planned d.steps (λ i p e. let b : p.reach ≤ query_reach planned = below i p e in omega arith)
+
+-- as in the plan of a query as it is written
+pub none_above : (db : List Relation) (q : Question) → HasElements q.body → HasPeriods db q → (i : ℕ) (p : PlanStep) → slice_get (plan db q) i ≡ Some p → p.reach ≤ query_reach (plan db q)
+none_above db q h low i p e = let r : IsRising (plan db q) db q (suc i) p = rises db q h low (suc i) p e in r.below

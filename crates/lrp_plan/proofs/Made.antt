@@ -26,19 +26,20 @@ use Rattle.lrp_limits.specs.declared.facts.Facts.{Facts}
 use Rattle.lrp_limits.specs.Capped.{capped}
 use Rattle.lrp_limits.specs.Multiples.{IsPeriod, IsLeastWithinLimit, IsPeriodOf, AlwaysJoins}
 use Rattle.lrp_limits.specs.Facts.{AreFacts, most_of_row}
+use Rattle.lrp_plan_laws.specs.GuardedConjunctions.{select_from}
 use Rattle.lrp_plan.specs.Drafts.{AddsStep, IsPlannedOperand, IsDraftOf, IsDraft, AreTests, with_head_step}
 use Rattle.lrp_limits.proofs.Keeping.{common_both, least_is, least_of_none}
 
 -- ---- the last step
 
-get_last : {X : Type 0} (xs : List X) (x : X) → slice_get (xs ++ x ∷ []) (length xs) ≡ Some x
+pub get_last : {X : Type 0} (xs : List X) (x : X) → slice_get (xs ++ x ∷ []) (length xs) ≡ Some x
 get_last [] x = refl
 get_last (y ∷ ys) x = get_last ys x
 
 reach_made : (M : Structure) (kind : StepKind) (f : Form) (steps : Steps) → reach_at (made M kind f steps) (length (made M kind f steps)) ≡ step_reach M.relations (reach_at steps) (period M.relations f) kind
 reach_made M kind f steps = ap (reach_at (made M kind f steps)) (length_made M kind f steps) ∙ ap (λ o. unwrap_or (option_map (λ step. step.reach) o) 0) (get_last steps (step_behind M kind f steps))
 
-zip_push : {A B : Type 0} (R : A → B → Type 0) (xs : List A) (ys : List B) (x : A) (y : B) → AllZip R xs ys → R x y → AllZip R (xs ++ x ∷ []) (ys ++ y ∷ [])
+pub zip_push : {A B : Type 0} (R : A → B → Type 0) (xs : List A) (ys : List B) (x : A) (y : B) → AllZip R xs ys → R x y → AllZip R (xs ++ x ∷ []) (ys ++ y ∷ [])
 zip_push R [] [] x y h r = (r, tt)
 zip_push R [] (b ∷ ys) x y h r = absurd h
 zip_push R (a ∷ xs) [] x y h r = absurd h
@@ -65,11 +66,16 @@ made_follows M K kind code f k reach old new planned d a same least divides far 
       };
     }
 
+-- over one step, with its periods
+pub single_follows : (M : Structure) (K : ℕ) (kind code : StepKind) (f : Form) (i reach : ℕ) (of : PlannedOperand) (old new : Draft) (planned : Steps) → IsDraft M.relations K old planned → IsPlannedOperand M.relations K planned i of → AddsStep code of.period.number reach old new → code ≡ kind
+    → periods f M.relations ≡ periods (formula_at planned i) M.relations → reach ≡ capped (step_reach M.relations (reach_at planned) of.period.number kind) → IsDraft M.relations K new (made M kind f planned)
+single_follows M K kind code f i reach of old new planned d o a same e far =
+    made_follows M K kind code f of.period.number reach old new planned d a same (subst (λ ks. IsLeastWithinLimit ks of.period.number) (sym e) o.period) (subst (λ ks. IsCommon ks K) (sym e) o.divides) far
+
 -- over the last step alone, with its periods
 pub one_follows : (M : Structure) (K : ℕ) (kind code : StepKind) (f : Form) (reach : ℕ) (old new : Draft) (planned : Steps) → IsDraft M.relations K old planned → AddsStep code old.last.period.number reach old new → code ≡ kind
     → periods f M.relations ≡ periods (formula_at planned (length planned)) M.relations → reach ≡ capped (step_reach M.relations (reach_at planned) old.last.period.number kind) → IsDraft M.relations K new (made M kind f planned)
-one_follows M K kind code f reach old new planned d a same e far =
-    made_follows M K kind code f old.last.period.number reach old new planned d a same (subst (λ ks. IsLeastWithinLimit ks old.last.period.number) (sym e) d.last.period) (subst (λ ks. IsCommon ks K) (sym e) d.last.divides) far
+one_follows M K kind code f reach old new planned d a same e far = single_follows M K kind code f (length planned) reach old.last old new planned d d.last a same e far
 
 -- over an earlier step and the last one, with the periods of both
 pub both_follow : (M : Structure) (K : ℕ) (kind code : StepKind) (f : Form) (i k reach : ℕ) (left : PlannedOperand) (old new : Draft) (planned : Steps) → IsDraft M.relations K old planned → IsPlannedOperand M.relations K planned i left → AddsStep code k reach old new → code ≡ kind
@@ -85,7 +91,7 @@ both_follow M K kind code f i k reach left old new planned d o a same e joins fa
 
 -- ---- numbers of steps in kinds
 
-of_one : (C : ℕ → StepKind) (a b : ℕ) → a ≡ b → C a ≡ C b
+pub of_one : (C : ℕ → StepKind) (a b : ℕ) → a ≡ b → C a ≡ C b
 of_one C a b e = ap C e
 
 of_two : (C : ℕ → ℕ → StepKind) (a b c d : ℕ) → a ≡ b → c ≡ d → C a c ≡ C b d
@@ -96,7 +102,7 @@ of_two C a b c d e f = ap (λ x. C x c) e ∙ ap (λ y. C b y) f
 cap_one : (c a x k : ℕ) → x ≡ min a c → min (x + k) c ≡ min (a + k) c
 cap_one c a x k e = omega arith
 
-cap_double : (c a x : ℕ) → x ≡ min a c → min (2 * x) c ≡ min (2 * a) c
+pub cap_double : (c a x : ℕ) → x ≡ min a c → min (2 * x) c ≡ min (2 * a) c
 cap_double c a x e = omega arith
 
 cap_two : (c a b x y k : ℕ) → x ≡ min a c → y ≡ min b c → min (max x y + k) c ≡ min (max a b + k) c
@@ -105,12 +111,12 @@ cap_two c a b x y k e f = omega arith
 cap_three : (c a b d x y z k : ℕ) → x ≡ min a c → y ≡ min b c → z ≡ min d c → min (max (max x y) z + k) c ≡ min (max a (max b d) + k) c
 cap_three c a b d x y z k e f g = omega arith
 
-cap_same : (c a x : ℕ) → x ≡ min a c → min x c ≡ min a c
+pub cap_same : (c a x : ℕ) → x ≡ min a c → min x c ≡ min a c
 cap_same c a x e = omega arith
 
 -- ---- tests name no period
 
-no_period : (t : Test) → is_test t ≡ true → test_periods t ≡ []
+pub no_period : (t : Test) → is_test t ≡ true → test_periods t ≡ []
 no_period (Compare left op right) e = refl
 no_period (Member term point) e = cc
 no_period (Equal left right) e = refl
@@ -146,12 +152,12 @@ join_follows M K left tests k t reach old new planned i d o a h joins e r =
     (ap (λ ks. periods (formula_at planned i) M.relations ++ ks) (ap (λ ks. periods (formula_at planned (length planned)) M.relations ++ ks) (no_periods tests M.relations h) ∙ append-nil _)) joins
     (ap capped r ∙ cap_three _ _ _ _ _ _ _ k o.reach d.last.reach e)
 
-pub select_follows : (M : Structure) (K : ℕ) (t : Test) (x reach : ℕ) (old new : Draft) (planned : Steps) → IsDraft M.relations K old planned → AddsStep (Select old.last.number t) old.last.period.number (capped reach) old new
-    → is_test t ≡ true → x ≡ capped (test_reach t) → reach ≡ max old.last.reach x + old.last.period.number → IsDraft M.relations K new (select t M planned)
-select_follows M K t x reach old new planned d a h e r =
-    one_follows M K _ _ _ (capped reach) old new planned d a (of_one (λ n. Select n t) _ _ d.last.number)
-    (ap (λ ks. periods (formula_at planned (length planned)) M.relations ++ (ks ++ [])) (no_period t h) ∙ append-nil _)
-    (ap capped r ∙ cap_two _ _ _ _ _ old.last.period.number d.last.reach e)
+pub select_follows : (M : Structure) (K : ℕ) (t : Test) (x reach i : ℕ) (of : PlannedOperand) (old new : Draft) (planned : Steps) → IsDraft M.relations K old planned → IsPlannedOperand M.relations K planned i of → AddsStep (Select of.number t) of.period.number (capped reach) old new
+    → is_test t ≡ true → x ≡ capped (test_reach t) → reach ≡ max of.reach x + of.period.number → IsDraft M.relations K new (select_from i t M planned)
+select_follows M K t x reach i of old new planned d o a h e r =
+    single_follows M K _ _ _ i (capped reach) of old new planned d o a (of_one (λ n. Select n t) _ _ o.number)
+    (ap (λ ks. periods (formula_at planned i) M.relations ++ (ks ++ [])) (no_period t h) ∙ append-nil _)
+    (ap capped r ∙ cap_two _ _ _ _ _ of.period.number o.reach e)
 
 pub union_follows : (M : Structure) (K : ℕ) (left : PlannedOperand) (k reach : ℕ) (old new : Draft) (planned : Steps) (i : ℕ) → IsDraft M.relations K old planned → IsPlannedOperand M.relations K planned i left
     → AddsStep (Union left.number old.last.number) k (capped reach) old new → AlwaysJoins left.period.number old.last.period.number k → reach ≡ max left.reach old.last.reach + k → IsDraft M.relations K new (union i M planned)

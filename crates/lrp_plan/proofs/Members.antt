@@ -98,7 +98,7 @@ or_assoc : (a b c : Bool) → (a || b) || c ≡ a || (b || c)
 or_assoc true b c = refl
 or_assoc false b c = refl
 
-among_append : (vs ws : List Variable) (x : Variable) → is_among (vs ++ ws) x ≡ (is_among vs x || is_among ws x)
+pub among_append : (vs ws : List Variable) (x : Variable) → is_among (vs ++ ws) x ≡ (is_among vs x || is_among ws x)
 among_append [] ws x = refl
 among_append (v ∷ vs) ws x = ap (λ b. same_variable x v || b) (among_append vs ws x) ∙ sym (or_assoc (same_variable x v) (is_among vs x) (is_among ws x))
 

@@ -1,5 +1,5 @@
 -- What the plan of a query has beyond its steps: the points of its tests have periods, and a settled query's plan is sound.
-use Rattle.std.proofs.Common.{◌≡◌, ◌≤◌, ◌≤ℤ◌, ℕ, suc, pos, Bool, List, [], ◌∷◌, ◌++◌, Some, Result, Ok, Err, slice_get, flat_map, nat_abs, sym, refl, ap, subst, ◌∙◌}
+use Rattle.std.proofs.Common.{◌≡◌, ◌≤◌, ◌≤ℤ◌, ℕ, suc, pos, Bool, List, [], ◌∷◌, ◌++◌, Some, Contains, Result, Ok, Err, slice_get, flat_map, nat_abs, sym, refl, ap, subst, ◌∙◌}
 use Rattle.std.specs.List.{AllZip, AllByRecursion}
 use Rattle.std.specs.Result.{IfOk, IfErr}
 use Rattle.lrp_model.specs.Formulas.{Form, Question}
@@ -72,9 +72,9 @@ steps_low [] (p ∷ ps) h each = tt
 steps_low (s ∷ ss) [] h each = absurd h
 steps_low (s ∷ ss) (p ∷ ps) h each = (subst KindHasPeriods (sym h.0.kind) (kind_low p.kind (each 0 p refl)), steps_low ss ps h.1 (λ i q e. each (suc i) q e))
 
--- the plan of a query can be written
-pub plan_writable : (db : List Relation) (q : Question) (p : Plan) → HasElements q.body → AllByRecursion Low (points q.body) → IsPlan p db q → AllByRecursion IsWritable p.steps
-plan_writable db q p some ps is = steps_low p.steps (plan db q) is.steps (λ i s e. all_from Low (points q.body) (step_points s.kind) (points_known db q some (suc i) s e) ps)
+-- a plan of steps whose points are the query's can be written
+pub plan_writable : (planned : Steps) (db : List Relation) (q : Question) (p : Plan) → ((i : ℕ) (step : PlanStep) → slice_get planned i ≡ Some step → AllByRecursion (Contains (points q.body)) (step_points step.kind)) → AllByRecursion Low (points q.body) → IsPlan p planned db q → AllByRecursion IsWritable p.steps
+plan_writable planned db q p known ps is = steps_low p.steps planned is.steps (λ i s e. all_from Low (points q.body) (step_points s.kind) (known i s e) ps)
 
 -- ---- what an outcome is
 
@@ -84,26 +84,30 @@ pub gathered_is : (db : List Relation) (q : Question) (named : Bool) (sources : 
 gathered_is db q named sources f some ps rows is core gathered texts = record { elements = some; periods = query_low db q rows ps; core = core ∙ ap (λ b. core_form b q) is; gathered = gathered; texts = texts }
 
 -- the plan, where there is one
-pub outcome_ok : (db : List Relation) (q : Question) (r : Result Plan PlanFault) → IsOutcome db q r → IfOk r (λ p. IsPlan p db q)
-outcome_ok db q (Ok p) h = h.0
-outcome_ok db q (Err e) h = tt
+pub outcome_ok : (steps : Steps) (db : List Relation) (q : Question) (r : Result Plan PlanFault) → IsOutcome steps db q r → IfOk r (λ p. IsPlan p steps db q)
+outcome_ok steps db q (Ok p) h = h.0
+outcome_ok steps db q (Err e) h = tt
 
 -- within the limits
-pub outcome_limits : (db : List Relation) (q : Question) (r : Result Plan PlanFault) → IsOutcome db q r → IfOk r (λ p. IsWithinLimits db q)
-outcome_limits db q (Ok p) h = h.1
-outcome_limits db q (Err e) h = tt
+pub outcome_limits : (steps : Steps) (db : List Relation) (q : Question) (r : Result Plan PlanFault) → IsOutcome steps db q r → IfOk r (λ p. IsWithinLimits steps db q)
+outcome_limits steps db q (Ok p) h = h.1
+outcome_limits steps db q (Err e) h = tt
 
 -- which can be written
-pub outcome_writable : (db : List Relation) (q : Question) (r : Result Plan PlanFault) → HasElements q.body → AllByRecursion Low (points q.body) → IsOutcome db q r → IfOk r (λ p. AllByRecursion IsWritable p.steps)
-outcome_writable db q (Ok p) some ps h = plan_writable db q p some ps h.0
-outcome_writable db q (Err e) some ps h = tt
+pub outcome_writable : (planned : Steps) (db : List Relation) (q : Question) (r : Result Plan PlanFault) → ((i : ℕ) (step : PlanStep) → slice_get planned i ≡ Some step → AllByRecursion (Contains (points q.body)) (step_points step.kind)) → AllByRecursion Low (points q.body) → IsOutcome planned db q r → IfOk r (λ p. AllByRecursion IsWritable p.steps)
+outcome_writable planned db q (Ok p) known ps h = plan_writable planned db q p known ps h.0
+outcome_writable planned db q (Err e) known ps h = tt
+
+-- the points of the plan as it is written
+pub written_points : (db : List Relation) (q : Question) → HasElements q.body → (i : ℕ) (step : PlanStep) → slice_get (plan db q) i ≡ Some step → AllByRecursion (Contains (points q.body)) (step_points step.kind)
+written_points db q some i step e = points_known db q some (suc i) step e
 
 -- and is sound, where the query is settled
-pub outcome_sound : (db : List Relation) (q : Question) (r : Result Plan PlanFault) → IfOk r (λ p. IsSettled db q → IsSoundPlan db q)
+pub outcome_sound : (db : List Relation) (q : Question) (r : Result Plan PlanFault) → IfOk r (λ p. IsSettled db q → IsSoundPlan (plan db q) db q)
 outcome_sound db q (Ok p) = λ h. sound db q h
 outcome_sound db q (Err e) = tt
 
 -- or why there is none
-pub outcome_fault : (db : List Relation) (q : Question) (r : Result Plan PlanFault) → IsOutcome db q r → IfErr r (λ e. IsPastLimits e db q)
-outcome_fault db q (Ok p) h = tt
-outcome_fault db q (Err e) h = h
+pub outcome_fault : (steps : Steps) (db : List Relation) (q : Question) (r : Result Plan PlanFault) → IsOutcome steps db q r → IfErr r (λ e. IsPastLimits e steps db q)
+outcome_fault steps db q (Ok p) h = tt
+outcome_fault steps db q (Err e) h = h

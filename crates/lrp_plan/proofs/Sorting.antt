@@ -33,10 +33,10 @@ use Rattle.lrp_core.proofs.VariableLists.{is_among-each_once}
 use Rattle.lrp_model.specs.Variables.{Variable, is_among}
 
 -- each variable once has the same members
-same_as_once : (vs ws : List Variable) → vs ≡ each_once ws → HaveSame vs ws
+pub same_as_once : (vs ws : List Variable) → vs ≡ each_once ws → HaveSame vs ws
 same_as_once vs ws e = record { each = λ v. ap (λ x. is_among x v) e ∙ is_among-each_once ws v }
 
-zip_join : {A B : Type 0} (R : A → B → Type 0) (xs us : List A) (ys vs : List B) → AllZip R xs ys → AllZip R us vs → AllZip R (xs ++ us) (ys ++ vs)
+pub zip_join : {A B : Type 0} (R : A → B → Type 0) (xs us : List A) (ys vs : List B) → AllZip R xs ys → AllZip R us vs → AllZip R (xs ++ us) (ys ++ vs)
 zip_join R [] us [] vs h k = k
 zip_join R [] us (y ∷ ys) vs h k = absurd h
 zip_join R (x ∷ xs) us [] vs h k = absurd h
@@ -152,7 +152,7 @@ negation_sorted (Err x) sources index core inner own old new e a = tt
 
 -- ---- the loop
 
-get_from : {X : Type 0} (xs : List X) (i : ℕ) (x : X) → i < length xs → x ≡ get_or xs i x → slice_get xs i ≡ Some x
+pub get_from : {X : Type 0} (xs : List X) (i : ℕ) (x : X) → i < length xs → x ≡ get_or xs i x → slice_get xs i ≡ Some x
 get_from [] i x lt e = absurd (omega arith)
 get_from (y ∷ xs) zero x lt e = ap Some (sym e)
 get_from (y ∷ xs) (suc i) x lt e = get_from xs i x (omega arith) e

@@ -37,13 +37,13 @@ module _ {A B : Type 0} (R : A → B → Type 0) where
   zip_length (x ∷ xs) [] h = absurd h
   zip_length (x ∷ xs) (y ∷ ys) h = ap suc (zip_length xs ys h.1)
 
-  zip_get : (xs : List A) (ys : List B) (i : ℕ) (x : A) → AllZip R xs ys → slice_get xs i ≡ Some x → (y : B) × (slice_get ys i ≡ Some y) × R x y
+  pub zip_get : (xs : List A) (ys : List B) (i : ℕ) (x : A) → AllZip R xs ys → slice_get xs i ≡ Some x → (y : B) × (slice_get ys i ≡ Some y) × R x y
   zip_get [] ys i x h e = cc
   zip_get (a ∷ xs) [] i x h e = absurd h
   zip_get (a ∷ xs) (b ∷ ys) zero x h e = let d : a ≡ x = cc in (b, refl, subst (λ z. R z b) d h.0)
   zip_get (a ∷ xs) (b ∷ ys) (suc i) x h e = zip_get xs ys i x h.1 e
 
-  zip_remove : (xs : List A) (ys : List B) (i : ℕ) → AllZip R xs ys → AllZip R (remove xs i) (remove ys i)
+  pub zip_remove : (xs : List A) (ys : List B) (i : ℕ) → AllZip R xs ys → AllZip R (remove xs i) (remove ys i)
   zip_remove [] [] zero h = tt
   zip_remove [] [] (suc i) h = tt
   zip_remove [] (y ∷ ys) i h = absurd h
@@ -51,7 +51,7 @@ module _ {A B : Type 0} (R : A → B → Type 0) where
   zip_remove (x ∷ xs) (y ∷ ys) zero h = h.1
   zip_remove (x ∷ xs) (y ∷ ys) (suc i) h = (h.0, zip_remove xs ys i h.1)
 
-  zip_front : (p : A → Bool) (q : B → Bool) → ((x : A) (y : B) → R x y → p x ≡ q y) → (xs : List A) (ys : List B) → AllZip R xs ys → position_or_len p xs ≡ position_or_len q ys
+  pub zip_front : (p : A → Bool) (q : B → Bool) → ((x : A) (y : B) → R x y → p x ≡ q y) → (xs : List A) (ys : List B) → AllZip R xs ys → position_or_len p xs ≡ position_or_len q ys
   zip_front p q agree [] [] h = refl
   zip_front p q agree [] (y ∷ ys) h = absurd h
   zip_front p q agree (x ∷ xs) [] h = absurd h
@@ -59,7 +59,7 @@ module _ {A B : Type 0} (R : A → B → Type 0) where
       let ih : position_or_len p xs ≡ position_or_len q ys = zip_front p q agree xs ys h.1 in
       ap (λ b. cond (not b) (1 + position_or_len p xs) 0) (agree x y h.0) ∙ ap (λ n. cond (not (q y)) (1 + n) 0) ih
 
-  zip_first : (p : A → Bool) (q : B → Bool) → ((x : A) (y : B) → R x y → p x ≡ q y) → (xs : List A) (ys : List B) → AllZip R xs ys → first_or_0 p xs ≡ first_or_0 q ys
+  pub zip_first : (p : A → Bool) (q : B → Bool) → ((x : A) (y : B) → R x y → p x ≡ q y) → (xs : List A) (ys : List B) → AllZip R xs ys → first_or_0 p xs ≡ first_or_0 q ys
   zip_first p q agree xs ys h =
       let e : position_or_len p xs ≡ position_or_len q ys = zip_front p q agree xs ys h in
       let l : length xs ≡ length ys = zip_length xs ys h in

@@ -1,5 +1,5 @@
 -- The whole plan of a query: its core form has the periods of the body, and so its draft is the query's.
-use Rattle.std.proofs.Common.{◌≡◌, ◌≤◌, ◌<◌, ◌+◌, ◌*◌, ◌^◌, ℕ, pos, Bool, List, [], ◌∷◌, ◌++◌, Contains, Option, Some, None, option_map, Result, Ok, Err, zero, suc, ⊎_elim, refl, sym, ap, subst, ◌∙◌, arith}
+use Rattle.std.proofs.Common.{◌≡◌, ◌≤◌, ◌<◌, ◌+◌, ◌*◌, ◌^◌, ℕ, pos, Bool, List, [], ◌∷◌, ◌++◌, Contains, Option, Some, None, option_map, slice_get, Result, Ok, Err, zero, suc, ⊎_elim, refl, sym, ap, subst, ◌∙◌, arith}
 use Rattle.std.specs.List.{AllZip, AllByRecursion}
 use Rattle.std.specs.Result.{IfOk}
 use Rattle.std.specs.Str.{bytes_eq}
@@ -16,6 +16,7 @@ use Rattle.lrp_model.specs.Domains.{database_texts, all_texts}
 use Rattle.lrp_theory.specs.Divides.{IsCommon}
 use Rattle.lrp_theory.proofs.Modulo.{Divides-self}
 use Rattle.lrp_model.specs.Periods.{lcm_all, periods, period}
+use Rattle.lrp_model.specs.Steps.{PlanStep, Steps}
 use Rattle.lrp_model.specs.Plans.{plan, plan_of, query_reach, scaled_reach, IsStep}
 use Rattle.lrp_model.specs.Sorts.{time_count}
 use Rattle.lrp_model.specs.declared.relations.Relation.{Relation}
@@ -45,7 +46,7 @@ use Rattle.lrp_plan.specs.declared.planning.PlanFault.TheVariants.{PeriodLimit, 
 use Rattle.lrp_plan.specs.Domains.{AreDomains}
 use Rattle.lrp_plan.specs.Planning.{IsWholeDraft, AreGathered, IsOutcome}
 use Rattle.lrp_plan.specs.Sources.{AreFactsOf, AreSources}
-use Rattle.lrp_plan.proofs.Finished.{finished}
+use Rattle.lrp_plan.proofs.Finished.{finished, none_above}
 use Rattle.lrp_limits.proofs.Keeping.{least_is, least_of_none}
 use Rattle.lrp_limits.proofs.Raised.{common_from, least_from}
 
@@ -93,7 +94,7 @@ head_in_core named q db =
     marked_periods (guarded named q.head q.body) f db ((core_named named q db (free f) (marks f db)).0 (names_self db f)).1
 
 -- the least common multiple is a common one
-common_self : (ks : List ℕ) (k : ℕ) → IsLeastWithinLimit ks k → IsCommon ks k
+pub common_self : (ks : List ℕ) (k : ℕ) → IsLeastWithinLimit ks k → IsCommon ks k
 common_self ks k least = (least.multiples k).0 (Divides-self (pos k))
 
 -- the period of the core form is the query's, so that is at most 2^62
@@ -123,7 +124,7 @@ pub from_one : (ks : List ℕ) (old new : Option ℕ) → KeepsMultiples ks old 
 from_one ks old new h e = h.keeps [] (subst (IsPeriodOf []) (sym e) least_of_none)
 
 -- no steps are a draft of no plan
-starts : (db : List Relation) (K : ℕ) (start : Draft) → start.steps ≡ [] → start.last.number ≡ 0 → start.last.period.number ≡ 1 → start.last.reach ≡ 0 → IsPeriod K → IsDraft db K start []
+pub starts : (db : List Relation) (K : ℕ) (start : Draft) → start.steps ≡ [] → start.last.number ≡ 0 → start.last.period.number ≡ 1 → start.last.reach ≡ 0 → IsPeriod K → IsDraft db K start []
 starts db K start s n p r whole = record {
   whole = whole;
   steps = subst (λ xs. AllZip IsDraftOf xs []) (sym s) tt;
@@ -138,20 +139,27 @@ pub whole_follows : (sources : Sources) (f : Form) (k : ℕ) (start mid new : Dr
 whole_follows sources f k start mid new s n p r core head =
     record { follows = λ M K g a c whole least common. (head M K g least common).follows (plan_of f M []) ((core M K a c).follows [] (starts M.relations K start s n p r whole)) }
 
+-- the period of the core form is that of the formula with the head's sort elements
+pub head_least : (db : List Relation) (q : Question) (f : Form) (k : ℕ) → f ≡ core_form (has_named_sort db) q → IsLeastWithinLimit (periods f db) k → IsLeastWithinLimit (periods (guarded (has_named_sort db) q.head q.body) db) k
+head_least db q f k e least =
+    let named : Bool = has_named_sort db in
+    least_from (periods (core_form named q) db) (periods (guarded named q.head q.body) db) k (head_in_core named q db) (core_in_head named q db) (subst (λ x. IsLeastWithinLimit (periods x db) k) e least)
+
+-- a core form of a query, whose periods divide its own
+pub can_plan_query : (db : List Relation) (q : Question) (f : Form) (k : ℕ) → HasElements q.body → f ≡ core_form (has_named_sort db) q → IsLeastWithinLimit (periods f db) k → CanPlan (structure db q) k f
+can_plan_query db q f k h e least = subst (CanPlan (structure db q) k) (sym e) (record { core = core_of_query (has_named_sort db) q h; divides = common_self (periods (core_form (has_named_sort db) q) db) k (subst (λ x. IsLeastWithinLimit (periods x db) k) e least) })
+
 -- the draft of the query's core form is that of its plan
 pub draft_is : (db : List Relation) (q : Question) (sources : Sources) (f : Form) (k : ℕ) (draft : Draft) → HasElements q.body → AreSources (structure db q) sources → f ≡ core_form (has_named_sort db) q → IsLeastWithinLimit (periods f db) k → IsWholeDraft sources f k draft → IsDraft db k draft (plan db q)
 draft_is db q sources f k draft h a e least w =
-    let named : Bool = has_named_sort db in
     let M : Structure = structure db q in
-    let g : Form = guarded named q.head q.body in
-    let c : Form = core_form named q in
-    let l : IsLeastWithinLimit (periods c db) k = subst (λ x. IsLeastWithinLimit (periods x db) k) e least in
-    let m : IsLeastWithinLimit (periods g db) k = least_from (periods c db) (periods g db) k (head_in_core named q db) (core_in_head named q db) l in
-    (subst (λ x. IsWholeDraft sources x k draft) e w).follows M k g a (record { core = core_of_query named q h; divides = common_self (periods c db) k l }) l.period m (common_self (periods g db) k m)
+    let g : Form = guarded (has_named_sort db) q.head q.body in
+    let m : IsLeastWithinLimit (periods g db) k = head_least db q f k e least in
+    subst (λ x. IsDraft db k draft (with_head_step g M (plan_of x M []))) e (w.follows M k g a (can_plan_query db q f k h e least) m.period m (common_self (periods g db) k m))
 
 -- its last reach, doubled, is the query's up to 2^62 + 1
-pub reach_is : (db : List Relation) (q : Question) (k r : ℕ) (draft : Draft) → IsDraft db k draft (plan db q) → ((n : ℕ) → draft.last.reach ≡ capped n → r ≡ capped (2 ^ (time_count q.head + 1) * n)) → r ≡ capped (scaled_reach db q)
-reach_is db q k r draft d h = h (query_reach db q) d.last.reach
+pub reach_is : (db : List Relation) (q : Question) (k r : ℕ) (draft : Draft) (planned : Steps) → IsDraft db k draft planned → ((n : ℕ) → draft.last.reach ≡ capped n → r ≡ capped (2 ^ (time_count q.head + 1) * n)) → r ≡ capped (scaled_reach planned q)
+reach_is db q k r draft planned d h = h (query_reach planned) d.last.reach
 
 -- a power of 2 is at least 1
 doubled_up : (m n : ℕ) → n ≤ 2 ^ (m + 1) * n
@@ -165,11 +173,11 @@ doubled_up m n = times (2 ^ (m + 1)) (some m)
     times (suc t) h = omega arith
 
 -- where that is at most 2^62, the steps are the plan's
-pub steps_are : (db : List Relation) (q : Question) (k r : ℕ) (draft : Draft) → HasElements q.body → HasPeriods db q → IsDraft db k draft (plan db q) → r ≡ capped (scaled_reach db q) → r ≤ 2 ^ 62 → AllZip IsStep draft.steps (plan db q)
-steps_are db q k r draft h p d e low =
-    let s : scaled_reach db q ≤ 2 ^ 62 = omega arith in
-    let u : query_reach db q ≤ scaled_reach db q = doubled_up (time_count q.head) (query_reach db q) in
-    finished db q k draft h p (omega arith) d
+pub steps_are : (db : List Relation) (q : Question) (k r : ℕ) (draft : Draft) (planned : Steps) → ((i : ℕ) (p : PlanStep) → slice_get planned i ≡ Some p → p.reach ≤ query_reach planned) → IsDraft db k draft planned → r ≡ capped (scaled_reach planned q) → r ≤ 2 ^ 62 → AllZip IsStep draft.steps planned
+steps_are db q k r draft planned below d e low =
+    let s : scaled_reach planned q ≤ 2 ^ 62 = omega arith in
+    let u : query_reach planned ≤ scaled_reach planned q = doubled_up (time_count q.head) (query_reach planned) in
+    finished db k draft planned below (omega arith) d
 
 -- the reach, doubled for the columns that are read, is that for the head's
 pub same_head : (cs head : List Column) (r reach : ℕ) → cs ≡ head → ((n : ℕ) → reach ≡ capped n → r ≡ capped (2 ^ (time_count cs + 1) * n)) → (n : ℕ) → reach ≡ capped n → r ≡ capped (2 ^ (time_count head + 1) * n)
@@ -178,35 +186,41 @@ same_head cs head r reach e h n is = h n is ∙ ap (λ xs. capped (2 ^ (time_cou
 -- ---- outcomes
 
 -- without a period up to 2^62
-pub no_period : (db : List Relation) (q : Question) (sources : Sources) (f : Form) (o : Option Period) → o ≡ None → ((M : Structure) → AreSources M sources → IsPeriodOf (periods f M.relations) (option_map (λ p. p.number) o)) → AreGathered db q sources f → IsOutcome db q (Err PeriodLimit)
-no_period db q sources f o e h g =
+pub no_period : (planned : Steps) (db : List Relation) (q : Question) (sources : Sources) (f : Form) (o : Option Period) → o ≡ None → ((M : Structure) → AreSources M sources → IsPeriodOf (periods f M.relations) (option_map (λ p. p.number) o)) → AreGathered db q sources f → IsOutcome planned db q (Err PeriodLimit)
+no_period planned db q sources f o e h g =
     high_period db q g.periods (subst (λ x. IsPeriodOf (periods x db) None) g.core (subst (λ x. IsPeriodOf (periods f db) (option_map (λ (p : Period). p.number) x)) e (h (structure db q) g.gathered)))
 
--- without memory
-pub no_memory : (db : List Relation) (q : Question) (e : PlanFault) → e ≡ Memory → IsOutcome db q (Err e)
-no_memory db q e is = subst (λ x. IsOutcome db q (Err x)) (sym is) tt
-
 -- the period that was found is the core form's
-least_found : (db : List Relation) (q : Question) (sources : Sources) (f : Form) (o : Option Period) (p : Period) → o ≡ Some p → ((M : Structure) → AreSources M sources → IsPeriodOf (periods f M.relations) (option_map (λ p. p.number) o)) → AreGathered db q sources f → IsLeastWithinLimit (periods f db) p.number
+pub least_found : (db : List Relation) (q : Question) (sources : Sources) (f : Form) (o : Option Period) (p : Period) → o ≡ Some p → ((M : Structure) → AreSources M sources → IsPeriodOf (periods f M.relations) (option_map (λ p. p.number) o)) → AreGathered db q sources f → IsLeastWithinLimit (periods f db) p.number
 least_found db q sources f o p e h g = subst (λ x. IsPeriodOf (periods f db) (option_map (λ (p : Period). p.number) x)) e (h (structure db q) g.gathered)
 
 -- above the limit of reaches
-pub far_reach : (db : List Relation) (q : Question) (sources : Sources) (f : Form) (o : Option Period) (p : Period) (draft : Draft) (r : ℕ) → o ≡ Some p → ((M : Structure) → AreSources M sources → IsPeriodOf (periods f M.relations) (option_map (λ p. p.number) o)) → IsWholeDraft sources f p.number draft
-    → ((n : ℕ) → draft.last.reach ≡ capped n → r ≡ capped (2 ^ (time_count q.head + 1) * n)) → 2 ^ 62 < r → AreGathered db q sources f → IsOutcome db q (Err BoundLimit)
-far_reach db q sources f o p draft r e h w s far g =
-    let least : IsLeastWithinLimit (periods f db) p.number = least_found db q sources f o p e h g in
-    let d : IsDraft db p.number draft (plan db q) = draft_is db q sources f p.number draft g.elements g.gathered g.core least w in
-    let c : r ≡ capped (scaled_reach db q) = reach_is db q p.number r draft d s in
-    (low_period db q p.number (subst (λ x. IsLeastWithinLimit (periods x db) p.number) g.core least), omega arith)
+pub far_outcome : (planned : Steps) (db : List Relation) (q : Question) (sources : Sources) (f : Form) (k : ℕ) (draft : Draft) (r : ℕ) → IsLeastWithinLimit (periods f db) k → IsDraft db k draft planned
+    → ((n : ℕ) → draft.last.reach ≡ capped n → r ≡ capped (2 ^ (time_count q.head + 1) * n)) → 2 ^ 62 < r → AreGathered db q sources f → IsOutcome planned db q (Err BoundLimit)
+far_outcome planned db q sources f k draft r least d s far g =
+    let c : r ≡ capped (scaled_reach planned q) = reach_is db q k r draft planned d s in
+    (low_period db q k (subst (λ x. IsLeastWithinLimit (periods x db) k) g.core least), omega arith)
 
 -- within the limits
+pub near_outcome : (planned : Steps) (db : List Relation) (q : Question) (sources : Sources) (f : Form) (k : ℕ) (draft : Draft) (r : ℕ) (made : Plan) → IsLeastWithinLimit (periods f db) k → IsDraft db k draft planned
+    → ((n : ℕ) → draft.last.reach ≡ capped n → r ≡ capped (2 ^ (time_count q.head + 1) * n)) → r ≤ 2 ^ 62 → ((i : ℕ) (p : PlanStep) → slice_get planned i ≡ Some p → p.reach ≤ query_reach planned)
+    → made.steps ≡ draft.steps → made.head.columns ≡ q.head → made.domain ≡ in_order (texts_among (database_texts sources.database.now ++ sources.texts.items)) → AreGathered db q sources f → IsOutcome planned db q (Ok made)
+near_outcome planned db q sources f k draft r made least d s low below steps head domain g =
+    let c : r ≡ capped (scaled_reach planned q) = reach_is db q k r draft planned d s in (
+      record { steps = subst (λ xs. AllZip IsStep xs planned) (sym steps) (steps_are db q k r draft planned below d c low); head = head; domain = domain ∙ ap (λ xs. in_order (texts_among xs)) g.texts },
+      record { period = low_period db q k (subst (λ x. IsLeastWithinLimit (periods x db) k) g.core least); reach = omega arith },
+    )
+
+-- both of the plan as it is written
+pub far_reach : (db : List Relation) (q : Question) (sources : Sources) (f : Form) (o : Option Period) (p : Period) (draft : Draft) (r : ℕ) → o ≡ Some p → ((M : Structure) → AreSources M sources → IsPeriodOf (periods f M.relations) (option_map (λ p. p.number) o)) → IsWholeDraft sources f p.number draft
+    → ((n : ℕ) → draft.last.reach ≡ capped n → r ≡ capped (2 ^ (time_count q.head + 1) * n)) → 2 ^ 62 < r → AreGathered db q sources f → IsOutcome (plan db q) db q (Err BoundLimit)
+far_reach db q sources f o p draft r e h w s far g =
+    let least : IsLeastWithinLimit (periods f db) p.number = least_found db q sources f o p e h g in
+    far_outcome (plan db q) db q sources f p.number draft r least (draft_is db q sources f p.number draft g.elements g.gathered g.core least w) s far g
+
 pub near_reach : (db : List Relation) (q : Question) (sources : Sources) (f : Form) (o : Option Period) (p : Period) (draft : Draft) (r : ℕ) (made : Plan) → o ≡ Some p → ((M : Structure) → AreSources M sources → IsPeriodOf (periods f M.relations) (option_map (λ p. p.number) o)) → IsWholeDraft sources f p.number draft
     → ((n : ℕ) → draft.last.reach ≡ capped n → r ≡ capped (2 ^ (time_count q.head + 1) * n)) → r ≤ 2 ^ 62
-    → made.steps ≡ draft.steps → made.head.columns ≡ q.head → made.domain ≡ in_order (texts_among (database_texts sources.database.now ++ sources.texts.items)) → AreGathered db q sources f → IsOutcome db q (Ok made)
+    → made.steps ≡ draft.steps → made.head.columns ≡ q.head → made.domain ≡ in_order (texts_among (database_texts sources.database.now ++ sources.texts.items)) → AreGathered db q sources f → IsOutcome (plan db q) db q (Ok made)
 near_reach db q sources f o p draft r made e h w s low steps head domain g =
     let least : IsLeastWithinLimit (periods f db) p.number = least_found db q sources f o p e h g in
-    let d : IsDraft db p.number draft (plan db q) = draft_is db q sources f p.number draft g.elements g.gathered g.core least w in
-    let c : r ≡ capped (scaled_reach db q) = reach_is db q p.number r draft d s in (
-      record { steps = subst (λ xs. AllZip IsStep xs (plan db q)) (sym steps) (steps_are db q p.number r draft g.elements g.periods d c low); head = head; domain = domain ∙ ap (λ xs. in_order (texts_among xs)) g.texts },
-      record { period = low_period db q p.number (subst (λ x. IsLeastWithinLimit (periods x db) p.number) g.core least); reach = omega arith },
-    )
+    near_outcome (plan db q) db q sources f p.number draft r made least (draft_is db q sources f p.number draft g.elements g.gathered g.core least w) s low (none_above db q g.elements g.periods) steps head domain g

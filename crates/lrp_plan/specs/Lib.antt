@@ -2,10 +2,10 @@
 pub mod Planning
 pub mod Elements
 pub mod Waiting
--- What functions inside say to one another.
 pub mod Drafts
 pub mod Taking
-pub mod Domains
 pub mod Sources
+-- What functions inside say to one another.
+pub mod Domains
 pub mod Splits
 pub mod Naming

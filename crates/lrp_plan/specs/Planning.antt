@@ -6,6 +6,7 @@ use Rattle.lrp_model.specs.Core.{core_form, has_named_sort, HasElements}
 use Rattle.lrp_model.specs.Domains.{database_texts, all_texts}
 use Rattle.lrp_theory.specs.Divides.{IsCommon}
 use Rattle.lrp_model.specs.Periods.{periods}
+use Rattle.lrp_model.specs.Steps.{Steps}
 use Rattle.lrp_model.specs.Plans.{plan_of, IsPlan, IsWithinLimits, HasLongPeriod, HasFarReach}
 use Rattle.lrp_model.specs.declared.plans.Plan.{Plan}
 use Rattle.lrp_model.specs.declared.relations.Relation.{Relation}
@@ -19,11 +20,11 @@ use Rattle.lrp_plan.specs.Elements.{CanPlan}
 use Rattle.lrp_limits.specs.Multiples.{IsPeriod, IsLeastWithinLimit}
 use Rattle.lrp_plan.specs.Sources.{AreSources}
 
--- the period is above the greatest number; or it is not and the reach, doubled so, is; or memory ran out
-abbrev pub IsPastLimits : PlanFault → List Relation → Question → Type 0
-IsPastLimits PeriodLimit db q = HasLongPeriod db q
-IsPastLimits BoundLimit db q = HasFarReach db q
-IsPastLimits Memory db q = Unit {0}
+-- the period is above the greatest number; or it is not and the reach of the steps, doubled so, is; or memory ran out
+abbrev pub IsPastLimits : PlanFault → Steps → List Relation → Question → Type 0
+IsPastLimits PeriodLimit steps db q = HasLongPeriod db q
+IsPastLimits BoundLimit steps db q = HasFarReach steps db q
+IsPastLimits Memory steps db q = Unit {0}
 
 -- the steps of a core form, and then the last one, of a formula with this period
 pub record IsWholeDraft (sources : Sources) (f : Form) (k : ℕ) (draft : Draft) : Type 0 where
@@ -37,7 +38,7 @@ pub record AreGathered (db : List Relation) (q : Question) (sources : Sources) (
   pub gathered : AreSources (structure db q) sources
   pub texts : database_texts sources.database.now ++ sources.texts.items ≡ all_texts db q
 
--- the plan within the limits, or the cause why there is none
-abbrev pub IsOutcome : List Relation → Question → Result Plan PlanFault → Type 0
-IsOutcome db q (Ok p) = IsPlan p db q × IsWithinLimits db q
-IsOutcome db q (Err e) = IsPastLimits e db q
+-- the plan of these steps within the limits, or the cause why there is none
+abbrev pub IsOutcome : Steps → List Relation → Question → Result Plan PlanFault → Type 0
+IsOutcome steps db q (Ok p) = IsPlan p steps db q × IsWithinLimits steps db q
+IsOutcome steps db q (Err e) = IsPastLimits e steps db q

@@ -16,11 +16,11 @@ use std::collections::{BTreeSet, HashMap};
 ///
 /// A data sort of which the query has no text is not among them: those of the database alone are put in order where they are
 /// asked for.
-pub(crate) struct Domains {
-    pub(crate) alloc: Global,
-    pub(crate) timed: BTreeSet<DataText>,
-    pub(crate) unnamed: Option<BTreeSet<DataText>>,
-    pub(crate) named: HashMap<Name, BTreeSet<DataText>>,
+pub struct Domains {
+    pub alloc: Global,
+    pub timed: BTreeSet<DataText>,
+    pub unnamed: Option<BTreeSet<DataText>>,
+    pub named: HashMap<Name, BTreeSet<DataText>>,
 }
 
 // They are let go by one call, which is proved once.
@@ -36,7 +36,7 @@ impl Drop for Domains {
 }
 
 /// The texts of the database, and these of a query, by their sorts.
-pub(crate) fn domains_of(
+pub fn domains_of(
     alloc: Global,
     database: &Database,
     texts: &[(Sort, DataText)],
@@ -118,7 +118,7 @@ impl Domains {
     }
 
     /// The texts of a sort, where they were gathered.
-    pub(crate) fn of(&self, sort: &Sort) -> Option<&BTreeSet<DataText>>
+    pub fn of(&self, sort: &Sort) -> Option<&BTreeSet<DataText>>
         ensures { option_copied result ≡ gathered self.now sort.now }
     {
         match sort {
@@ -151,7 +151,7 @@ fn set_of(alloc: Global, texts: &[DataText]) -> Result<BTreeSet<DataText>, Memor
 }
 
 /// These texts, each once, in order of bytes.
-pub(crate) fn ordered(alloc: Global, texts: &List<DataText>) -> Result<List<DataText>, Memory>
+pub fn ordered(alloc: Global, texts: &List<DataText>) -> Result<List<DataText>, Memory>
     ensures { IfOk result (λ made. made ≡ in_order texts.now) }
 {
     let mut all = texts.copy(alloc)?.into_vec();
@@ -161,7 +161,7 @@ pub(crate) fn ordered(alloc: Global, texts: &List<DataText>) -> Result<List<Data
 }
 
 /// The texts of a set, in order of bytes.
-pub(crate) fn list_of(alloc: Global, texts: &BTreeSet<DataText>) -> Result<List<DataText>, Memory>
+pub fn list_of(alloc: Global, texts: &BTreeSet<DataText>) -> Result<List<DataText>, Memory>
     ensures { IfOk result (λ made. made ≡ keys texts.now) }
 {
     let mut list = Vec::with_capacity(alloc, texts.len())?;

@@ -1,11 +1,12 @@
 // The steps made so far, and the rules that make one more.
-ghost use Rattle.std.specs.Prelude.{◌≡◌, ℕ, [], ◌∷◌, OnOk};
+ghost use Rattle.std.specs.Prelude.{◌≡◌, ℕ, ◌*◌, [], ◌∷◌, OnOk};
 ghost use Rattle.lrp_model.specs.Formulas.{Form, atom, test as test_form};
 ghost use Rattle.lrp_model.specs.Rows.{rows_of};
 ghost use Rattle.lrp_theory.specs.Divides.{IsCommon};
 ghost use Rattle.lrp_model.specs.Periods.{periods, test_periods};
 ghost use Rattle.lrp_model.specs.Satisfaction.{Structure};
 ghost use Rattle.lrp_model.specs.Steps.{scan_of as scanned, leaf as tested, sort_texts, join as joined, select as selected, union as united, minus as taken_off, complement as complemented, drop_of};
+ghost use Rattle.lrp_plan_laws.specs.GuardedConjunctions.{select_from as selected_from};
 ghost use Rattle.lrp_limits.specs.Capped.{capped as capped_at};
 ghost use Rattle.lrp_plan.specs.Drafts.{AddsStep, Extends, ExtendsBoth, AreTests, with_head_step};
 ghost use Rattle.lrp_limits.specs.Facts.{AreFacts};
@@ -22,16 +23,29 @@ use std::alloc::Global;
 
 /// What later steps read of a step: its number, its period, and its reach up to 2^62 + 1.
 #[derive(Clone, Copy)]
-pub(crate) struct PlannedOperand {
-    pub(crate) number: u32,
-    pub(crate) period: Period,
-    pub(crate) reach: u64,
+pub struct PlannedOperand {
+    pub number: u32,
+    pub period: Period,
+    pub reach: u64,
+}
+
+/// What is read of no step at all.
+pub fn no_step() -> PlannedOperand
+    ensures number { result.number ≡ 0 }
+    ensures period { result.period.number ≡ 1 }
+    ensures reach { result.reach ≡ 0 }
+{
+    PlannedOperand {
+        number: 0,
+        period: one(),
+        reach: 0,
+    }
 }
 
 /// The steps made so far, with reaches up to 2^62 + 1, and what is read of the last of them.
-pub(crate) struct Draft {
-    pub(crate) steps: List<Step>,
-    pub(crate) last: PlannedOperand,
+pub struct Draft {
+    pub steps: List<Step>,
+    pub last: PlannedOperand,
 }
 
 // It is let go by one call, which is proved once.
@@ -46,7 +60,7 @@ impl Drop for Draft {
 
 impl Draft {
     /// Its steps alone.
-    pub(crate) fn into_steps(self) -> List<Step>
+    pub fn into_steps(self) -> List<Step>
         ensures { result ≡ self.steps }
     {
         let Draft { steps, last: _last } = self;
@@ -54,7 +68,7 @@ impl Draft {
     }
 
     /// No steps yet.
-    pub(crate) fn new(alloc: Global) -> Draft
+    pub fn new(alloc: Global) -> Draft
         ensures steps { result.steps ≡ [] }
         ensures number { result.last.number ≡ 0 }
         ensures period { result.last.period.number ≡ 1 }
@@ -62,11 +76,7 @@ impl Draft {
     {
         Draft {
             steps: List::new(alloc),
-            last: PlannedOperand {
-                number: 0,
-                period: one(),
-                reach: 0,
-            },
+            last: no_step(),
         }
     }
 
@@ -90,12 +100,7 @@ impl Draft {
     }
 
     /// An atom, over the facts of its relation's rows.
-    pub(crate) fn scan(
-        &mut self,
-        facts: Facts,
-        relation: Name,
-        terms: List<Term>,
-    ) -> Result<(), Memory>
+    pub fn scan(&mut self, facts: Facts, relation: Name, terms: List<Term>) -> Result<(), Memory>
         ensures { OnOk result ((M : Structure) (K : ℕ)
             → AreFacts (rows_of M.relations relation) facts
             → IsCommon (periods (atom relation terms) M.relations) K
@@ -107,7 +112,7 @@ impl Draft {
     }
 
     /// A test as a step of its own.
-    pub(crate) fn leaf(&mut self, test: Test) -> Result<(), Memory>
+    pub fn leaf(&mut self, test: Test) -> Result<(), Memory>
         ensures { OnOk result ((M : Structure) (K : ℕ)
             → IsCommon (periods (test_form test) M.relations) K
             → Extends M K (tested test) self.old self.new) }
@@ -118,12 +123,7 @@ impl Draft {
     }
 
     /// A sort element, with the texts of the sort.
-    pub(crate) fn sort(
-        &mut self,
-        name: Name,
-        sort: Sort,
-        texts: List<DataText>,
-    ) -> Result<(), Memory>
+    pub fn sort(&mut self, name: Name, sort: Sort, texts: List<DataText>) -> Result<(), Memory>
         ensures { OnOk result ((M : Structure) (K : ℕ) → texts ≡ M.domain sort
             → Extends M K (sort_texts sort name) self.old self.new) }
     {
@@ -131,7 +131,7 @@ impl Draft {
     }
 
     /// An earlier step joined with the last one; the tests name no period.
-    pub(crate) fn join(&mut self, left: PlannedOperand, tests: List<Test>) -> Result<(), Memory>
+    pub fn join(&mut self, left: PlannedOperand, tests: List<Test>) -> Result<(), Memory>
         ensures { OnOk result ((M : Structure) (K : ℕ) → AreTests tests
             → ExtendsBoth M K left (λ number. joined number tests) self.old self.new) }
     {
@@ -151,11 +151,19 @@ impl Draft {
     }
 
     /// What of the last step passes a test that names no period.
-    pub(crate) fn select(&mut self, test: Test) -> Result<(), Memory>
+    pub fn select(&mut self, test: Test) -> Result<(), Memory>
         ensures { OnOk result ((M : Structure) (K : ℕ) → AreTests (test ∷ [])
             → Extends M K (selected test) self.old self.new) }
     {
         let of = self.last;
+        self.select_from(of, test)
+    }
+
+    /// What of an earlier step passes a test that names no period.
+    pub fn select_from(&mut self, of: PlannedOperand, test: Test) -> Result<(), Memory>
+        ensures { OnOk result ((M : Structure) (K : ℕ) → AreTests (test ∷ [])
+            → ExtendsBoth M K of (λ number. selected_from number test) self.old self.new) }
+    {
         let reach = with_period(of.reach.max(test_reach(&test)), of.period);
         self.add(
             StepKind::Select {
@@ -168,7 +176,7 @@ impl Draft {
     }
 
     /// An earlier step and the last one.
-    pub(crate) fn union(&mut self, left: PlannedOperand) -> Result<(), Memory>
+    pub fn union(&mut self, left: PlannedOperand) -> Result<(), Memory>
         ensures { OnOk result ((M : Structure) (K : ℕ)
             → ExtendsBoth M K left united self.old self.new) }
     {
@@ -186,7 +194,7 @@ impl Draft {
     }
 
     /// An earlier step without what the last one has.
-    pub(crate) fn minus(&mut self, left: PlannedOperand) -> Result<(), Memory>
+    pub fn minus(&mut self, left: PlannedOperand) -> Result<(), Memory>
         ensures { OnOk result ((M : Structure) (K : ℕ)
             → ExtendsBoth M K left taken_off self.old self.new) }
     {
@@ -204,7 +212,7 @@ impl Draft {
     }
 
     /// What the last step does not have.
-    pub(crate) fn complement(&mut self) -> Result<(), Memory>
+    pub fn complement(&mut self) -> Result<(), Memory>
         ensures { OnOk result ((M : Structure) (K : ℕ)
             → Extends M K complemented self.old self.new) }
     {
@@ -214,36 +222,52 @@ impl Draft {
     }
 
     /// The last step without a variable.
-    pub(crate) fn drop_variable(&mut self, name: Name, sort: &Sort) -> Result<(), Memory>
+    pub fn drop_variable(&mut self, name: Name, sort: &Sort) -> Result<(), Memory>
         ensures { OnOk result ((M : Structure) (K : ℕ)
             → Extends M K (drop_of name sort.now) self.old self.new) }
     {
         let of = self.last;
         if sort.is_time() {
-            let reach = doubled(of.reach);
-            self.add(
-                StepKind::DropTime {
-                    of: of.number,
-                    name,
-                },
-                of.period,
-                reach,
-            )
+            self.drop_time(of, name)
         } else {
-            let reach = u128::from(of.reach);
-            self.add(
-                StepKind::DropData {
-                    of: of.number,
-                    name,
-                },
-                of.period,
-                reach,
-            )
+            self.drop_data(of, name)
         }
     }
 
+    /// A step without a time variable.
+    pub fn drop_time(&mut self, of: PlannedOperand, name: Name) -> Result<(), Memory>
+        ensures { OnOk result (AddsStep (StepKind.DropTime of.number name) of.period.number
+            (capped_at (2 * of.reach)) self.old self.new) }
+    {
+        let reach = doubled(of.reach);
+        self.add(
+            StepKind::DropTime {
+                of: of.number,
+                name,
+            },
+            of.period,
+            reach,
+        )
+    }
+
+    /// A step without a data variable.
+    pub fn drop_data(&mut self, of: PlannedOperand, name: Name) -> Result<(), Memory>
+        ensures { OnOk result (AddsStep (StepKind.DropData of.number name) of.period.number
+            (capped_at of.reach) self.old self.new) }
+    {
+        let reach = u128::from(of.reach);
+        self.add(
+            StepKind::DropData {
+                of: of.number,
+                name,
+            },
+            of.period,
+            reach,
+        )
+    }
+
     /// The last step with the head's further variables; the period is that of the query's body.
-    pub(crate) fn extend(&mut self, period: Period) -> Result<(), Memory>
+    pub fn extend(&mut self, period: Period) -> Result<(), Memory>
         ensures { OnOk result ((M : Structure) (K : ℕ) (f : Form)
             → IsLeastWithinLimit (periods f M.relations) period.number
             → IsCommon (periods f M.relations) K

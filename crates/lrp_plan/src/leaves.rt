@@ -15,7 +15,7 @@ use lrp_model::{Copies, Memory, Name, Sort, Term};
 use std::alloc::Global;
 
 /// The step of an atom.
-pub(crate) fn plan_atom(
+pub fn plan_atom(
     sources: &Sources<'_>,
     draft: &mut Draft,
     relation: &Name,
@@ -32,7 +32,7 @@ pub(crate) fn plan_atom(
 }
 
 /// The step of a test.
-pub(crate) fn plan_test(alloc: Global, draft: &mut Draft, test: &TermTest<'_>) -> Result<(), Memory>
+pub fn plan_test(alloc: Global, draft: &mut Draft, test: &TermTest<'_>) -> Result<(), Memory>
     ensures { OnOk result ((M : Structure) (K : ℕ)
         → MakesSteps M K (test_form (test_of test.now)) draft.old draft.new) }
 {
@@ -41,7 +41,7 @@ pub(crate) fn plan_test(alloc: Global, draft: &mut Draft, test: &TermTest<'_>) -
 }
 
 /// The step of a sort element.
-pub(crate) fn plan_sorted(
+pub fn plan_sorted(
     sources: &Sources<'_>,
     draft: &mut Draft,
     sort: &Sort,
@@ -58,12 +58,7 @@ pub(crate) fn plan_sorted(
 }
 
 /// The last step without the variable that a quantifier binds.
-pub(crate) fn plan_drop(
-    alloc: Global,
-    draft: &mut Draft,
-    name: &Name,
-    sort: &Sort,
-) -> Result<(), Memory>
+pub fn plan_drop(alloc: Global, draft: &mut Draft, name: &Name, sort: &Sort) -> Result<(), Memory>
     ensures { OnOk result ((M : Structure) (K : ℕ)
         → Extends M K (drop_of name.now sort.now) draft.old draft.new) }
 {

@@ -1,18 +1,18 @@
 //! The plan of a query: the steps by which it is answered, with their periods and reaches.
 #![tactic(auto)]
 
-mod domains;
-mod drafts;
+pub mod domains;
+pub mod drafts;
 mod elements;
 mod laws;
-mod leaves;
+pub mod leaves;
 mod naming;
 mod planner;
-mod planning;
-mod sorts;
-mod sources;
+pub mod planning;
+pub mod sorts;
+pub mod sources;
 mod splits;
-mod taking;
+pub mod taking;
 mod waiting;
 mod wholes;
 

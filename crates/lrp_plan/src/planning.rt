@@ -7,7 +7,7 @@ ghost use Rattle.lrp_model.specs.Formulas.{form_of, question_of};
 ghost use Rattle.lrp_model.specs.Core.{HasElements};
 ghost use Rattle.lrp_model.specs.Domains.{all_texts, database_texts};
 ghost use Rattle.lrp_model.specs.Periods.{periods};
-ghost use Rattle.lrp_model.specs.Plans.{IsPlan, IsWithinLimits};
+ghost use Rattle.lrp_model.specs.Plans.{plan as plan_of_query, IsPlan, IsWithinLimits};
 ghost use Rattle.lrp_model.specs.Satisfaction.{Structure, structure};
 ghost use Rattle.lrp_model.specs.Texts.{in_order};
 ghost use Rattle.lrp_model.specs.declared.relations.Relation.{Relation as RelationOf};
@@ -66,12 +66,18 @@ impl From<Memory> for PlanFault {
 pub fn plan(alloc: Global, query: &Query, database: &Database) -> Result<Plan, PlanFault>
     requires elements { HasElements (form_of query.now.body) }
     requires points { AllByRecursion (λ at. pos 1 ≤ℤ at.period) (points (form_of query.now.body)) }
-    ensures ok { IfOk result (λ p. IsPlan p database.now (question_of query.now)) }
-    ensures limits { IfOk result (λ p. IsWithinLimits database.now (question_of query.now)) }
+    ensures ok { IfOk result (λ p. IsPlan p (plan_of_query database.now (question_of query.now))
+        database.now (question_of query.now)) }
+    ensures limits { IfOk result (λ p. IsWithinLimits
+        (plan_of_query database.now (question_of query.now))
+        database.now (question_of query.now)) }
     ensures writable { IfOk result (λ p. AllByRecursion StepHasPeriods p.steps) }
     ensures sound { IfOk result (λ _. IsSettled database.now (question_of query.now)
-        → IsSoundPlan database.now (question_of query.now)) }
-    ensures fault { IfErr result (λ e. IsPastLimits e database.now (question_of query.now)) }
+        → IsSoundPlan (plan_of_query database.now (question_of query.now))
+        database.now (question_of query.now)) }
+    ensures fault { IfErr result (λ e. IsPastLimits e
+        (plan_of_query database.now (question_of query.now))
+        database.now (question_of query.now)) }
 {
     let core = core_form(alloc, query, has_named_sort(database))?;
     let sources = gather(alloc, query, database)?;
@@ -86,7 +92,8 @@ fn plan_gathered(
     core: &Core<'_>,
 ) -> Result<Plan, PlanFault>
     ensures { (db : List RelationOf) → AreGathered db (question_of query.now) sources.now
-        (core_of core.now) → IsOutcome db (question_of query.now) result }
+        (core_of core.now)
+        → IsOutcome (plan_of_query db (question_of query.now)) db (question_of query.now) result }
 {
     let period = match whole_period(sources, core) {
         Some(period) => period,
@@ -100,8 +107,13 @@ fn plan_gathered(
     Ok(plan)
 }
 
-// The plan of these steps.
-fn finish(alloc: Global, query: &Query, sources: &Sources<'_>, draft: Draft) -> Result<Plan, Memory>
+/// The plan of these steps.
+pub fn finish(
+    alloc: Global,
+    query: &Query,
+    sources: &Sources<'_>,
+    draft: Draft,
+) -> Result<Plan, Memory>
     ensures steps { IfOk result (λ p. p.steps ≡ draft.steps) }
     ensures head { IfOk result (λ p. p.head.columns ≡ query.now.head.columns) }
     ensures domain { IfOk result (λ p. p.domain ≡ in_order
@@ -116,10 +128,15 @@ fn finish(alloc: Global, query: &Query, sources: &Sources<'_>, draft: Draft) -> 
     })
 }
 
-// What is read of the database and the query.
-fn gather<'a>(alloc: Global, query: &Query, database: &'a Database) -> Result<Sources<'a>, Memory>
+/// What is read of the database and the query.
+pub fn gather<'a>(
+    alloc: Global,
+    query: &Query,
+    database: &'a Database,
+) -> Result<Sources<'a>, Memory>
     ensures sources { IfOk result (λ made. AreSources
         (structure database.now (question_of query.now)) made) }
+    ensures database { IfOk result (λ made. made.database.now ≡ database.now) }
     ensures periods { IfOk result (λ _. AllByRecursion (λ k. 1 ≤ k)
         (database_periods database.now)) }
     ensures texts { IfOk result (λ made. database_texts made.database.now ++ made.texts.items
@@ -137,8 +154,8 @@ fn gather<'a>(alloc: Global, query: &Query, database: &'a Database) -> Result<So
     })
 }
 
-// The period of a core form, or `None` where it is above 2^62.
-fn whole_period(sources: &Sources<'_>, core: &Core<'_>) -> Option<Period>
+/// The period of a core form, or `None` where it is above 2^62.
+pub fn whole_period(sources: &Sources<'_>, core: &Core<'_>) -> Option<Period>
     ensures { (M : Structure) → AreSources M sources.now
         → IsPeriodOf (periods (core_of core.now) M.relations) (option_map (λ p. p.number) result) }
 {

@@ -7,7 +7,7 @@ use lrp_database::Database;
 use lrp_model::{Relation, Sort};
 
 /// Whether some column of the database has a named sort.
-pub(crate) fn has_named_sort(database: &Database) -> bool
+pub fn has_named_sort(database: &Database) -> bool
     ensures { result ≡ names_some_sort database.now }
 {
     for i in 0..database.relations() {

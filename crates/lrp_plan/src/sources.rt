@@ -14,12 +14,12 @@ use std::collections::HashMap;
 
 /// Where memory comes from, the database, facts of its relations by their names, the texts of the query, each with its sort,
 /// and the texts of both by their sorts.
-pub(crate) struct Sources<'a> {
-    pub(crate) alloc: Global,
-    pub(crate) database: &'a Database,
-    pub(crate) facts: HashMap<Name, Facts>,
-    pub(crate) texts: Vec<(Sort, DataText)>,
-    pub(crate) domains: Domains,
+pub struct Sources<'a> {
+    pub alloc: Global,
+    pub database: &'a Database,
+    pub facts: HashMap<Name, Facts>,
+    pub texts: Vec<(Sort, DataText)>,
+    pub domains: Domains,
 }
 
 // They are let go by one call, which is proved once.
@@ -37,7 +37,7 @@ impl<'a> Drop for Sources<'a> {
 
 impl Sources<'_> {
     /// The facts of the relation of a name; no rows where there is none.
-    pub(crate) fn facts(&self, name: &Name) -> Facts
+    pub fn facts(&self, name: &Name) -> Facts
         ensures { (M : Structure) → AreSources M self.now
             → AreFacts (rows_of M.relations name.now) result }
     {
@@ -48,7 +48,7 @@ impl Sources<'_> {
     }
 
     /// The texts of a sort, each once, in order of bytes.
-    pub(crate) fn texts(&self, sort: &Sort) -> Result<List<DataText>, Memory>
+    pub fn texts(&self, sort: &Sort) -> Result<List<DataText>, Memory>
         ensures { IfOk result (λ made. (M : Structure) → AreSources M self.now
             → made ≡ M.domain sort.now) }
     {
@@ -59,7 +59,7 @@ impl Sources<'_> {
     }
 
     /// How many texts a sort has.
-    pub(crate) fn count(&self, sort: &Sort) -> u64
+    pub fn count(&self, sort: &Sort) -> u64
         ensures { (M : Structure) → AreSources M self.now → result ≡ length (M.domain sort.now) }
     {
         match self.domains.of(sort) {

@@ -241,8 +241,8 @@ fn split_tests(
     split_covered(alloc, tests, variables)
 }
 
-// The tests whose variables are all among these, and the others, each in order.
-fn split_covered(
+/// The tests whose variables are all among these, and the others, each in order.
+pub fn split_covered(
     alloc: Global,
     tests: List<Test>,
     variables: &[Variable],

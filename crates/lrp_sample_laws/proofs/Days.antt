@@ -9,6 +9,7 @@ use Rattle.lrp_model.specs.declared.relations.Row.{Row}
 use Rattle.lrp_model.proofs.Logic.{all_append}
 use Rattle.lrp_sample.specs.Texts.{duration}
 use Rattle.lrp_sample.specs.Trees.{trip, sample_relations, sample_question}
+use Rattle.lrp_sample_laws.specs.Plans.{sample_steps}
 
 -- ---- numbers that are all 1440
 
@@ -84,7 +85,7 @@ reach_by_steps : (bound scan join minus : ℕ) → bound ≤ 59 → scan ≡ 144
     → 4 * (2 * (max (bound + 2 * 0 + scan) (2 * (2 * (max (bound + 2 * 0 + scan) (max 1 (max 16 0)) + join))) + 2 * minus)) ≤ 117088
 reach_by_steps bound scan join minus b s j m = omega arith
 
-pub reach_is_small : (seed size : ℕ) → 1 ≤ size → scaled_reach (sample_relations seed size) sample_question ≤ 117088
+pub reach_is_small : (seed size : ℕ) → 1 ≤ size → scaled_reach (sample_steps seed size) sample_question ≤ 117088
 reach_is_small seed zero h = absurd (omega arith)
 reach_is_small seed (suc n) h =
     reach_by_steps (greatest (magnitudes (map (trip seed) (range_with_len 0 (suc n))))) (scan_period seed n) (join_period seed n) (body_period seed n)
@@ -93,7 +94,7 @@ reach_is_small seed (suc n) h =
 within : (p r : ℕ) → p ≡ 1440 → r ≤ 117088 → (p ≤ 2 ^ 62) × (r ≤ 2 ^ 62)
 within p r e h = (omega arith, omega arith)
 
-pub is_in_range : (seed size : ℕ) → 1 ≤ size → IsWithinLimits (sample_relations seed size) sample_question
+pub is_in_range : (seed size : ℕ) → 1 ≤ size → IsWithinLimits (sample_steps seed size) (sample_relations seed size) sample_question
 is_in_range seed size h =
-    let both = within (period (sample_relations seed size) sample_question.body) (scaled_reach (sample_relations seed size) sample_question) (body_is_daily seed size h) (reach_is_small seed size h) in
+    let both = within (period (sample_relations seed size) sample_question.body) (scaled_reach (sample_steps seed size) sample_question) (body_is_daily seed size h) (reach_is_small seed size h) in
     record { period = both.0; reach = both.1 }

@@ -10,10 +10,10 @@ use Rattle.lrp_model.specs.Variables.{Variable, time_variable, data_variable, fr
 use Rattle.lrp_model.specs.Domains.{constants}
 use Rattle.lrp_model.specs.Cells.{FormCell, ManyCells}
 use Rattle.lrp_model.specs.Steps.{PlanStep, Steps, step_at}
-use Rattle.lrp_model.specs.Plans.{plan}
 use Rattle.lrp_model.specs.Caps.{step_variables, ManyAt}
 use Rattle.lrp_model.specs.declared.relations.Sort.TheVariants.{Time, Data}
 use Rattle.lrp_sample.specs.Trees.{sample_relations, sample_question, trip_atom, some_leaves}
+use Rattle.lrp_sample_laws.specs.Plans.{sample_steps}
 use Rattle.lrp_sample_laws.proofs.FormCells.{LieIn, few_cells, of_first, widened, dropped}
 use Rattle.lrp_sample_laws.proofs.Days.{scan_period, join_period, body_period, scan_is_daily, join_is_daily, minus_is_daily}
 use Rattle.lrp_sample_laws.proofs.TripCells.{world, LiesByTrip, numbered, own_cell, before_cell, trip_variables, own_trip, other_trip, not_after, leaves, leaves_variables, trip_leaves}
@@ -90,7 +90,7 @@ module _ (seed n cap : ℕ) (le : 16 * suc n ≤ cap) where
       few_cells (world seed (suc n)) K (16 * suc n) cap (numbered (cell seed)) texts vs f le
       (subst (λ k. LieIn (world seed (suc n)) k (16 * suc n) (numbered (cell seed)) vs f) (sym e) lie)
 
-  steps_have_few : AllByRecursion (λ step. HasMany seed (suc n) cap step → ⊥) (plan (sample_relations seed (suc n)) sample_question)
+  steps_have_few : AllByRecursion (λ step. HasMany seed (suc n) cap step → ⊥) (sample_steps seed (suc n))
   steps_have_few =
       let one : 1 ≤ cap = omega arith in
       let own : Form = trip_atom (codes "t") (codes "u") (codes "l") in
@@ -129,6 +129,6 @@ none_at many [] h (suc s) m = m
 none_at many (step ∷ steps) h (suc zero) m = h.0 m
 none_at many (step ∷ steps) h (suc (suc s)) m = none_at many steps h.1 (suc s) m
 
-pub few_at : (seed size : ℕ) → 1 ≤ size → (cap : ℕ) → 16 * size ≤ cap → (s : ℕ) → ManyAt (sample_relations seed size) sample_question cap s → ⊥
+pub few_at : (seed size : ℕ) → 1 ≤ size → (cap : ℕ) → 16 * size ≤ cap → (s : ℕ) → ManyAt (sample_steps seed size) (sample_relations seed size) sample_question cap s → ⊥
 few_at seed zero h cap le s m = absurd (omega arith)
-few_at seed (suc n) h cap le s m = none_at (HasMany seed (suc n) cap) (plan (sample_relations seed (suc n)) sample_question) (steps_have_few seed n cap le) s m
+few_at seed (suc n) h cap le s m = none_at (HasMany seed (suc n) cap) (sample_steps seed (suc n)) (steps_have_few seed n cap le) s m

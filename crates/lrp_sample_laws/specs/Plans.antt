@@ -2,6 +2,7 @@
 use Rattle.std.specs.Prelude.{ℕ, ◌≤◌, pos, List, [], ◌∷◌, map, codes}
 use Rattle.lrp_model.specs.Texts.{Identifier}
 use Rattle.lrp_model.specs.Periods.{period}
+use Rattle.lrp_model.specs.Steps.{Steps}
 use Rattle.lrp_model.specs.Plans.{plan, scaled_reach, IsWithinLimits}
 use Rattle.lrp_model.specs.Caps.{ManyAt}
 use Rattle.lrp_model.specs.Order.{InWindow}
@@ -20,9 +21,13 @@ pub record IsSampleSize (size : ℕ) : Type 0 where
   pub some : 1 ≤ size
   pub most : size ≤ 500
 
--- the kinds of the steps of its plan
+-- the steps of its plan
+abbrev pub sample_steps : ℕ → ℕ → Steps
+sample_steps seed size = plan (sample_relations seed size) sample_question
+
+-- and their kinds
 abbrev pub planned_kinds : ℕ → ℕ → List StepKind
-planned_kinds seed size = map (λ step. step.kind) (plan (sample_relations seed size) sample_question)
+planned_kinds seed size = map (λ step. step.kind) (sample_steps seed size)
 
 -- trip(D, A, L)
 abbrev scan : Identifier → Identifier → Identifier → StepKind
@@ -48,15 +53,15 @@ sample_period seed size = period (sample_relations seed size) sample_question.bo
 
 -- its reach, doubled once and once more for the one time column of the head
 abbrev pub sample_reach : ℕ → ℕ → ℕ
-sample_reach seed size = scaled_reach (sample_relations seed size) sample_question
+sample_reach seed size = scaled_reach (sample_steps seed size) sample_question
 
 -- neither is above the limit
 abbrev pub IsSampleWithinLimits : ℕ → ℕ → Type 0
-IsSampleWithinLimits seed size = IsWithinLimits (sample_relations seed size) sample_question
+IsSampleWithinLimits seed size = IsWithinLimits (sample_steps seed size) (sample_relations seed size) sample_question
 
 -- no step of the plan has more inhabited cells than the cap
 abbrev pub HasAtMostCells : ℕ → ℕ → ℕ → Type 0
-HasAtMostCells seed size cap = (s : ℕ) → ManyAt (sample_relations seed size) sample_question cap s → ⊥
+HasAtMostCells seed size cap = (s : ℕ) → ManyAt (sample_steps seed size) (sample_relations seed size) sample_question cap s → ⊥
 
 -- an answer of the sample within the minutes 0 to 1439
 pub record IsOfFirstDay (seed size : ℕ) (tuple : Tuple) : Type 0 where

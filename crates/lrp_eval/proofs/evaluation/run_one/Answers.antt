@@ -12,26 +12,27 @@ run_step-requires c =
     record {
       next = (
         c.requires.plan.0,
-        c.requires.plan.1.is.head,
-        next_run c.args.database.now c.requires.plan.0 c.args.setting.now.cap c.args.plan.now c.args.tables c.as_slice-2.result.now c.args.setting.now.domain.now c.len.result c.index-as_slice-len.result c.as_slice.result.now c.requires.domain c.as_slice-2.ensures c.as_slice.ensures c.len.ensures lt c.index-as_slice-len.is
-            c.requires.plan.1 c.requires.plan.2,
+        c.requires.plan.1,
+        c.requires.plan.2.is.head,
+        next_run c.requires.plan.0 c.args.database.now c.requires.plan.1 c.args.setting.now.cap c.args.plan.now c.args.tables c.as_slice-2.result.now c.args.setting.now.domain.now c.len.result c.index-as_slice-len.result c.as_slice.result.now c.requires.domain c.as_slice-2.ensures c.as_slice.ensures c.len.ensures lt c.index-as_slice-len.is
+            c.requires.plan.2 c.requires.plan.3,
       );
     }
 
 pub returns-in-Err-clause-fault : goal.returns-in-Err-clause-fault
-returns-in-Err-clause-fault c = λ step e q h run.
+returns-in-Err-clause-fault c = λ step e planned q h run.
     let lt : c.len.result < length c.as_slice.result.now = (let e = ap (λ l. length l) c.as_slice.ensures in omega (arith, e, c.len.ensures, c.requires.below)) in
-    let n = next_run c.args.database.now q c.args.setting.now.cap c.args.plan.now c.args.tables c.as_slice-2.result.now c.args.setting.now.domain.now c.len.result c.index-as_slice-len.result c.as_slice.result.now c.requires.domain c.as_slice-2.ensures c.as_slice.ensures c.len.ensures lt c.index-as_slice-len.is h run in
+    let n = next_run planned c.args.database.now q c.args.setting.now.cap c.args.plan.now c.args.tables c.as_slice-2.result.now c.args.setting.now.domain.now c.len.result c.index-as_slice-len.result c.as_slice.result.now c.requires.domain c.as_slice-2.ensures c.as_slice.ensures c.len.ensures lt c.index-as_slice-len.is h run in
     let x = c.fault_behind.ensures step e in
-    let m : ManyAt c.args.database.now q c.args.setting.now.cap (suc (length c.args.tables)) =
-    subst (λ (ts : List Table). ManyAt c.args.database.now q c.args.setting.now.cap (suc (length ts))) c.as_slice-2.ensures ((c.run_step.ensures q h.is.head n).many (c.in-Err.is ∙ ap Err x.0)) in
-    subst (λ k. IsFirstMany c.args.database.now q c.args.setting.now.cap k) (sym (x.1 ∙ ap suc c.len-in-Err.ensures)) (first_many c.args.database.now q c.args.setting.now.cap c.args.tables run m)
+    let m : ManyAt planned c.args.database.now q c.args.setting.now.cap (suc (length c.args.tables)) =
+    subst (λ (ts : List Table). ManyAt planned c.args.database.now q c.args.setting.now.cap (suc (length ts))) c.as_slice-2.ensures ((c.run_step.ensures planned q h.is.head n).many (c.in-Err.is ∙ ap Err x.0)) in
+    subst (λ k. IsFirstMany planned c.args.database.now q c.args.setting.now.cap k) (sym (x.1 ∙ ap suc c.len-in-Err.ensures)) (first_many planned c.args.database.now q c.args.setting.now.cap c.args.tables run m)
 
 pub returns-clause-run : goal.returns-clause-run
-returns-clause-run c = λ q h run.
+returns-clause-run c = λ planned q h run.
     let lt : c.len.result < length c.as_slice.result.now = (let e = ap (λ l. length l) c.as_slice.ensures in omega (arith, e, c.len.ensures, c.requires.below)) in
-    let n = next_run c.args.database.now q c.args.setting.now.cap c.args.plan.now c.args.tables c.as_slice-2.result.now c.args.setting.now.domain.now c.len.result c.index-as_slice-len.result c.as_slice.result.now c.requires.domain c.as_slice-2.ensures c.as_slice.ensures c.len.ensures lt c.index-as_slice-len.is h run in
-    left_run c.args.database.now q c.args.setting.now.cap c.args.plan.now c.args.readers.now c.push.new.self c.give_up.result h c.requires.readers
-    (more_run c.args.database.now q c.args.setting.now.cap c.args.tables c.push.new.self c.in-Ok.table c.in_ok-push-in-Ok.ensures.ok run
-    (subst (λ (ts : List Table). IsStepTable c.args.database.now q c.args.setting.now.cap (suc (length ts)) c.in-Ok.table) c.as_slice-2.ensures (c.in-Ok.ensures q h.is.head n).table))
+    let n = next_run planned c.args.database.now q c.args.setting.now.cap c.args.plan.now c.args.tables c.as_slice-2.result.now c.args.setting.now.domain.now c.len.result c.index-as_slice-len.result c.as_slice.result.now c.requires.domain c.as_slice-2.ensures c.as_slice.ensures c.len.ensures lt c.index-as_slice-len.is h run in
+    left_run planned c.args.database.now q c.args.setting.now.cap c.args.plan.now c.args.readers.now c.push.new.self c.give_up.result h c.requires.readers
+    (more_run planned c.args.database.now q c.args.setting.now.cap c.args.tables c.push.new.self c.in-Ok.table c.in_ok-push-in-Ok.ensures.ok run
+    (subst (λ (ts : List Table). IsStepTable planned c.args.database.now q c.args.setting.now.cap (suc (length ts)) c.in-Ok.table) c.as_slice-2.ensures (c.in-Ok.ensures planned q h.is.head n).table))
     c.give_up.ensures

@@ -12,19 +12,20 @@ narrowed-requires c =
     let is : IsNarrowing c.args.plan.now.steps c.args.readers.now (length c.args.tables.now) c.in-Some.narrowing = subst (λ (ss : List Step). IsNarrowing ss c.args.readers.now (length c.args.tables.now) c.in-Some.narrowing) c.as_slice.ensures c.in-Some.ensures in
     record {
       next = record {
+        planned = c.requires.plan.planned;
         database = c.requires.plan.database;
         query = c.requires.plan.query;
-        is = subst (λ d. IsNarrowingNext c.requires.plan.database c.requires.plan.query c.args.setting.now.cap d c.args.tables.now c.in-Some.narrowing) (sym c.requires.domain)
-            (narrowing_next c.requires.plan.database c.requires.plan.query c.args.setting.now.cap c.args.plan.now c.args.tables.now c.args.readers.now c.in-Some.narrowing c.requires.plan.planned c.requires.plan.run is);
+        is = subst (λ d. IsNarrowingNext c.requires.plan.planned c.requires.plan.database c.requires.plan.query c.args.setting.now.cap d c.args.tables.now c.in-Some.narrowing) (sym c.requires.domain)
+            (narrowing_next c.requires.plan.planned c.requires.plan.database c.requires.plan.query c.args.setting.now.cap c.args.plan.now c.args.tables.now c.args.readers.now c.in-Some.narrowing c.requires.plan.is c.requires.plan.run is);
       };
     }
 
 pub returns-in-Ok-Some-clause-table : goal.returns-in-Ok-Some-clause-table
-returns-in-Ok-Some-clause-table c = λ db q h run.
+returns-in-Ok-Some-clause-table c = λ planned db q h run.
     let is : IsNarrowing c.args.plan.now.steps c.args.readers.now (length c.args.tables.now) c.in-Some.narrowing = subst (λ (ss : List Step). IsNarrowing ss c.args.readers.now (length c.args.tables.now) c.in-Some.narrowing) c.as_slice.ensures c.in-Some.ensures in
-    narrowing_together db q c.args.setting.now.cap c.args.plan.now c.args.tables.now c.args.readers.now c.in-Some.narrowing h run is c.in-Ok-Some.table
-    (some_ok _ _ _ c.in-Ok-Some.field-0-is c.in-Ok-Some.ensures db q
-    (subst (λ d. IsNarrowingNext db q c.args.setting.now.cap d c.args.tables.now c.in-Some.narrowing) (sym c.requires.domain) (narrowing_next db q c.args.setting.now.cap c.args.plan.now c.args.tables.now c.args.readers.now c.in-Some.narrowing h run is)))
+    narrowing_together planned db q c.args.setting.now.cap c.args.plan.now c.args.tables.now c.args.readers.now c.in-Some.narrowing h run is c.in-Ok-Some.table
+    (some_ok _ _ _ c.in-Ok-Some.field-0-is c.in-Ok-Some.ensures planned db q
+    (subst (λ d. IsNarrowingNext planned db q c.args.setting.now.cap d c.args.tables.now c.in-Some.narrowing) (sym c.requires.domain) (narrowing_next planned db q c.args.setting.now.cap c.args.plan.now c.args.tables.now c.args.readers.now c.in-Some.narrowing h run is)))
 
 pub returns-in-Ok-Some-clause-inside : goal.returns-in-Ok-Some-clause-inside
 returns-in-Ok-Some-clause-inside c =

@@ -11,5 +11,5 @@ scan-requires c = subst (λ (ts : List Term). CanScan c.args.setting.now.domain.
     (can_scan_texts c.requires.is _ c.in_ok-relation.relation c.in_ok-relation.ensures.columns c.in_ok-relation.ensures.rows)
 
 pub returns : goal.returns
-returns c = λ db q tables sort period n. sort_ran n _ c.in_ok-relation.relation c.in_ok-relation.ensures.columns c.in_ok-relation.ensures.rows c.scan.result
+returns c = λ planned db q tables sort period n. sort_ran n _ c.in_ok-relation.relation c.in_ok-relation.ensures.columns c.in_ok-relation.ensures.rows c.scan.result
     (subst (λ (ts : List Term). IsScanResult c.args.setting.now.cap c.args.setting.now.domain.now (pos 1) c.in_ok-relation.relation ts c.scan.result) c.in_ok-terms.ensures c.scan.ensures)

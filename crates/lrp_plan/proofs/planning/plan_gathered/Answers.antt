@@ -1,11 +1,12 @@
 use Rattle.std.proofs.Common.{◌≤◌, ◌<◌, ◌^◌, arith}
 use Rattle.lrp_core.specs.Cores.{core_of}
 use Rattle.lrp_model.specs.Formulas.{question_of}
+use Rattle.lrp_model.specs.Plans.{plan}
 use Rattle.lrp_plan.proofs.Whole.{same_head, no_period, far_reach, near_reach}
 use Rattle.lrp_plan.proofs.planning.plan_gathered.Goals as goal
 
 pub returns-in-None : goal.returns-in-None
-returns-in-None c = λ db g. no_period db (question_of c.args.query.now) c.args.sources.now (core_of c.args.core.now) c.whole_period.result c.in-None.is c.whole_period.ensures g
+returns-in-None c = λ db g. no_period (plan db (question_of c.args.query.now)) db (question_of c.args.query.now) c.args.sources.now (core_of c.args.core.now) c.whole_period.result c.in-None.is c.whole_period.ensures g
 
 pub returns-then-scaled : goal.returns-then-scaled
 returns-then-scaled c = λ db g.

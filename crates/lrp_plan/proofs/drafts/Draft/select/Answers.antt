@@ -1,8 +1,5 @@
-use Rattle.std.proofs.Common.{◌≡◌, ◌+◌, max, arith}
-use Rattle.lrp_plan.proofs.Draws.{selects}
+use Rattle.lrp_plan.proofs.Draws.{selects_last}
 use Rattle.lrp_plan.proofs.drafts.Draft.select.Goals as goal
 
 pub returns : goal.returns
-returns c =
-    let e : c.with_period-reach.result ≡ max c.args.self.now.last.reach c.test_reach.result + c.args.self.now.last.period.number = omega arith in
-    selects c.add.result c.args.test c.test_reach.result c.with_period-reach.result c.args.self.now c.add.new.self c.test_reach.ensures e c.add.ensures
+returns c = selects_last c.select_from.result c.args.test c.args.self.now c.select_from.new.self c.select_from.ensures
