@@ -1,0 +1,39 @@
+use Rattle.lrp_plan_laws.specs.GuardedConjunctions.{an_atom, a_sort, a_part, a_test, a_negation, chosen}
+use Rattle.std.proofs.Common.{refl, sym, ap, ◌∙◌, length}
+use Rattle.lrp_guarded.proofs.Nears.{atoms_near, atoms_linked, sorts_near, parts_near, tests_near, negations_covered, first_untaken, none_taken, atoms_length, sorts_length, others_length, negations_length, first_place_of, place_first, else_some, else_next, chosen_some, chosen_none, sorts_wait, sorts_come}
+use Rattle.std.proofs.Common.{rules, ◌≡◌, ℕ, Bool, ◌||◌, ◌&&◌, not, true}
+use Rattle.std.proofs.Common.{List as ListOf}
+use Rattle.std.proofs.Common.{map, position, option_map, Some, None, ◌==◌, if◌then◌else◌, ◌+◌, ◌-◌, ◌*◌, ◌<◌, ◌≤◌, length, ◌/◌, ◌%◌, false, nat_eq, nat_lt, List, [], ◌∷◌, ◌++◌, slice_index_or, slice_set, bit_and, bit_or, Fits, w8, w32, w64, Bor, MutBor}
+use Rattle.std.specs.List.{list_any}
+use Rattle.lrp_core.specs.FreeVariables.{variable_of}
+use Rattle.lrp_core.specs.declared.core_forms.Core.{Core as CoreForm}
+use Rattle.lrp_model.specs.Variables.{is_among}
+use Rattle.lrp_model.specs.Variables.{are_among as are_members}
+use Rattle.lrp_model.specs.Variables.{meet as share}
+use Rattle.lrp_model.specs.Variables.{same_variable, time_variable, data_variable, variables_of_time, variables_of_data, variables_of_test}
+use Rattle.lrp_plan_laws.specs.Projections.{PlanGround as Ground}
+use Rattle.lrp_plan_laws.specs.GuardedConjunctions.{Standing as StandingOf}
+use Rattle.lrp_plan_laws.specs.GuardedConjunctions.{compares as compared}
+use Rattle.lrp_plan_laws.specs.GuardedConjunctions.{next_choice as chosen_next}
+use Rattle.lrp_plan_laws.specs.GuardedConjunctions.{near_atom as chosen_atom}
+use Rattle.lrp_plan_laws.specs.GuardedConjunctions.{near_sort as chosen_sort}
+use Rattle.lrp_plan_laws.specs.GuardedConjunctions.{near_part as chosen_part}
+use Rattle.lrp_plan_laws.specs.GuardedConjunctions.{near_test as chosen_test}
+use Rattle.lrp_plan_laws.specs.GuardedConjunctions.{any_positive as chosen_positive}
+use Rattle.lrp_plan_laws.specs.GuardedConjunctions.{next_denied as chosen_negation}
+use Rattle.lrp_guarded.specs.Choices.{choice_of, part_variables}
+use Rattle.lrp_guarded.specs.Standing.{IsStandingOf as IsStanding}
+use Rattle.lrp_guarded.proofs.choices.near_sort.Goals as goal
+
+-- src/choices.rt:81:9
+
+-- src/choices.rt:76:1
+pub returns-in-Some : goal.returns-in-Some
+returns-in-Some c = λ over K fs at is. sym (chosen_some a_sort c.near_sort_place.result _ c.in-Some.index (c.near_sort_place.ensures ∙ sorts_near over K fs c.args.standing.now at is c.as_slice-2.result.now c.as_slice-taken.result.now c.as_slice-2.ensures.value c.as_slice-taken.ensures) c.in-Some.is) ∙ sorts_come over K fs c.args.standing.now at is (length c.as_slice.result.now) (ap length c.as_slice.ensures.value) c.if-as_slice-gt0.false
+
+-- src/choices.rt:76:1
+pub returns-in-None : goal.returns-in-None
+returns-in-None c = λ over K fs at is. sym (chosen_none a_sort c.near_sort_place.result _ (c.near_sort_place.ensures ∙ sorts_near over K fs c.args.standing.now at is c.as_slice-2.result.now c.as_slice-taken.result.now c.as_slice-2.ensures.value c.as_slice-taken.ensures) c.in-None.is) ∙ sorts_come over K fs c.args.standing.now at is (length c.as_slice.result.now) (ap length c.as_slice.ensures.value) c.if-as_slice-gt0.false
+
+pub returns-then-as_slice-gt0 : goal.returns-then-as_slice-gt0
+returns-then-as_slice-gt0 c = λ over K fs at is. sorts_wait over K fs c.args.standing.now at is (length c.as_slice.result.now) (ap length c.as_slice.ensures.value) c.if-as_slice-gt0.true

@@ -1,0 +1,8 @@
+use Rattle.std.proofs.Common.{◌≡◌, not, filter, map, take}
+use Rattle.lrp_core.specs.FreeVariables.{variable_of}
+use Rattle.lrp_model.specs.Variables.{is_among}
+use Rattle.lrp_guarded.proofs.lists.shared.Given as goal
+
+-- those so far were looked at
+abbrev pub invariant-loop-variable : goal.invariant-loop-variable
+invariant-loop-variable l = map variable_of l.found ≡ filter (is_among (map variable_of l.others)) (map variable_of (take l.variable-index l.all))
