@@ -8,6 +8,7 @@ pub mod Filled
 pub mod Found
 pub mod Grouped
 pub mod Leaves
+pub mod Nearby
 pub mod NewZones
 pub mod NoColumns
 pub mod BothFound

@@ -12,3 +12,4 @@ pub mod Comparisons
 pub mod Fillings
 pub mod Indexes
 pub mod Tuples
+pub mod Near

@@ -14,6 +14,7 @@ mod index;
 mod joins;
 mod layout;
 mod meeting;
+mod near;
 mod pair;
 mod pattern;
 mod places;

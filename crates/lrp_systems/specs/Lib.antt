@@ -10,9 +10,9 @@ pub mod Fronts
 pub mod Wholes
 pub mod Choices
 pub mod Frames
+pub mod Joint
 -- What functions inside say to one another.
 pub mod FrontCodes
-pub mod Joint
 pub mod Pieces
 pub mod Placing
 pub mod Sole

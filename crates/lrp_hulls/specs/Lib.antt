@@ -1,0 +1,9 @@
+-- What hulls of zones have, what is asked of zones, and what a tree of hulls finds.
+
+-- What contracts of public calls say.
+pub mod Queries
+pub mod Ranges
+-- What functions inside say to one another.
+pub mod Spans
+pub mod Hulls
+pub mod Trees
