@@ -69,13 +69,13 @@ cut_apart z cutters h n old valid none low small = record {
 
 -- ---- a part that was cut along all pairs lies within a cutter or meets none
 -- a bound that is stored is listed
-listed_some : (e : Option ℤ) (a : ℤ) → e ≡ Some a → Contains (bound_list e) a
+pub listed_some : (e : Option ℤ) (a : ℤ) → e ≡ Some a → Contains (bound_list e) a
 listed_some e a q = rw q (one_in a)
 
-map_one : (k : ℕ) (e : Option ℤ) (a : ℤ) → e ≡ Some a → Contains (map (λ b. neg_ℤ b -ℤ pos k) (bound_list e)) (neg_ℤ a -ℤ pos k)
+pub map_one : (k : ℕ) (e : Option ℤ) (a : ℤ) → e ≡ Some a → Contains (map (λ b. neg_ℤ b -ℤ pos k) (bound_list e)) (neg_ℤ a -ℤ pos k)
 map_one k e a q = rw q (one_in (neg_ℤ a -ℤ pos k))
 
-in_all : (k : ℕ) (p : NodePair) (cutters : List ZoneView) (c : ZoneView) (t : ℤ) → Contains cutters c → Contains (thresholds_of k p c) t → Contains (all_thresholds k p cutters) t
+pub in_all : (k : ℕ) (p : NodePair) (cutters : List ZoneView) (c : ZoneView) (t : ℤ) → Contains cutters c → Contains (thresholds_of k p c) t → Contains (all_thresholds k p cutters) t
 in_all k p cutters c t l h = in_flat (thresholds_of k p) cutters c t l h
 
 pub own_threshold : (k : ℕ) (p : NodePair) (cutters : List ZoneView) (c : ZoneView) (a : ℤ) → Contains cutters c → entry c.bounds p.left p.right ≡ Some a → Contains (all_thresholds k p cutters) a

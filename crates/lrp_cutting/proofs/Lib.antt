@@ -2,6 +2,7 @@
 pub mod AddingLaws
 pub mod Alike
 pub mod BoundedLaws
+pub mod CountLaws
 pub mod CutLaws
 pub mod Examples
 pub mod GapLaws
@@ -13,6 +14,7 @@ pub mod LineLaws
 pub mod Lists
 pub mod Membership
 pub mod MergeLaws
+pub mod NearLaws
 pub mod PairLists
 pub mod SettledLaws
 pub mod SettlingLaws
@@ -22,3 +24,4 @@ pub mod SweepLaws
 pub mod ThresholdLaws
 pub mod TurnLaws
 pub mod WidestLaws
+pub mod WindowLaws

@@ -50,7 +50,7 @@ any_or false = inr refl
 exact : (x y : ℤ) → int_eq x y ≡ true → x ≡ y
 exact x y h = (Decides-int_eq x y).0 h
 
-in_distinct : (zs : List ℤ) (q : ℤ) → Contains zs q → Contains (distinct zs) q
+pub in_distinct : (zs : List ℤ) (q : ℤ) → Contains zs q → Contains (distinct zs) q
 in_distinct [] q h = h
 in_distinct (z ∷ zs) q h = elim (any_or (list_any (int_eq z) zs)) [
   | inl e ↦ rw e (elim (in_cons z zs q h) [
@@ -129,7 +129,7 @@ pub pair_of : (z c : ZoneView) (p : NodePair) → IsOfCell z c → IsPairOf z p 
 pair_of z c p cell is = record { rising = is.rising; high = rw cell.residues is.high }
 
 -- a threshold that a cutter gives is one of the listed bounds of the cutters
-counted : (z : ZoneView) (p : NodePair) (cutters : List ZoneView) → AreOfCell z cutters → IsPairOf z p → (t : ℤ) → Contains (all_thresholds z.period p cutters) t
+pub counted : (z : ZoneView) (p : NodePair) (cutters : List ZoneView) → AreOfCell z cutters → IsPairOf z p → (t : ℤ) → Contains (all_thresholds z.period p cutters) t
     → Contains (flat_map (λ bounds. flat_map (threshold (pos z.period) p.left p.right) bounds) (map stored_bounds cutters)) t
 counted z p cutters cells is t h =
     let r : (c : ZoneView) × Contains cutters c × Contains (thresholds_of z.period p c) t = some_cutter z.period p cutters t h in

@@ -1,10 +1,14 @@
 -- What of zones is left where cutters are taken away one after another.
-use Rattle.std.specs.Prelude.{◌≡◌, ℕ, ℤ, ◌+◌, ◌<◌, ◌≤◌, ◌⊎◌, ◌++◌, List, [], ◌∷◌, Contains, Some, length, max}
+use Rattle.std.specs.Prelude.{◌≡◌, ℕ, ℤ, ◌+◌, ◌<◌, ◌≤◌, ◌⊎◌, ◌++◌, ◌↔◌, List, [], ◌∷◌, Contains, Some, length, max}
 use Rattle.lrp_theory.specs.Entries.{entry}
 use Rattle.lrp_model.specs.declared.relations.Bound.{Bound}
 use Rattle.lrp_zone.specs.Zones.{ZoneView, IsZone, IsMember, columns_of, reach_of}
 use Rattle.lrp_zone.specs.Pairs.{IsOfCell, HaveNoCommon}
 use Rattle.lrp_store.specs.Settled.{InSome}
+use Rattle.lrp_cutting.specs.declared.pairs.NodePair.{NodePair}
+use Rattle.lrp_cutting.specs.Cutting.{IsPairOf, lower_side}
+use Rattle.lrp_cutting.specs.Halves.{IsWithinBound}
+use Rattle.lrp_cutting.specs.Thresholds.{all_thresholds}
 
 -- the bound stands in the zone
 pub record IsStoredBound (z : ZoneView) (b : Bound) : Type 0 where
@@ -22,6 +26,14 @@ pub record AreFromRow (z : ZoneView) (i n : ℕ) (old new : List Bound) : Type 0
   pub each : (b : Bound) → Contains new b → Contains old b ⊎ IsStoredBound z b
   pub kept : (b : Bound) → Contains old b → Contains new b
   pub row : (b : Bound) → IsStoredBound z b → b.left ≡ i → b.right < n → Contains new b
+
+-- the tuples are on the same side of each threshold of the cutters along each pair of columns of z
+pub record LieAlike (z : ZoneView) (cutters : List ZoneView) (xs ys : List ℤ) : Type 0 where
+  pub each : (p : NodePair) → IsPairOf z p → (t : ℤ) → Contains (all_thresholds z.period p cutters) t → IsWithinBound (lower_side p t) xs ↔ IsWithinBound (lower_side p t) ys
+
+-- no threshold divides w: it holds, with each of its tuples, those of z that lie alike
+pub record IsUndivided (z : ZoneView) (cutters : List ZoneView) (w : ZoneView) : Type 0 where
+  pub each : (xs ys : List ℤ) → IsMember w xs → IsMember z ys → LieAlike z cutters xs ys → IsMember w ys
 
 -- some tuple of the zone is in no cutter
 pub record HasGap (z : ZoneView) (cutters : List ZoneView) : Type 0 where

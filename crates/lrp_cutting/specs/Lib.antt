@@ -13,3 +13,4 @@ pub mod Gaps
 pub mod Halves
 pub mod Hulls
 pub mod Lines
+pub mod Windows

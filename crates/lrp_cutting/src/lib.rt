@@ -2,6 +2,7 @@
 #![tactic(auto)]
 
 mod bounded;
+mod cutters;
 mod cutting;
 mod gaps;
 mod half;
@@ -16,7 +17,9 @@ mod split;
 mod standing;
 mod stored;
 mod thresholds;
+mod windows;
 
+pub use cutters::Cutters;
 pub use cutting::pieces;
 pub use leaving::left_over;
 pub use line::settle_line;

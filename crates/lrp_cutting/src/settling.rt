@@ -1,5 +1,6 @@
 // The zones of one cell, settled: the same set in other zones, in one way where it can be.
 ghost use Rattle.std.specs.Prelude.{◌≡◌, ◌+◌, ◌*◌, ◌<◌, ◌≤◌, ◌^◌, ◌↔◌, ◌∷◌, [], ℤ, Contains, IfOk, IsTrue, List as ListOf, length};
+ghost use Rattle.lrp_zone.specs.Pairs.{IsOfCell, IsWithin};
 ghost use Rattle.lrp_zone.specs.Zones.{ZoneView, IsZone, columns_of, reach_of};
 ghost use Rattle.lrp_store.specs.Settled.{InSome};
 ghost use Rattle.lrp_cutting.specs.Cutting.{IsWithinOne};
@@ -9,6 +10,7 @@ ghost use Rattle.lrp_cutting.specs.Settling.{IsSettlement, IsThinned};
 use crate::hull::hull;
 use crate::intervals::maximal;
 use crate::leaving::has_gap;
+use crate::windows::are_beside;
 use lrp_model::{List, Memory};
 use lrp_zone::Zone;
 use std::alloc::Global;
@@ -105,9 +107,21 @@ fn is_covered(zone: &Zone, others: &[Zone]) -> bool
     ensures { IsTrue result ↔ IsWithinOne zone.now others.now }
 {
     for other in others {
-        if zone.within(other) {
+        if lies_within(zone, other) {
             return true;
         }
     }
     false
+}
+
+// Whether a zone lies within another one of its cell. Most that don't lie beside it.
+fn lies_within(zone: &Zone, other: &Zone) -> bool
+    requires { IsOfCell zone.now other.now }
+    ensures { IsTrue result ↔ IsWithin zone.now other.now }
+{
+    if are_beside(zone, other) {
+        prove!(zone.columns() <= 8);
+        return false;
+    }
+    zone.within(other)
 }

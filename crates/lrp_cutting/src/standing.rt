@@ -4,6 +4,7 @@ ghost use Rattle.lrp_zone.specs.Pairs.{HaveNoCommon, IsOfCell};
 ghost use Rattle.lrp_cutting.specs.Cutting.{HaveCommon, IsCommonZone, IsWithinOne, MeetsNone, MeetsOne};
 ghost use Rattle.lrp_cutting.specs.Differences.{AreOfCell};
 
+use crate::windows::are_beside;
 use lrp_zone::Zone;
 
 /// Where the tuples of a zone lie.
@@ -42,6 +43,9 @@ pub(crate) fn have_common(zone: &Zone, other: &Zone) -> bool
     requires { IsOfCell zone.now other.now }
     ensures { IsTrue result ↔ HaveCommon zone.now other.now }
 {
+    if are_beside(zone, other) {
+        return false;
+    }
     common(zone, other).is_some()
 }
 

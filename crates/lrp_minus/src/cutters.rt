@@ -9,31 +9,35 @@ ghost use Rattle.lrp_minus.specs.Beneath.{AgreesAt};
 ghost use Rattle.lrp_minus.specs.Cutters.{AreCutOf, AreCutters, CanCut, HasNoCutter, IsCutter};
 
 use crate::beneath::{cell_beneath, residues_at};
+use lrp_cutting::Cutters;
 use lrp_model::{Cell, List, Memory};
 use lrp_store::Store;
 use lrp_tables::Places;
 use lrp_zone::Zone;
 
-/// Zones that hold the tuples of a cell of the left store's shape and period that have one of the right store at the places.
+/// Zones that hold the tuples of a cell of the left store's shape and period that have one of the right store at the places,
+/// to be taken away from so many zones.
 pub(crate) fn cutters_of(
     left: &Store,
     cell: &Cell,
     right: &Store,
     places: &Places,
-) -> Result<List<Zone>, Memory>
+    turns: usize,
+) -> Result<Cutters, Memory>
     requires cell { IsCellOf left.now.shape left.now.period cell.now }
     requires cut { CanCut places.now left.now right.now }
     ensures { IfOk result (AreCutters places.now left.now cell.now right.now) }
 {
     let times = usize::from(left.shape().times);
     let beneath = cell_beneath(cell, places, right);
-    cut_all(
+    let zones = cut_all(
         right,
         &beneath,
         left.period(),
         places.times.as_slice(),
         &cell.residues[..times],
-    )
+    )?;
+    Cutters::of(left.alloc(), zones, turns)
 }
 
 // The zones of a cell, each as the tuples with these residues that have one of its own at the places.
@@ -59,10 +63,7 @@ fn cut_all(
         (nat_abs period) residues.now) }
 {
     let mut cutters = List::new(store.alloc());
-    for i in 0..store.count(cell) {
-        let Some(zone) = store.zone(cell, i) else {
-            unreachable!()
-        };
+    for zone in store.zones_of(cell) {
         if let Some(cutter) = cutter_of(&zone, period, places, residues) {
             cutters.push(cutter)?;
         }

@@ -107,7 +107,8 @@ fn add_same_cell(
         (IsInDifferenceAt difference.now cell.now) out.old out.new }
 {
     let left = difference.left;
-    let cutters = cutters_of(left, cell, difference.right, difference.places)?;
+    let (right, places) = (difference.right, difference.places);
+    let cutters = cutters_of(left, cell, right, places, left.count(cell))?;
     for zone in left.zones_of(cell) {
         match add_left(&zone, &cutters, cell, difference.cap, out) {
             Ok(()) => {}

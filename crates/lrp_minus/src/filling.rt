@@ -6,8 +6,8 @@ ghost use Rattle.lrp_cutting.specs.Differences.{AreOfCell, greatest_reach};
 ghost use Rattle.lrp_cutting.specs.Settling.{IsPlaceOf};
 ghost use Rattle.lrp_minus.specs.Filling.{IsUncut};
 
-use lrp_cutting::left_over;
-use lrp_model::{Cell, List};
+use lrp_cutting::Cutters;
+use lrp_model::Cell;
 use lrp_store::{Store, StoreFault};
 use lrp_zone::Zone;
 
@@ -16,7 +16,7 @@ use lrp_zone::Zone;
 /// Without cutters the zone is added as it is. Where the cell is one too many, nothing was added to it.
 pub(crate) fn add_left(
     zone: &Zone,
-    cutters: &List<Zone>,
+    cutters: &Cutters,
     cell: &Cell,
     cap: u32,
     store: &mut Store,
@@ -35,7 +35,7 @@ pub(crate) fn add_left(
     if cutters.len() == 0 {
         return store.add_new(cell, zone, cap);
     }
-    let left = left_over(store.alloc(), zone, cutters)?;
+    let left = cutters.left_over(store.alloc(), zone)?;
     for piece in left.as_slice() {
         store.add_new(cell, piece, cap)?;
     }

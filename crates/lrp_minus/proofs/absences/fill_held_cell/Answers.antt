@@ -5,6 +5,7 @@ use Rattle.std.proofs.lemmas.Int.{ints}
 use Rattle.lrp_cutting.specs.Differences.{AreOfCell, greatest_reach}
 use Rattle.std.specs.Prelude.{◌∷◌, ◌+◌}
 use Rattle.lrp_minus.proofs.AbsenceLaws.{word_is, cell_residues, cell_some, free_cutters, free_place, free_small, cell_added, cell_refused}
+use Rattle.lrp_cutting.proofs.Alike.{alike_cells}
 use Rattle.lrp_cutting.proofs.Lists.{on_ok}
 use Rattle.lrp_minus.proofs.absences.fill_held_cell.Goals as goal
 
@@ -22,6 +23,13 @@ unreachable-requires c =
     let k = word_is c.period.result (let e = c.period.ensures in omega (arith, ints)) (let e = c.period.ensures in omega (arith, ints)) in
     cell_some c.args.absences.now.store.now c.requires.fill.store c.args.cell.now c.requires.chosen c.from-times.result (c.from-times.ensures ∙ ap (λ s. s.times) c.shape.ensures.value) _ (k ∙ c.period.ensures) c.in_default.ensures.none
 
+pub of-requires-2 : goal.of-requires-2
+of-requires-2 c = λ z l.
+    let low : 0 < c.args.absences.now.store.now.period = c.requires.fill.store.period_low in
+    let high : c.args.absences.now.store.now.period ≤ 2 ^ 62 = c.requires.fill.store.period_high in
+    let k = word_is c.period.result (let e = c.period.ensures in omega (arith, ints)) (let e = c.period.ensures in omega (arith, ints)) in
+    alike_cells c.in-Some.zone c.in_ok-zones.zones (subst (AreOfCell c.in-Some.zone) (sym c.in_ok-zones.ensures) (free_cutters c.args.absences.now.store.now c.requires.fill.store c.args.cell.now c.requires.chosen c.from-times.result (c.from-times.ensures ∙ ap (λ s. s.times) c.shape.ensures.value) _ (k ∙ c.period.ensures) c.in-Some.zone c.in-Some.ensures.some)) z l
+
 pub add_left-requires-clause-place : goal.add_left-requires-clause-place
 add_left-requires-clause-place c =
     let low : 0 < c.args.absences.now.store.now.period = c.requires.fill.store.period_low in
@@ -34,14 +42,14 @@ add_left-requires-clause-cutters c =
     let low : 0 < c.args.absences.now.store.now.period = c.requires.fill.store.period_low in
     let high : c.args.absences.now.store.now.period ≤ 2 ^ 62 = c.requires.fill.store.period_high in
     let k = word_is c.period.result (let e = c.period.ensures in omega (arith, ints)) (let e = c.period.ensures in omega (arith, ints)) in
-    subst (AreOfCell c.in-Some.zone) (sym c.in_ok-cutters.ensures) (free_cutters c.args.absences.now.store.now c.requires.fill.store c.args.cell.now c.requires.chosen c.from-times.result (c.from-times.ensures ∙ ap (λ s. s.times) c.shape.ensures.value) _ (k ∙ c.period.ensures) c.in-Some.zone c.in-Some.ensures.some)
+    subst (AreOfCell c.in-Some.zone) (sym (c.in_ok-cutters.ensures ∙ c.in_ok-zones.ensures)) (free_cutters c.args.absences.now.store.now c.requires.fill.store c.args.cell.now c.requires.chosen c.from-times.result (c.from-times.ensures ∙ ap (λ s. s.times) c.shape.ensures.value) _ (k ∙ c.period.ensures) c.in-Some.zone c.in-Some.ensures.some)
 
 pub add_left-requires-clause-reach : goal.add_left-requires-clause-reach
 add_left-requires-clause-reach c =
     let low : 0 < c.args.absences.now.store.now.period = c.requires.fill.store.period_low in
     let high : c.args.absences.now.store.now.period ≤ 2 ^ 62 = c.requires.fill.store.period_high in
     let k = word_is c.period.result (let e = c.period.ensures in omega (arith, ints)) (let e = c.period.ensures in omega (arith, ints)) in
-    subst (λ ws. greatest_reach (c.in-Some.zone ∷ ws) + c.in-Some.zone.period ≤ 2 ^ 62) (sym c.in_ok-cutters.ensures) (free_small c.args.absences.now.store.now c.requires.fill.store c.args.cell.now c.requires.chosen c.from-times.result (c.from-times.ensures ∙ ap (λ s. s.times) c.shape.ensures.value) _ (k ∙ c.period.ensures) c.in-Some.zone c.in-Some.ensures.some c.requires.fill.turned)
+    subst (λ ws. greatest_reach (c.in-Some.zone ∷ ws) + c.in-Some.zone.period ≤ 2 ^ 62) (sym (c.in_ok-cutters.ensures ∙ c.in_ok-zones.ensures)) (free_small c.args.absences.now.store.now c.requires.fill.store c.args.cell.now c.requires.chosen c.from-times.result (c.from-times.ensures ∙ ap (λ s. s.times) c.shape.ensures.value) _ (k ∙ c.period.ensures) c.in-Some.zone c.in-Some.ensures.some c.requires.fill.turned)
 
 pub returns-clause-ok : goal.returns-clause-ok
 returns-clause-ok c =
@@ -49,7 +57,7 @@ returns-clause-ok c =
     let high : c.args.absences.now.store.now.period ≤ 2 ^ 62 = c.requires.fill.store.period_high in
     let k = word_is c.period.result (let e = c.period.ensures in omega (arith, ints)) (let e = c.period.ensures in omega (arith, ints)) in
     on_ok _ _ c.add_left.result (λ a h r. cell_added c.args.absences.now.store.now c.requires.fill.store c.args.cell.now c.requires.chosen c.from-times.result (c.from-times.ensures ∙ ap (λ s. s.times) c.shape.ensures.value) _ (k ∙ c.period.ensures) c.in-Some.zone c.in-Some.ensures.some
-    c.args.absences.now.cap c.in_ok-cutters.cutters c.in_ok-cutters.ensures c.args.out.now c.add_left.new.store c.requires.fill.valid c.requires.fill.like.shape h r a) c.add_left.ensures.ok
+    c.args.absences.now.cap c.in_ok-cutters.cutters (c.in_ok-cutters.ensures ∙ c.in_ok-zones.ensures) c.args.out.now c.add_left.new.store c.requires.fill.valid c.requires.fill.like.shape h r a) c.add_left.ensures.ok
 
 pub returns-clause-refused : goal.returns-clause-refused
 returns-clause-refused c = λ e h r.
@@ -57,4 +65,4 @@ returns-clause-refused c = λ e h r.
     let high : c.args.absences.now.store.now.period ≤ 2 ^ 62 = c.requires.fill.store.period_high in
     let k = word_is c.period.result (let e = c.period.ensures in omega (arith, ints)) (let e = c.period.ensures in omega (arith, ints)) in
     cell_refused c.args.absences.now.store.now c.requires.fill.store c.args.cell.now c.requires.chosen c.from-times.result (c.from-times.ensures ∙ ap (λ s. s.times) c.shape.ensures.value) _ (k ∙ c.period.ensures) c.in-Some.zone c.in-Some.ensures.some
-    c.args.absences.now.cap c.in_ok-cutters.cutters c.in_ok-cutters.ensures c.args.out.now c.add_left.new.store c.requires.fill.valid c.requires.fill.like.shape h r (c.add_left.ensures.refused e)
+    c.args.absences.now.cap c.in_ok-cutters.cutters (c.in_ok-cutters.ensures ∙ c.in_ok-zones.ensures) c.args.out.now c.add_left.new.store c.requires.fill.valid c.requires.fill.like.shape h r (c.add_left.ensures.refused e)

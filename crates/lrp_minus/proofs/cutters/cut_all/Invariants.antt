@@ -2,8 +2,9 @@
 use Rattle.std.proofs.Common.{take}
 use Rattle.std.specs.Prelude.{nat_abs}
 use Rattle.lrp_store.specs.Stores.{zones_at}
+use Rattle.lrp_cutting.proofs.Lists.{IsReadTo}
 use Rattle.lrp_minus.specs.Cutters.{AreCutOf}
 use Rattle.lrp_minus.proofs.cutters.cut_all.Given as goal
 
-abbrev pub invariant-loop-i : goal.invariant-loop-i
-invariant-loop-i l = AreCutOf (take l.i (zones_at l.store l.cell)) l.places (nat_abs l.period) l.residues l.cutters
+abbrev pub invariant-loop-zone : goal.invariant-loop-zone
+invariant-loop-zone l = IsReadTo (λ i. AreCutOf (take i (zones_at l.store l.cell)) l.places (nat_abs l.period) l.residues l.cutters) (zones_at l.store l.cell) l.zone-iterator
