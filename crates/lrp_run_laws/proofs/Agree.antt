@@ -6,7 +6,7 @@ use Rattle.lrp_model.specs.DatabaseReading.{IsDatabase, IsDatabaseFault}
 use Rattle.lrp_model.specs.Formulas.{Question}
 use Rattle.lrp_model.specs.Rows.{Tuple}
 use Rattle.lrp_model.specs.Periods.{period}
-use Rattle.lrp_model.specs.Plans.{IsStep, plan, scaled_reach, IsWithinLimits}
+use Rattle.lrp_model.specs.Plans.{IsStep, scaled_reach, IsWithinLimits}
 use Rattle.lrp_model.specs.Sorts.{time_count}
 use Rattle.lrp_model.specs.PrintedPlans.{plan_bytes, step_line, step_lines}
 use Rattle.lrp_model.specs.Steps.{PlanStep}
@@ -15,6 +15,8 @@ use Rattle.lrp_model.specs.Tuples.{in_head_order}
 use Rattle.lrp_model.specs.declared.faults.DbFault.{DbFault}
 use Rattle.lrp_model.specs.declared.faults.QueryFault.{QueryFault}
 use Rattle.lrp_model.specs.declared.plans.Plan.{Plan}
+use Rattle.lrp_model.specs.declared.plans.Planning.{Planning}
+use Rattle.lrp_plan_laws.specs.GuardedPlans.{plan_by}
 use Rattle.lrp_model.specs.declared.plans.Step.{Step}
 use Rattle.lrp_model.specs.declared.relations.Column.{Column}
 use Rattle.lrp_model.specs.declared.relations.Relation.{Relation}
@@ -197,67 +199,67 @@ same_lines n (s ∷ ss) [] (x ∷ xs) i j = absurd j
 same_lines n (s ∷ ss) (t ∷ ts) [] i j = absurd i
 same_lines n (s ∷ ss) (t ∷ ts) (x ∷ xs) i j = ap₂ (λ a b. a ++ b) (same_line n s t x i.0 j.0) (same_lines (n + 1) ss ts xs i.1 j.1)
 
-data PlanRefused (db : List Relation) (q : Question) : Refusal → Type 0 where
-  period_above : 2 ^ 62 < period db q.body → PlanRefused db q PeriodLimit
-  reach_above : period db q.body ≤ 2 ^ 62 → 2 ^ 62 < scaled_reach db q → PlanRefused db q BoundLimit
+data PlanRefused (way : Planning) (db : List Relation) (q : Question) : Refusal → Type 0 where
+  period_above : 2 ^ 62 < period db q.body → PlanRefused way db q PeriodLimit
+  reach_above : period db q.body ≤ 2 ^ 62 → 2 ^ 62 < scaled_reach (plan_by way db q) q → PlanRefused way db q BoundLimit
 
-plan_refused : (db : List Relation) (q : Question) (e : Refusal) → IsPlanned db q (Err e) → Lasts e → PlanRefused db q e
-plan_refused db q PeriodLimit is l = period_above is
-plan_refused db q BoundLimit is l = reach_above is.0 is.1
-plan_refused db q Memory is l = absurd l
-plan_refused db q _ is l = absurd is
+plan_refused : (way : Planning) (db : List Relation) (q : Question) (e : Refusal) → IsPlanned way db q (Err e) → Lasts e → PlanRefused way db q e
+plan_refused way db q PeriodLimit is l = period_above is
+plan_refused way db q BoundLimit is l = reach_above is.0 is.1
+plan_refused way db q Memory is l = absurd l
+plan_refused way db q _ is l = absurd is
 
 not_both : (n : ℕ) → n ≤ 2 ^ 62 → 2 ^ 62 < n → ⊥
 not_both n low high = omega arith
 
-plan_stands : (db : List Relation) (q : Question) → IsWithinLimits db q → (e : Refusal) → PlanRefused db q e → ⊥
-plan_stands db q limits _ (period_above above) = not_both (period db q.body) limits.period above
-plan_stands db q limits _ (reach_above low above) = not_both (scaled_reach db q) limits.reach above
+plan_stands : (way : Planning) (db : List Relation) (q : Question) → IsWithinLimits (plan_by way db q) db q → (e : Refusal) → PlanRefused way db q e → ⊥
+plan_stands way db q limits _ (period_above above) = not_both (period db q.body) limits.period above
+plan_stands way db q limits _ (reach_above low above) = not_both (scaled_reach (plan_by way db q) q) limits.reach above
 
-plan_refused_alike : (db : List Relation) (q : Question) (e f : Refusal) → PlanRefused db q e → PlanRefused db q f → e ≡ f
-plan_refused_alike db q _ _ (period_above a) (period_above b) = refl
-plan_refused_alike db q _ _ (period_above a) (reach_above low b) = absurd (not_both (period db q.body) low a)
-plan_refused_alike db q _ _ (reach_above low a) (period_above b) = absurd (not_both (period db q.body) low b)
-plan_refused_alike db q _ _ (reach_above low a) (reach_above more b) = refl
+plan_refused_alike : (way : Planning) (db : List Relation) (q : Question) (e f : Refusal) → PlanRefused way db q e → PlanRefused way db q f → e ≡ f
+plan_refused_alike way db q _ _ (period_above a) (period_above b) = refl
+plan_refused_alike way db q _ _ (period_above a) (reach_above low b) = absurd (not_both (period db q.body) low a)
+plan_refused_alike way db q _ _ (reach_above low a) (period_above b) = absurd (not_both (period db q.body) low b)
+plan_refused_alike way db q _ _ (reach_above low a) (reach_above more b) = refl
 
-plan_agree : (db : List Relation) (q : Question) (r s : Result Plan Refusal) → IsPlanned db q r → IsPlanned db q s → Lasting r → Lasting s → Agree SameText r s
-plan_agree db q = by_parts (IsPlanned db q) (IsPlanned db q) SameText
-    (λ p r i j. same_lines 1 p.steps r.steps (plan db q) i.0.steps j.0.steps)
-    (λ p f i j l. plan_stands db q i.1 f (plan_refused db q f j l))
-    (λ e p i j l. plan_stands db q j.1 e (plan_refused db q e i l))
-    (λ e f i j l m. plan_refused_alike db q e f (plan_refused db q e i l) (plan_refused db q f j m))
+plan_agree : (way : Planning) (db : List Relation) (q : Question) (r s : Result Plan Refusal) → IsPlanned way db q r → IsPlanned way db q s → Lasting r → Lasting s → Agree SameText r s
+plan_agree way db q = by_parts (IsPlanned way db q) (IsPlanned way db q) SameText
+    (λ p r i j. same_lines 1 p.steps r.steps (plan_by way db q) i.0.steps j.0.steps)
+    (λ p f i j l. plan_stands way db q i.1 f (plan_refused way db q f j l))
+    (λ e p i j l. plan_stands way db q j.1 e (plan_refused way db q e i l))
+    (λ e f i j l m. plan_refused_alike way db q e f (plan_refused way db q e i l) (plan_refused way db q f j m))
 
 -- ---- the cells
 
-data CellsRefused (db : List Relation) (q : Question) (cap : ℕ) : Refusal → Type 0 where
-  many : (step : ℕ) → IsFirstMany db q cap step → CellsRefused db q cap (Cells cap step)
+data CellsRefused (way : Planning) (db : List Relation) (q : Question) (cap : ℕ) : Refusal → Type 0 where
+  many : (step : ℕ) → IsFirstMany (plan_by way db q) db q cap step → CellsRefused way db q cap (Cells cap step)
 
-cells_refused : (db : List Relation) (q : Question) (cap : ℕ) (e : Refusal) → IsCounted db q cap (Err e) → Lasts e → CellsRefused db q cap e
-cells_refused db q cap (Cells most step) is l = subst (λ c. CellsRefused db q cap (Cells c step)) (sym is.0) (many step is.1)
-cells_refused db q cap Memory is l = absurd l
-cells_refused db q cap _ is l = absurd is
+cells_refused : (way : Planning) (db : List Relation) (q : Question) (cap : ℕ) (e : Refusal) → IsCounted way db q cap (Err e) → Lasts e → CellsRefused way db q cap e
+cells_refused way db q cap (Cells most step) is l = subst (λ c. CellsRefused way db q cap (Cells c step)) (sym is.0) (many step is.1)
+cells_refused way db q cap Memory is l = absurd l
+cells_refused way db q cap _ is l = absurd is
 
-cells_stand : (db : List Relation) (q : Question) (cap : ℕ) → ((s : ℕ) → ManyAt db q cap s → ⊥) → (e : Refusal) → CellsRefused db q cap e → ⊥
-cells_stand db q cap few _ (many step first) = few step first.is
+cells_stand : (way : Planning) (db : List Relation) (q : Question) (cap : ℕ) → ((s : ℕ) → ManyAt (plan_by way db q) db q cap s → ⊥) → (e : Refusal) → CellsRefused way db q cap e → ⊥
+cells_stand way db q cap few _ (many step first) = few step first.is
 
-one_first : (db : List Relation) (q : Question) (cap s t : ℕ) → IsFirstMany db q cap s → IsFirstMany db q cap t → s ≡ t
-one_first db q cap s t i j =
+one_first : (way : Planning) (db : List Relation) (q : Question) (cap s t : ℕ) → IsFirstMany (plan_by way db q) db q cap s → IsFirstMany (plan_by way db q) db q cap t → s ≡ t
+one_first way db q cap s t i j =
     let not_below : s < t → ⊥ = λ h. j.first s h i.is in
     let not_above : t < s → ⊥ = λ h. i.first t h j.is in
     omega arith
 
-cells_refused_alike : (db : List Relation) (q : Question) (cap : ℕ) (e f : Refusal) → CellsRefused db q cap e → CellsRefused db q cap f → e ≡ f
-cells_refused_alike db q cap _ _ (many s i) (many t j) = ap (Cells cap) (one_first db q cap s t i j)
+cells_refused_alike : (way : Planning) (db : List Relation) (q : Question) (cap : ℕ) (e f : Refusal) → CellsRefused way db q cap e → CellsRefused way db q cap f → e ≡ f
+cells_refused_alike way db q cap _ _ (many s i) (many t j) = ap (Cells cap) (one_first way db q cap s t i j)
 
 abbrev pub Counted : Unit {0} → Unit {0} → Type 0
 Counted a b = Unit {0}
 
-pub cells_agree : (db : List Relation) (q : Question) (cap : ℕ) (r s : Result (Unit {0}) Refusal) → IsCounted db q cap r → IsCounted db q cap s → Lasting r → Lasting s → Agree Counted r s
-cells_agree db q cap = by_parts (IsCounted db q cap) (IsCounted db q cap) Counted
+pub cells_agree : (way : Planning) (db : List Relation) (q : Question) (cap : ℕ) (r s : Result (Unit {0}) Refusal) → IsCounted way db q cap r → IsCounted way db q cap s → Lasting r → Lasting s → Agree Counted r s
+cells_agree way db q cap = by_parts (IsCounted way db q cap) (IsCounted way db q cap) Counted
     (λ a b i j. tt)
-    (λ a f i j l. cells_stand db q cap i f (cells_refused db q cap f j l))
-    (λ e a i j l. cells_stand db q cap j e (cells_refused db q cap e i l))
-    (λ e f i j l m. cells_refused_alike db q cap e f (cells_refused db q cap e i l) (cells_refused db q cap f j m))
+    (λ a f i j l. cells_stand way db q cap i f (cells_refused way db q cap f j l))
+    (λ e a i j l. cells_stand way db q cap j e (cells_refused way db q cap e i l))
+    (λ e f i j l m. cells_refused_alike way db q cap e f (cells_refused way db q cap e i l) (cells_refused way db q cap f j m))
 
 -- ---- the head, and the rows of a canonical answer
 
@@ -284,8 +286,8 @@ fit_agree true q r s i j l m =
     (λ e f i j l m. head_refused_alike q e f (head_refused q e i) (head_refused q f j)) r s i j l m
 
 -- the plan stands behind the head
-pub planned_agree : (canon : Bool) (db : List Relation) (q : Question) (r s : Result Plan Refusal) → IsPlannedAs canon db q r → IsPlannedAs canon db q s → Lasting r → Lasting s → Agree SameText r s
-planned_agree canon db q = then_agree (IsHeadFit canon q) (IsHeadFit canon q) (λ fit. IsPlanned db q) (λ fit. IsPlanned db q) Counted SameText (fit_agree canon q) (λ a b i j done. plan_agree db q)
+pub planned_agree : (way : Planning) (canon : Bool) (db : List Relation) (q : Question) (r s : Result Plan Refusal) → IsPlannedAs way canon db q r → IsPlannedAs way canon db q s → Lasting r → Lasting s → Agree SameText r s
+planned_agree way canon db q = then_agree (IsHeadFit canon q) (IsHeadFit canon q) (λ fit. IsPlanned way db q) (λ fit. IsPlanned way db q) Counted SameText (fit_agree canon q) (λ a b i j done. plan_agree way db q)
 
 data RowsRefused (db : List Relation) (q : Question) (cap : ℕ) : Refusal → Type 0 where
   many_rows : (n : ℕ) → HasCanonicalRows db q n → cap < n → RowsRefused db q cap (CanonRows cap)

@@ -15,6 +15,7 @@ use Rattle.lrp_model.specs.Plans.{plan}
 use Rattle.lrp_model.specs.PrintedPages.{plain_line}
 use Rattle.lrp_model.specs.Rows.{Datum, times_of, texts_of, Tuple}
 use Rattle.lrp_model.specs.Satisfaction.{HasShape, structure, IsAnswer}
+use Rattle.lrp_model.specs.Steps.{Steps}
 use Rattle.lrp_model.specs.Texts.{Text, text_cmp}
 use Rattle.lrp_model.specs.Tuples.{in_head_order}
 use Rattle.lrp_model.specs.declared.relations.Column.{Column}
@@ -93,7 +94,7 @@ one_listing one db q from to after limit civil json digest bytes other a b =
 -- ---- the sample is one
 
 abbrev pub OneCells : Type 0
-OneCells = (db : List Relation) (q : Question) (s count other : ℕ) → HasCells db q s count → HasCells db q s other → count ≡ other
+OneCells = (steps : Steps) (db : List Relation) (q : Question) (s count other : ℕ) → HasCells steps db q s count → HasCells steps db q s other → count ≡ other
 
 abbrev pub OneCount : Type 0
 OneCount = (db : List Relation) (q : Question) (from to : ℤ) (count other : ℕ) → HasAnswerCount db q from to count → HasAnswerCount db q from to other → count ≡ other
@@ -102,7 +103,7 @@ module _ (texts : DatabaseTexts) (queries : QueryTexts false) (one_rank : OneRan
   -- what the sample tells of these relations and this query
   record TellsOf (bytes : List ℕ) (db : List Relation) (q : Question) : Type 0 where
     cells : ℕ
-    counted : HasCells db q (length (plan db q)) cells
+    counted : HasCells (plan db q) db q (length (plan db q)) cells
     first : Option Tuple
     least : IsFirst db q first
     window : ℕ
@@ -111,7 +112,7 @@ module _ (texts : DatabaseTexts) (queries : QueryTexts false) (one_rank : OneRan
 
   one_told : (db : List Relation) (q : Question) (bytes other : List ℕ) → TellsOf bytes db q → TellsOf other db q → bytes ≡ other
   one_told db q bytes other a b =
-      let cells : a.cells ≡ b.cells = one_cells db q (length (plan db q)) a.cells b.cells a.counted b.counted in
+      let cells : a.cells ≡ b.cells = one_cells (plan db q) db q (length (plan db q)) a.cells b.cells a.counted b.counted in
       let first : a.first ≡ b.first = one_start one_rank whole db q a.first b.first a.least b.least in
       let window : a.window ≡ b.window = one_count db q (pos 0) (pos 1439) a.window b.window a.answers b.answers in
       a.spelled ∙ ap₂ (λ c f. sample_lines size c f a.window) cells first ∙ ap (sample_lines size b.cells b.first) window ∙ sym b.spelled

@@ -14,6 +14,8 @@ use Rattle.lrp_model.specs.Texts.{Identifier, Text}
 use Rattle.lrp_model.specs.declared.faults.DbFault.{DbFault}
 use Rattle.lrp_model.specs.declared.faults.QueryFault.{QueryFault}
 use Rattle.lrp_model.specs.declared.plans.Plan.{Plan}
+use Rattle.lrp_model.specs.declared.plans.Planning.{Planning}
+use Rattle.lrp_plan_laws.specs.GuardedPlans.{plan_by}
 use Rattle.lrp_model.specs.declared.relations.Relation.{Relation}
 use Rattle.lrp_token.specs.Reading.{IsNoToken, HasOtherCounts}
 use Rattle.lrp_top.specs.Due.{IsDatabaseReadOf, IsQueryRead, IsQueryReadOf, IsHeadFit, IsPlanned, IsPlannedAs, IsCounted, AreRowsCounted, IsOutput, IsExplained, IsAnswered, IsDecided, IsListed, IsPlannedFor}
@@ -30,8 +32,9 @@ use Rattle.lrp_top.specs.Written.{IsFaultyAs, plain_if}
 use Rattle.lrp_outputs.specs.declared.refusal.Refusal.{Refusal}
 use Rattle.lrp_outputs.specs.declared.refusal.Refusal.TheVariants.{ReadDatabase, LongDatabase, Database, ReadQuery, LongQuery, Query, PeriodLimit, BoundLimit, TokenForm, TokenShape, TokenStale, Cells, CanonHead, CanonRows, Memory}
 
--- what a task asks of two files: whether for a canonical answer, how they are written and their names, the token of a page and the cap, where it has them
+-- what a task asks of two files: how the query is planned, whether for a canonical answer, how they are written and their names, the token of a page and the cap, where it has them
 pub record Asked : Type 0 where
+  pub way : Planning
   pub canon : Bool
   pub tense : Bool
   pub civil : Bool
@@ -40,10 +43,10 @@ pub record Asked : Type 0 where
   pub after : Option Text
   pub cap : Option ℕ
 
--- no step has more cells than the cap, where there is one
-abbrev pub IsFew : Option ℕ → List Relation → Question → Type 0
-IsFew None db q = Unit {0}
-IsFew (Some cap) db q = HasFewCells cap db q
+-- no step of the plan by this way has more cells than the cap, where there is one
+abbrev pub IsFew : Planning → Option ℕ → List Relation → Question → Type 0
+IsFew way None db q = Unit {0}
+IsFew way (Some cap) db q = HasFewCells way cap db q
 
 -- what is told of a query: by the files' digest, its plan and the tuple of the token
 abbrev pub Telling : Type 1
@@ -52,11 +55,11 @@ Telling = List ℕ → Plan → Option Tuple → List Relation → Question → 
 -- ---- behind the plan
 
 pub data Onward (digest : List ℕ) (a : Asked) (db : List Relation) (q : Question) (Tells : Option Tuple → List ℕ → Type 0) : Outcome → Type 0 where
-  output : (tuple : Option Tuple) → IsResumed digest q.head a.after (Ok tuple) → IsFew a.cap db q → (bytes : List ℕ) → Tells tuple bytes → Onward digest a db q Tells (Ok bytes)
+  output : (tuple : Option Tuple) → IsResumed digest q.head a.after (Ok tuple) → IsFew a.way a.cap db q → (bytes : List ℕ) → Tells tuple bytes → Onward digest a db q Tells (Ok bytes)
   form : (text : Text) → a.after ≡ Some text → IsNoToken text → Onward digest a db q Tells (Err TokenForm)
   other : (text : Text) → a.after ≡ Some text → HasOtherCounts text (shape_of q.head) → Onward digest a db q Tells (Err TokenShape)
   stale : (text : Text) → a.after ≡ Some text → IsStale digest q.head text → Onward digest a db q Tells (Err TokenStale)
-  many : (cap step : ℕ) → a.cap ≡ Some cap → (tuple : Option Tuple) → IsResumed digest q.head a.after (Ok tuple) → IsFirstMany db q cap step → Onward digest a db q Tells (Err (Cells cap step))
+  many : (cap step : ℕ) → a.cap ≡ Some cap → (tuple : Option Tuple) → IsResumed digest q.head a.after (Ok tuple) → IsFirstMany (plan_by a.way db q) db q cap step → Onward digest a db q Tells (Err (Cells cap step))
   rows : (cap n : ℕ) → a.canon ≡ true → a.cap ≡ Some cap → HasCanonicalRows db q n → cap < n → Onward digest a db q Tells (Err (CanonRows cap))
   want : Onward digest a db q Tells (Err Memory)
 
@@ -71,8 +74,8 @@ pub data Case (seen : ShelfSeen) (a : Asked) (files : Contents) (Tells : Telling
   no_query : (db : List Relation) → SaysRelations a.civil files db → (fault : QueryFault) → length files.query ≤ 16777216 → IsFaultyAs a.tense db files.query fault → Case seen a files Tells (Err (Query fault))
   no_head : (db : List Relation) → SaysRelations a.civil files db → (q : Question) → SaysQuestion a.tense files db q → a.canon ≡ true → time_count q.head ≢ 1 → Case seen a files Tells (Err CanonHead)
   above_period : (db : List Relation) → SaysRelations a.civil files db → (q : Question) → SaysQuestion a.tense files db q → 2 ^ 62 < period db q.body → Case seen a files Tells (Err PeriodLimit)
-  above_bound : (db : List Relation) → SaysRelations a.civil files db → (q : Question) → SaysQuestion a.tense files db q → period db q.body ≤ 2 ^ 62 → 2 ^ 62 < scaled_reach db q → Case seen a files Tells (Err BoundLimit)
-  planned : (db : List Relation) → SaysRelations a.civil files db → (q : Question) → SaysQuestion a.tense files db q → IsWithinLimits db q → (p : Plan) → IsPlan p db q → (outcome : Outcome) → Onward (digest_of files) a db q (λ tuple. Tells (digest_of files) p tuple db q) outcome → Case seen a files Tells outcome
+  above_bound : (db : List Relation) → SaysRelations a.civil files db → (q : Question) → SaysQuestion a.tense files db q → period db q.body ≤ 2 ^ 62 → 2 ^ 62 < scaled_reach (plan_by a.way db q) q → Case seen a files Tells (Err BoundLimit)
+  planned : (db : List Relation) → SaysRelations a.civil files db → (q : Question) → SaysQuestion a.tense files db q → IsWithinLimits (plan_by a.way db q) db q → (p : Plan) → IsPlan p (plan_by a.way db q) db q → (outcome : Outcome) → Onward (digest_of files) a db q (λ tuple. Tells (digest_of files) p tuple db q) outcome → Case seen a files Tells outcome
   wanted : Case seen a files Tells (Err Memory)
 
 -- ---- the bytes of files
@@ -91,15 +94,15 @@ some_bytes (Some files) name = (content_of files name, λ held e. ap (λ h. cont
 -- ---- each step
 
 -- the output is written, or memory is wanted
-written_as : (digest : List ℕ) (a : Asked) (db : List Relation) (q : Question) (Tells : Option Tuple → List ℕ → Type 0) (tuple : Option Tuple) → IsResumed digest q.head a.after (Ok tuple) → IsFew a.cap db q → (outcome : Outcome) → IsOutput (Tells tuple) outcome → Onward digest a db q Tells outcome
+written_as : (digest : List ℕ) (a : Asked) (db : List Relation) (q : Question) (Tells : Option Tuple → List ℕ → Type 0) (tuple : Option Tuple) → IsResumed digest q.head a.after (Ok tuple) → IsFew a.way a.cap db q → (outcome : Outcome) → IsOutput (Tells tuple) outcome → Onward digest a db q Tells outcome
 written_as digest a db q Tells tuple resumed few (Ok bytes) told = output tuple resumed few bytes told
 written_as digest a db q Tells tuple resumed few (Err Memory) told = want
 written_as digest a db q Tells tuple resumed few (Err _) told = absurd told
 
 -- the cells are counted before
 counted_as : (digest : List ℕ) (a : Asked) (db : List Relation) (q : Question) (Tells : Option Tuple → List ℕ → Type 0) (tuple : Option Tuple) (cap : ℕ) → a.cap ≡ Some cap → IsResumed digest q.head a.after (Ok tuple)
-    → (outcome : Outcome) (counted : Result (Unit {0}) Refusal) → IsCounted db q cap counted → Behind counted (λ done. IsOutput (Tells tuple)) outcome → Onward digest a db q Tells outcome
-counted_as digest a db q Tells tuple cap e resumed outcome (Ok done) few next = written_as digest a db q Tells tuple resumed (subst (λ c. IsFew c db q) (sym e) few) outcome next
+    → (outcome : Outcome) (counted : Result (Unit {0}) Refusal) → IsCounted a.way db q cap counted → Behind counted (λ done. IsOutput (Tells tuple)) outcome → Onward digest a db q Tells outcome
+counted_as digest a db q Tells tuple cap e resumed outcome (Ok done) few next = written_as digest a db q Tells tuple resumed (subst (λ c. IsFew a.way c db q) (sym e) few) outcome next
 counted_as digest a db q Tells tuple cap e resumed outcome (Err (Cells most step)) told next =
     subst (Onward digest a db q Tells) (sym (next)) (subst (λ c. Onward digest a db q Tells (Err (Cells c step))) (sym told.0) (many cap step e tuple resumed told.1))
 counted_as digest a db q Tells tuple cap e resumed outcome (Err Memory) told next = subst (Onward digest a db q Tells) (sym next) want
@@ -107,7 +110,7 @@ counted_as digest a db q Tells tuple cap e resumed outcome (Err _) told next = a
 
 -- the page begins before that
 resumed_as : (digest : List ℕ) (a : Asked) (db : List Relation) (q : Question) (Tells : Option Tuple → List ℕ → Type 0) (cap : ℕ) → a.cap ≡ Some cap
-    → (outcome : Outcome) (after : Option Text) → a.after ≡ after → (resumed : Result (Option Tuple) Refusal) → IsResumed digest q.head after resumed → Behind resumed (λ tuple. Then (IsCounted db q cap) (λ done. IsOutput (Tells tuple))) outcome → Onward digest a db q Tells outcome
+    → (outcome : Outcome) (after : Option Text) → a.after ≡ after → (resumed : Result (Option Tuple) Refusal) → IsResumed digest q.head after resumed → Behind resumed (λ tuple. Then (IsCounted a.way db q cap) (λ done. IsOutput (Tells tuple))) outcome → Onward digest a db q Tells outcome
 resumed_as digest a db q Tells cap e outcome after is (Ok tuple) told next = counted_as digest a db q Tells tuple cap e (subst (λ t. IsResumed digest q.head t (Ok tuple)) (sym is) told) outcome next.first next.is next.next
 resumed_as digest a db q Tells cap e outcome None is (Err r) told next = absurd (err_ok r told)
   where
@@ -139,7 +142,7 @@ pub record Reached (seen : ShelfSeen) (a : Asked) (Tells : Telling) (outcome : O
 module _ (seen : ShelfSeen) (a : Asked) (Tells : Telling) (Due : Next) (goes_on : GoesOn a Tells Due) where
   -- the query is planned
   planned_as : (files : Contents) (db : List Relation) → SaysRelations a.civil files db → (q : Question) → SaysQuestion a.tense files db q
-      → (outcome : Outcome) (plan : Result Plan Refusal) → IsPlanned db q plan → Behind plan (Due (record { bytes = files.database; says = db }) (record { bytes = files.query; says = q })) outcome → Case seen a files Tells outcome
+      → (outcome : Outcome) (plan : Result Plan Refusal) → IsPlanned a.way db q plan → Behind plan (Due (record { bytes = files.database; says = db }) (record { bytes = files.query; says = q })) outcome → Case seen a files Tells outcome
   planned_as files db d q s outcome (Ok p) is next = planned db d q s is.1 p is.0 outcome (goes_on files db q p outcome next)
   planned_as files db d q s outcome (Err PeriodLimit) is next = subst (Case seen a files Tells) (sym next) (above_period db d q s is)
   planned_as files db d q s outcome (Err BoundLimit) is next = subst (Case seen a files Tells) (sym next) (above_bound db d q s is.0 is.1)
@@ -151,7 +154,7 @@ module _ (seen : ShelfSeen) (a : Asked) (Tells : Telling) (Due : Next) (goes_on 
   AfterHead files db q = Due (record { bytes = files.database; says = db }) (record { bytes = files.query; says = q })
 
   -- a plan stands behind the head; where the head is refused, so is the plan
-  behind_head : (db : List Relation) (q : Question) (plan : Result Plan Refusal) (fit : Result (Unit {0}) Refusal) → IsHeadFit a.canon q fit → Behind fit (λ fit. IsPlanned db q) plan → IsPlanned db q plan ⊎ ((a.canon ≡ true) × (time_count q.head ≢ 1) × (plan ≡ Err CanonHead))
+  behind_head : (db : List Relation) (q : Question) (plan : Result Plan Refusal) (fit : Result (Unit {0}) Refusal) → IsHeadFit a.canon q fit → Behind fit (λ fit. IsPlanned a.way db q) plan → IsPlanned a.way db q plan ⊎ ((a.canon ≡ true) × (time_count q.head ≢ 1) × (plan ≡ Err CanonHead))
   behind_head db q plan (Ok fit) is next = inl next
   behind_head db q plan (Err refusal) is next = inr (refused_head a.canon refusal refl is next)
     where
@@ -161,7 +164,7 @@ module _ (seen : ShelfSeen) (a : Asked) (Tells : Telling) (Due : Next) (goes_on 
       refused_head true _ e is next = absurd is
 
   fitted_as : (files : Contents) (db : List Relation) → SaysRelations a.civil files db → (q : Question) → SaysQuestion a.tense files db q
-      → (outcome : Outcome) (plan : Result Plan Refusal) → IsPlannedAs a.canon db q plan → Behind plan (AfterHead files db q) outcome → Case seen a files Tells outcome
+      → (outcome : Outcome) (plan : Result Plan Refusal) → IsPlannedAs a.way a.canon db q plan → Behind plan (AfterHead files db q) outcome → Case seen a files Tells outcome
   fitted_as files db d q s outcome plan is next =
       elim (behind_head db q plan is.first is.is is.next) [
         | inl fit ↦ planned_as files db d q s outcome plan fit next
@@ -170,7 +173,7 @@ module _ (seen : ShelfSeen) (a : Asked) (Tells : Telling) (Due : Next) (goes_on 
 
   -- what is due behind the query
   abbrev AfterQuery : Source (List Relation) → Source Question → Outcome → Type 0
-  AfterQuery d q = Then (IsPlannedAs a.canon d.says q.says) (Due d q)
+  AfterQuery d q = Then (IsPlannedAs a.way a.canon d.says q.says) (Due d q)
 
   -- the query is read
   queried_as : (files : Contents) (db : List Relation) → SaysRelations a.civil files db
@@ -221,17 +224,17 @@ module _ (seen : ShelfSeen) (a : Asked) (Tells : Telling) (Due : Next) (goes_on 
   read_as outcome bytes told (Err _) is next = absurd is
 
   -- what is due for a task that asks a query comes so
-  pub reached : (outcome : Outcome) → IsPlannedFor a.canon a.tense a.civil seen a.database a.query Due outcome → Reached seen a Tells outcome
+  pub reached : (outcome : Outcome) → IsPlannedFor a.way a.canon a.tense a.civil seen a.database a.query Due outcome → Reached seen a Tells outcome
   reached outcome due = read_as outcome due.is.bytes due.is.told due.first due.is.is due.next
 
 -- ---- the commands
 
-pub answer_goes_on : (a : Asked) (cap : ℕ) → a.cap ≡ Some cap → a.after ≡ None → GoesOn a (λ digest p tuple. IsAnswerText) (IsAnswered false cap)
+pub answer_goes_on : (a : Asked) (cap : ℕ) → a.cap ≡ Some cap → a.after ≡ None → GoesOn a (λ digest p tuple. IsAnswerText) (IsAnswered a.way false cap)
 answer_goes_on a cap e n files db q p outcome due =
     counted_as (digest_of files) a db q (λ tuple. IsAnswerText db q) None cap e (subst (λ t. IsResumed (digest_of files) q.head t (Ok None)) (sym n) refl) outcome due.first due.is due.next
 
 -- the rows of the canonical answer are counted, and then it is told
-rows_as : (digest : List ℕ) (a : Asked) (db : List Relation) (q : Question) (Tells : Option Tuple → List ℕ → Type 0) (tuple : Option Tuple) (cap : ℕ) → a.canon ≡ true → a.cap ≡ Some cap → IsResumed digest q.head a.after (Ok tuple) → IsFew a.cap db q
+rows_as : (digest : List ℕ) (a : Asked) (db : List Relation) (q : Question) (Tells : Option Tuple → List ℕ → Type 0) (tuple : Option Tuple) (cap : ℕ) → a.canon ≡ true → a.cap ≡ Some cap → IsResumed digest q.head a.after (Ok tuple) → IsFew a.way a.cap db q
     → (outcome : Outcome) (counted : Result (Unit {0}) Refusal) → AreRowsCounted db q cap counted → Behind counted (λ done. IsOutput (Tells tuple)) outcome → Onward digest a db q Tells outcome
 rows_as digest a db q Tells tuple cap c e resumed few outcome (Ok done) told next = written_as digest a db q Tells tuple resumed few outcome next
 rows_as digest a db q Tells tuple cap c e resumed few outcome (Err (CanonRows most)) told next =
@@ -240,25 +243,25 @@ rows_as digest a db q Tells tuple cap c e resumed few outcome (Err Memory) told 
 rows_as digest a db q Tells tuple cap c e resumed few outcome (Err _) told next = absurd told
 
 cells_as : (digest : List ℕ) (a : Asked) (db : List Relation) (q : Question) (Tells : Option Tuple → List ℕ → Type 0) (tuple : Option Tuple) (cap : ℕ) → a.canon ≡ true → a.cap ≡ Some cap → IsResumed digest q.head a.after (Ok tuple)
-    → (outcome : Outcome) (counted : Result (Unit {0}) Refusal) → IsCounted db q cap counted → Behind counted (λ done. Then (AreRowsCounted db q cap) (λ rows. IsOutput (Tells tuple))) outcome → Onward digest a db q Tells outcome
-cells_as digest a db q Tells tuple cap c e resumed outcome (Ok done) few next = rows_as digest a db q Tells tuple cap c e resumed (subst (λ m. IsFew m db q) (sym e) few) outcome next.first next.is next.next
+    → (outcome : Outcome) (counted : Result (Unit {0}) Refusal) → IsCounted a.way db q cap counted → Behind counted (λ done. Then (AreRowsCounted db q cap) (λ rows. IsOutput (Tells tuple))) outcome → Onward digest a db q Tells outcome
+cells_as digest a db q Tells tuple cap c e resumed outcome (Ok done) few next = rows_as digest a db q Tells tuple cap c e resumed (subst (λ m. IsFew a.way m db q) (sym e) few) outcome next.first next.is next.next
 cells_as digest a db q Tells tuple cap c e resumed outcome (Err (Cells most step)) told next =
     subst (Onward digest a db q Tells) (sym (next)) (subst (λ m. Onward digest a db q Tells (Err (Cells m step))) (sym told.0) (many cap step e tuple resumed told.1))
 cells_as digest a db q Tells tuple cap c e resumed outcome (Err Memory) told next = subst (Onward digest a db q Tells) (sym next) want
 cells_as digest a db q Tells tuple cap c e resumed outcome (Err _) told next = absurd told
 
-pub canonical_goes_on : (a : Asked) (cap : ℕ) → a.canon ≡ true → a.cap ≡ Some cap → a.after ≡ None → GoesOn a (λ digest p tuple. IsCanonicalText) (IsAnswered true cap)
+pub canonical_goes_on : (a : Asked) (cap : ℕ) → a.canon ≡ true → a.cap ≡ Some cap → a.after ≡ None → GoesOn a (λ digest p tuple. IsCanonicalText) (IsAnswered a.way true cap)
 canonical_goes_on a cap c e n files db q p outcome due =
     cells_as (digest_of files) a db q (λ tuple. IsCanonicalText db q) None cap c e (subst (λ t. IsResumed (digest_of files) q.head t (Ok None)) (sym n) refl) outcome due.first due.is due.next
 
-pub decide_goes_on : (a : Asked) (cap : ℕ) → a.cap ≡ Some cap → a.after ≡ None → GoesOn a (λ digest p tuple. TellsWitness) (IsDecided cap)
+pub decide_goes_on : (a : Asked) (cap : ℕ) → a.cap ≡ Some cap → a.after ≡ None → GoesOn a (λ digest p tuple. TellsWitness) (IsDecided a.way cap)
 decide_goes_on a cap e n files db q p outcome due =
     counted_as (digest_of files) a db q (λ tuple. TellsWitness db q) None cap e (subst (λ t. IsResumed (digest_of files) q.head t (Ok None)) (sym n) refl) outcome due.first due.is due.next
 
 pub explain_goes_on : (a : Asked) → a.cap ≡ None → a.after ≡ None → GoesOn a (λ digest p tuple db q. TellsPlan p) IsExplained
 explain_goes_on a e n files db q p outcome due =
-    written_as (digest_of files) a db q (λ tuple. TellsPlan p) None (subst (λ t. IsResumed (digest_of files) q.head t (Ok None)) (sym n) refl) (subst (λ c. IsFew c db q) (sym e) tt) outcome due
+    written_as (digest_of files) a db q (λ tuple. TellsPlan p) None (subst (λ t. IsResumed (digest_of files) q.head t (Ok None)) (sym n) refl) (subst (λ c. IsFew a.way c db q) (sym e) tt) outcome due
 
-pub list_goes_on : (a : Asked) (cap : ℕ) (from to : ℤ) (limit : ℕ) (civil json : Bool) → a.cap ≡ Some cap → GoesOn a (λ digest p tuple db q. TellsPage db q from to tuple limit civil json digest) (IsListed civil from to limit a.after json cap)
+pub list_goes_on : (a : Asked) (cap : ℕ) (from to : ℤ) (limit : ℕ) (civil json : Bool) → a.cap ≡ Some cap → GoesOn a (λ digest p tuple db q. TellsPage db q from to tuple limit civil json digest) (IsListed a.way civil from to limit a.after json cap)
 list_goes_on a cap from to limit civil json e files db q p outcome due =
     resumed_as (digest_of files) a db q (λ tuple. TellsPage db q from to tuple limit civil json (digest_of files)) cap e outcome a.after refl due.first due.is due.next

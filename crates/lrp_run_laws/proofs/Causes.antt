@@ -10,6 +10,7 @@ use Rattle.lrp_model.specs.Rows.{Tuple}
 use Rattle.lrp_model.specs.Plans.{IsPlan}
 use Rattle.lrp_model.specs.Texts.{Identifier}
 use Rattle.lrp_model.specs.declared.plans.Plan.{Plan}
+use Rattle.lrp_plan_laws.specs.GuardedPlans.{plan_by}
 use Rattle.lrp_model.specs.declared.relations.Relation.{Relation}
 use Rattle.lrp_top.specs.Due.{IsDueOf, IsDueFor, IsDatabaseReadOf, IsOutput, IsAnswered, IsDecided, IsExplained, IsListed}
 use Rattle.lrp_run_laws.specs.Contents.{Contents, contents_at, digest_of, OverDatabase, OverQuery, Asking, SaysRelations, two_files}
@@ -40,7 +41,7 @@ abbrev RefusedFor : Asked → Contents → Type 0
 RefusedFor a files = OverDatabase a.civil files (λ db. IsNoQuery files a.tense db ⊎ OverQuery a.tense files (IsRefusedBehind a.canon (digest_of files) a.after) db)
 
 abbrev AboveFor : Asked → Contents → Type 0
-AboveFor a files = OverDatabase a.civil files (OverQuery a.tense files (IsAboveLimits a.canon a.cap))
+AboveFor a files = OverDatabase a.civil files (OverQuery a.tense files (IsAboveLimits a.way a.canon a.cap))
 
 -- why the task is refused with a status
 abbrev RefusalFor : Asked → Contents → ShelfSeen → Status → Type 0
@@ -57,12 +58,12 @@ Shown = List ℕ → List ℕ → List Relation → Question → Type 0
 
 -- what holds of an outcome: an output is told, or there is a cause
 abbrev CauseFor : Asked → Contents → ShelfSeen → Shown → Outcome → Type 0
-CauseFor a files seen Shows (Ok bytes) = Asking a.tense a.civil files (Shows (digest_of files) bytes)
+CauseFor a files seen Shows (Ok bytes) = Asking a.way a.tense a.civil files (Shows (digest_of files) bytes)
 CauseFor a files seen Shows (Err refusal) = RefusalFor a files seen (refused_with refusal)
 
 -- what is told of the query is what is shown
 abbrev Show : Asked → Telling → Shown → Type 0
-Show a Tells Shows = (digest : List ℕ) (p : Plan) (tuple : Option Tuple) (db : List Relation) (q : Question) (bytes : List ℕ) → IsPlan p db q → IsResumed digest q.head a.after (Ok tuple) → Tells digest p tuple db q bytes → Shows digest bytes db q
+Show a Tells Shows = (digest : List ℕ) (p : Plan) (tuple : Option Tuple) (db : List Relation) (q : Question) (bytes : List ℕ) → IsPlan p (plan_by a.way db q) db q → IsResumed digest q.head a.after (Ok tuple) → Tells digest p tuple db q bytes → Shows digest bytes db q
 
 module _ (seen : ShelfSeen) (a : Asked) (files : Contents) (Tells : Telling) (Shows : Shown) (show : Show a Tells Shows) where
   cause_of : (outcome : Outcome) → Case seen a files Tells outcome → CauseFor a files seen Shows outcome
@@ -84,7 +85,7 @@ module _ (seen : ShelfSeen) (a : Asked) (files : Contents) (Tells : Telling) (Sh
   cause_of _ (planned db says q said limits p plan _ (stale text is old)) =
       record { db = db; says = says; holds = inr (record { q = q; says = said; holds = inr (subst (λ t. IsNoTokenOf (digest_of files) t db q) (sym is) (inr (inr old))) }) }
   cause_of _ (planned db says q said limits p plan _ (many cells step is tuple resumed first)) =
-      record { db = db; says = says; holds = record { q = q; says = said; holds = inr (inr (inl (subst (λ c. HasMany c db q) (sym is) (step, first)))) } }
+      record { db = db; says = says; holds = record { q = q; says = said; holds = inr (inr (inl (subst (λ c. HasMany a.way c db q) (sym is) (step, first)))) } }
   cause_of _ (planned db says q said limits p plan _ (rows most n asked is counted more)) =
       record { db = db; says = says; holds = record { q = q; says = said; holds = inr (inr (inr (asked, subst (λ c. HasManyRows c db q) (sym is) (n, counted, more)))) } }
   cause_of _ (planned db says q said limits p plan _ want) = tt
@@ -112,7 +113,7 @@ module _ (a : Asked) (files : Contents) (seen : ShelfSeen) (task : Task) (no_dat
   cause_for status.Usage h taken line = absurd h
   cause_for status.Write h taken line = absurd h
 
-  outcome_for : (Shows : Shown) → ((bytes : List ℕ) → Asking a.tense a.civil files (Shows (digest_of files) bytes) → IsOutputOf task files bytes) → (outcome : Outcome) → CauseFor a files seen Shows outcome → OutcomeFor task seen files outcome
+  outcome_for : (Shows : Shown) → ((bytes : List ℕ) → Asking a.way a.tense a.civil files (Shows (digest_of files) bytes) → IsOutputOf task files bytes) → (outcome : Outcome) → CauseFor a files seen Shows outcome → OutcomeFor task seen files outcome
   outcome_for Shows shows (Ok bytes) h = shows bytes h
   outcome_for Shows shows (Err refusal) h = λ taken line. cause_for (refused_with refusal) h taken (λ e. subst (λ r. WroteAll taken (line_of r)) (is_memory refusal e) line)
 
@@ -139,50 +140,50 @@ sample_written seed size seen files (Err _) told = absurd told
 
 -- each task
 pub explained : (task : Task) (seen : ShelfSeen) (outcome : Outcome) → IsDueOf task seen outcome → Explained task seen outcome
-explained (ask database query cap tense false civil) seen outcome due =
-    let a : Asked = record { canon = false; tense = tense; civil = civil; database = database; query = query; after = None; cap = Some cap } in
-    let r = reached seen a (λ digest p tuple. IsAnswerText) (IsAnswered false cap) (answer_goes_on a cap refl refl) outcome due in
+explained (ask database query cap way tense false civil) seen outcome due =
+    let a : Asked = record { way = way; canon = false; tense = tense; civil = civil; database = database; query = query; after = None; cap = Some cap } in
+    let r = reached seen a (λ digest p tuple. IsAnswerText) (IsAnswered way false cap) (answer_goes_on a cap refl refl) outcome due in
     record {
       files = r.files;
       told = both_files seen r.files database query r.none r.database r.query;
-      is = outcome_for a r.files seen (ask database query cap tense false civil) (λ h. h) (λ h. h) (λ h. h) (λ h. h) (λ digest bytes db q. IsAnswerText db q bytes) (λ bytes h. h) outcome
+      is = outcome_for a r.files seen (ask database query cap way tense false civil) (λ h. h) (λ h. h) (λ h. h) (λ h. h) (λ digest bytes db q. IsAnswerText db q bytes) (λ bytes h. h) outcome
           (cause_of seen a r.files (λ digest p tuple. IsAnswerText) (λ digest bytes db q. IsAnswerText db q bytes) (λ digest p tuple db q bytes plan resumed told. told) outcome r.case);
     }
-explained (ask database query cap tense true civil) seen outcome due =
-    let a : Asked = record { canon = true; tense = tense; civil = civil; database = database; query = query; after = None; cap = Some cap } in
-    let r = reached seen a (λ digest p tuple. IsCanonicalText) (IsAnswered true cap) (canonical_goes_on a cap refl refl refl) outcome due in
+explained (ask database query cap way tense true civil) seen outcome due =
+    let a : Asked = record { way = way; canon = true; tense = tense; civil = civil; database = database; query = query; after = None; cap = Some cap } in
+    let r = reached seen a (λ digest p tuple. IsCanonicalText) (IsAnswered way true cap) (canonical_goes_on a cap refl refl refl) outcome due in
     record {
       files = r.files;
       told = both_files seen r.files database query r.none r.database r.query;
-      is = outcome_for a r.files seen (ask database query cap tense true civil) (λ h. h) (λ h. h) (λ h. h) (λ h. h) (λ digest bytes db q. IsCanonicalText db q bytes) (λ bytes h. h) outcome
+      is = outcome_for a r.files seen (ask database query cap way tense true civil) (λ h. h) (λ h. h) (λ h. h) (λ h. h) (λ digest bytes db q. IsCanonicalText db q bytes) (λ bytes h. h) outcome
           (cause_of seen a r.files (λ digest p tuple. IsCanonicalText) (λ digest bytes db q. IsCanonicalText db q bytes) (λ digest p tuple db q bytes plan resumed told. told) outcome r.case);
     }
-explained (decide database query cap tense civil) seen outcome due =
-    let a : Asked = record { canon = false; tense = tense; civil = civil; database = database; query = query; after = None; cap = Some cap } in
-    let r = reached seen a (λ digest p tuple. TellsWitness) (IsDecided cap) (decide_goes_on a cap refl refl) outcome due in
+explained (decide database query cap way tense civil) seen outcome due =
+    let a : Asked = record { way = way; canon = false; tense = tense; civil = civil; database = database; query = query; after = None; cap = Some cap } in
+    let r = reached seen a (λ digest p tuple. TellsWitness) (IsDecided way cap) (decide_goes_on a cap refl refl) outcome due in
     record {
       files = r.files;
       told = both_files seen r.files database query r.none r.database r.query;
-      is = outcome_for a r.files seen (decide database query cap tense civil) (λ h. h) (λ h. h) (λ h. h) (λ h. h) (λ digest bytes db q. TellsWitness db q bytes) (λ bytes h. h) outcome
+      is = outcome_for a r.files seen (decide database query cap way tense civil) (λ h. h) (λ h. h) (λ h. h) (λ h. h) (λ digest bytes db q. TellsWitness db q bytes) (λ bytes h. h) outcome
           (cause_of seen a r.files (λ digest p tuple. TellsWitness) (λ digest bytes db q. TellsWitness db q bytes) (λ digest p tuple db q bytes plan resumed told. told) outcome r.case);
     }
-explained (list database query from to limit after json cap tense civil) seen outcome due =
-    let a : Asked = record { canon = false; tense = tense; civil = civil; database = database; query = query; after = after; cap = Some cap } in
-    let r = reached seen a (λ digest p tuple db q. TellsPage db q from to tuple limit civil json digest) (IsListed civil from to limit after json cap) (list_goes_on a cap from to limit civil json refl) outcome due in
+explained (list database query from to limit after json cap way tense civil) seen outcome due =
+    let a : Asked = record { way = way; canon = false; tense = tense; civil = civil; database = database; query = query; after = after; cap = Some cap } in
+    let r = reached seen a (λ digest p tuple db q. TellsPage db q from to tuple limit civil json digest) (IsListed way civil from to limit after json cap) (list_goes_on a cap from to limit civil json refl) outcome due in
     record {
       files = r.files;
       told = both_files seen r.files database query r.none r.database r.query;
-      is = outcome_for a r.files seen (list database query from to limit after json cap tense civil) (λ h. h) (λ h. h) (λ h. h) (λ h. h) (λ digest. TellsPageBehind from to limit after civil json digest) (λ bytes h. h) outcome
+      is = outcome_for a r.files seen (list database query from to limit after json cap way tense civil) (λ h. h) (λ h. h) (λ h. h) (λ h. h) (λ digest. TellsPageBehind from to limit after civil json digest) (λ bytes h. h) outcome
           (cause_of seen a r.files (λ digest p tuple db q. TellsPage db q from to tuple limit civil json digest) (λ digest. TellsPageBehind from to limit after civil json digest) (λ digest p tuple db q bytes plan resumed told. record { tuple = tuple; resumed = resumed; page = told }) outcome r.case);
     }
-explained (explain database query tense civil) seen outcome due =
-    let a : Asked = record { canon = false; tense = tense; civil = civil; database = database; query = query; after = None; cap = None } in
+explained (explain database query way tense civil) seen outcome due =
+    let a : Asked = record { way = way; canon = false; tense = tense; civil = civil; database = database; query = query; after = None; cap = None } in
     let r = reached seen a (λ digest p tuple db q. TellsPlan p) IsExplained (explain_goes_on a refl refl) outcome due in
     record {
       files = r.files;
       told = both_files seen r.files database query r.none r.database r.query;
-      is = outcome_for a r.files seen (explain database query tense civil) (λ h. h) (λ h. h) (λ h. h) (λ h. h) (λ digest. TellsPlanOf) (λ bytes h. h) outcome
-          (cause_of seen a r.files (λ digest p tuple db q. TellsPlan p) (λ digest. TellsPlanOf) (λ digest p tuple db q bytes plan resumed told. record { plan = p; is = plan; told = told }) outcome r.case);
+      is = outcome_for a r.files seen (explain database query way tense civil) (λ h. h) (λ h. h) (λ h. h) (λ h. h) (λ digest. TellsPlanOf way) (λ bytes h. h) outcome
+          (cause_of seen a r.files (λ digest p tuple db q. TellsPlan p) (λ digest. TellsPlanOf way) (λ digest p tuple db q bytes plan resumed told. record { plan = p; is = plan; told = told }) outcome r.case);
     }
 explained (check database civil) seen outcome due = record {
   files = two_files due.is.bytes [];

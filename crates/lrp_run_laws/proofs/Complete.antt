@@ -36,6 +36,8 @@ use Rattle.lrp_top.specs.Written.{IsSortedAs, IsFaultyAs, plain_if}
 use Rattle.lrp_outputs.specs.declared.status.Status.{Status}
 use Rattle.lrp_outputs.specs.declared.status.Status.TheVariants as status
 use Rattle.lrp_run_laws.proofs.Canonical.{OneRowCount}
+use Rattle.lrp_model.specs.declared.plans.Planning.{Planning}
+use Rattle.lrp_plan_laws.specs.GuardedPlans.{plan_by}
 use Rattle.lrp_run_laws.proofs.Cases.{IsFew}
 use Rattle.lrp_run_laws.proofs.Causes.{run_cause}
 
@@ -111,10 +113,10 @@ module _ (one : OneToken) (digest : List ℕ) (head : List Column) (text : Text)
 -- ---- a task that asks a query
 
 -- where a page begins, and no step has too many cells; and where a canonical answer is asked for, its head has one time column and its rows are not too many
-pub record IsFree (canon : Bool) (cap : Option ℕ) (after : Option Text) (digest : List ℕ) (db : List Relation) (q : Question) : Type 0 where
+pub record IsFree (way : Planning) (canon : Bool) (cap : Option ℕ) (after : Option Text) (digest : List ℕ) (db : List Relation) (q : Question) : Type 0 where
   pub tuple : Option Tuple
   pub resumed : IsResumed digest q.head after (Ok tuple)
-  pub few : IsFew cap db q
+  pub few : IsFew way cap db q
   pub head : HasOtherHead canon q → ⊥
   pub rows : canon ≡ true → HasManyRows cap db q → ⊥
 
@@ -134,24 +136,24 @@ no_token one digest (Some text) db q (Some tuple) resumed h = elim h [
 ]
 
 -- nor a head that is
-no_refused : OneToken → (canon : Bool) (cap : Option ℕ) (digest : List ℕ) (after : Option Text) (db : List Relation) (q : Question) → IsFree canon cap after digest db q → IsRefusedBehind canon digest after db q → ⊥
-no_refused one canon cap digest after db q free h = elim h [
+no_refused : OneToken → (way : Planning) (canon : Bool) (cap : Option ℕ) (digest : List ℕ) (after : Option Text) (db : List Relation) (q : Question) → IsFree way canon cap after digest db q → IsRefusedBehind canon digest after db q → ⊥
+no_refused one way canon cap digest after db q free h = elim h [
   | inl other ↦ free.head other
   | inr token ↦ no_token one digest after db q free.tuple free.resumed token
 ]
 
 -- and no step with too many cells
-no_many : (cap : Option ℕ) (db : List Relation) (q : Question) → IsFew cap db q → HasMany cap db q → ⊥
-no_many None db q few h = h
-no_many (Some cap) db q few h = few h.0 h.1.is
+no_many : (way : Planning) (cap : Option ℕ) (db : List Relation) (q : Question) → IsFew way cap db q → HasMany way cap db q → ⊥
+no_many way None db q few h = h
+no_many way (Some cap) db q few h = few h.0 h.1.is
 
-no_above : (canon : Bool) (cap : Option ℕ) (digest : List ℕ) (after : Option Text) (db : List Relation) (q : Question) → IsWithinLimits db q → IsFree canon cap after digest db q → IsAboveLimits canon cap db q → ⊥
-no_above canon cap digest after db q limits free h = elim h [
+no_above : (way : Planning) (canon : Bool) (cap : Option ℕ) (digest : List ℕ) (after : Option Text) (db : List Relation) (q : Question) → IsWithinLimits (plan_by way db q) db q → IsFree way canon cap after digest db q → IsAboveLimits way canon cap db q → ⊥
+no_above way canon cap digest after db q limits free h = elim h [
   | inl above ↦ let within : period db q.body ≤ 2 ^ 62 = limits.period in omega arith
   | inr more ↦ elim more [
-    | inl above ↦ let within : scaled_reach db q ≤ 2 ^ 62 = limits.reach in omega arith
+    | inl above ↦ let within : scaled_reach (plan_by way db q) q ≤ 2 ^ 62 = limits.reach in omega arith
     | inr last ↦ elim last [
-      | inl many ↦ no_many cap db q free.few many
+      | inl many ↦ no_many way cap db q free.few many
       | inr rows ↦ free.rows rows.0 rows.1
     ]
   ]
@@ -160,7 +162,7 @@ no_above canon cap digest after db q limits free h = elim h [
 pub no_longer : (n : ℕ) → n ≤ 16777216 → 16777216 < n → ⊥
 no_longer n short long = omega arith
 
-module _ (texts : DatabaseTexts) (canon tense civil : Bool) (queries : QueryTexts tense) (one : OneToken) (files : Contents) (cap : Option ℕ) (after : Option Text) (free : Asking tense civil files (IsFree canon cap after (digest_of files))) where
+module _ (texts : DatabaseTexts) (way : Planning) (canon tense civil : Bool) (queries : QueryTexts tense) (one : OneToken) (files : Contents) (cap : Option ℕ) (after : Option Text) (free : Asking way tense civil files (IsFree way canon cap after (digest_of files))) where
   same_database : (db : List Relation) → SaysRelations civil files db → db ≡ free.db
   same_database db says = texts.one (plain_if civil files.database) db free.db says.is free.says.is
 
@@ -179,19 +181,19 @@ module _ (texts : DatabaseTexts) (canon tense civil : Bool) (queries : QueryText
     ]
     | inr over ↦
         let same : over.q ≡ free.holds.q = queries.one free.db files.query over.q free.holds.q over.says.is free.holds.says.is in
-        no_refused one canon cap (digest_of files) after free.db free.holds.q free.holds.holds.holds (subst (λ q. IsRefusedBehind canon (digest_of files) after free.db q) same over.holds)
+        no_refused one way canon cap (digest_of files) after free.db free.holds.q free.holds.holds.holds (subst (λ q. IsRefusedBehind canon (digest_of files) after free.db q) same over.holds)
   ]
 
   pub query_stands : OverDatabase civil files (λ db. IsNoQuery files tense db ⊎ OverQuery tense files (IsRefusedBehind canon (digest_of files) after) db) → ⊥
   query_stands h = query_here (subst (λ db. IsNoQuery files tense db ⊎ OverQuery tense files (IsRefusedBehind canon (digest_of files) after) db) (same_database h.db h.says) h.holds)
 
-  above_here : OverQuery tense files (IsAboveLimits canon cap) free.db → ⊥
+  above_here : OverQuery tense files (IsAboveLimits way canon cap) free.db → ⊥
   above_here over =
       let same : over.q ≡ free.holds.q = queries.one free.db files.query over.q free.holds.q over.says.is free.holds.says.is in
-      no_above canon cap (digest_of files) after free.db free.holds.q free.holds.holds.limits free.holds.holds.holds (subst (λ q. IsAboveLimits canon cap free.db q) same over.holds)
+      no_above way canon cap (digest_of files) after free.db free.holds.q free.holds.holds.limits free.holds.holds.holds (subst (λ q. IsAboveLimits way canon cap free.db q) same over.holds)
 
-  pub limits_stand : OverDatabase civil files (OverQuery tense files (IsAboveLimits canon cap)) → ⊥
-  limits_stand h = above_here (subst (OverQuery tense files (IsAboveLimits canon cap)) (same_database h.db h.says) h.holds)
+  pub limits_stand : OverDatabase civil files (OverQuery tense files (IsAboveLimits way canon cap)) → ⊥
+  limits_stand h = above_here (subst (OverQuery tense files (IsAboveLimits way canon cap)) (same_database h.db h.says) h.holds)
 
 -- ---- a watch
 
@@ -258,13 +260,13 @@ module _ (task : Task) (files : Contents) (seen : ShelfSeen) (taken : SinkSeen) 
   comes_so status.Memory is = is
 
 -- where no canonical answer is asked for, no more is needed than where a page begins and few cells
-free_plain : (cap : Option ℕ) (after : Option Text) (digest : List ℕ) (db : List Relation) (q : Question) (tuple : Option Tuple) → IsResumed digest q.head after (Ok tuple) → IsFew cap db q → IsFree false cap after digest db q
-free_plain cap after digest db q tuple resumed few = record { tuple = tuple; resumed = resumed; few = few; head = λ other. unasked other.0; rows = λ asked. absurd (unasked asked) }
+free_plain : (way : Planning) (cap : Option ℕ) (after : Option Text) (digest : List ℕ) (db : List Relation) (q : Question) (tuple : Option Tuple) → IsResumed digest q.head after (Ok tuple) → IsFew way cap db q → IsFree way false cap after digest db q
+free_plain way cap after digest db q tuple resumed few = record { tuple = tuple; resumed = resumed; few = few; head = λ other. unasked other.0; rows = λ asked. absurd (unasked asked) }
 
 -- an answer has one number of rows, so where they are few they are not many
-free_answer : OneRowCount → (canon : Bool) (cap : ℕ) (digest : List ℕ) (db : List Relation) (q : Question) → IsAnswerable canon cap db q → IsFree canon (Some cap) None digest db q
-free_answer one false cap digest db q few = free_plain (Some cap) None digest db q None refl few
-free_answer one true cap digest db q h = record {
+free_answer : OneRowCount → (way : Planning) (canon : Bool) (cap : ℕ) (digest : List ℕ) (db : List Relation) (q : Question) → IsAnswerable way canon cap db q → IsFree way canon (Some cap) None digest db q
+free_answer one way false cap digest db q few = free_plain way (Some cap) None digest db q None refl few
+free_answer one way true cap digest db q h = record {
   tuple = None;
   resumed = refl;
   few = h.0;
@@ -276,8 +278,8 @@ free_answer one true cap digest db q h = record {
     not_more n m cap same few many = omega arith
 
 -- what holds of the query of a task
-asking : (tense civil : Bool) (files : Contents) (Holds Keeps : List Relation → Question → Type 0) → ((db : List Relation) (q : Question) → Holds db q → Keeps db q) → Asking tense civil files Holds → Asking tense civil files Keeps
-asking tense civil files Holds Keeps keep h = record {
+asking : (way : Planning) (tense civil : Bool) (files : Contents) (Holds Keeps : List Relation → Question → Type 0) → ((db : List Relation) (q : Question) → Holds db q → Keeps db q) → Asking way tense civil files Holds → Asking way tense civil files Keeps
+asking way tense civil files Holds Keeps keep h = record {
   db = h.db;
   says = h.says;
   holds = record { q = h.holds.q; says = h.holds.says; holds = record { limits = h.holds.holds.limits; holds = keep h.db h.holds.q h.holds.holds.holds } };
@@ -289,31 +291,31 @@ module _ (texts : DatabaseTexts) (queries : (tense : Bool) → QueryTexts tense)
   none_failed first second (inl failed) = first failed
   none_failed first second (inr over) = second over.holds
 
-  asked_so : (task : Task) (canon tense civil : Bool) (cap : Option ℕ) (after : Option Text) → Asking tense civil files (IsFree canon cap after (digest_of files)) → HaveStoodStill task run
+  asked_so : (task : Task) (way : Planning) (canon tense civil : Bool) (cap : Option ℕ) (after : Option Text) → Asking way tense civil files (IsFree way canon cap after (digest_of files)) → HaveStoodStill task run
       → (HasFailedFile run.seen files task → ⊥) → (IsDatabaseRefused files task → IsNoDatabase files civil) → (IsQueryRefused files task → OverDatabase civil files (λ db. IsNoQuery files tense db ⊎ OverQuery tense files (IsRefusedBehind canon (digest_of files) after) db))
-      → (IsQueryAbove files task → OverDatabase civil files (OverQuery tense files (IsAboveLimits canon cap)))
+      → (IsQueryAbove files task → OverDatabase civil files (OverQuery tense files (IsAboveLimits way canon cap)))
       → (ended : Status) → IsReason ended task files run.seen run.taken → EndsComplete ended task files run.taken
-  asked_so task canon tense civil cap after free still failed database query above =
+  asked_so task way canon tense civil cap after free still failed database query above =
       comes_so task files run.seen run.taken
-      (λ h. database_stands texts canon tense civil (queries tense) one files cap after free (database h))
-      (λ h. query_stands texts canon tense civil (queries tense) one files cap after free (query h))
-      (λ h. limits_stand texts canon tense civil (queries tense) one files cap after free (above h))
+      (λ h. database_stands texts way canon tense civil (queries tense) one files cap after free (database h))
+      (λ h. query_stands texts way canon tense civil (queries tense) one files cap after free (query h))
+      (λ h. limits_stand texts way canon tense civil (queries tense) one files cap after free (above h))
       failed still.sink
 
   -- a run of a lawful task whose counts stood still is complete
   pub complete : (task : Task) → IsLawfulTask task files → HaveStoodStill task run → (ended : Status) → IsReason ended task files run.seen run.taken → EndsComplete ended task files run.taken
-  complete (ask database query cap tense canon civil) lawful still =
-      let free = asking tense civil files (IsAnswerable canon cap) (IsFree canon (Some cap) None (digest_of files)) (free_answer rows canon cap (digest_of files)) lawful in
-      asked_so (ask database query cap tense canon civil) canon tense civil (Some cap) None free still (none_failed still.files.0 still.files.1.0) (λ h. h) (λ h. h) (λ h. h)
-  complete (decide database query cap tense civil) lawful still =
-      let free = asking tense civil files (HasFewCells cap) (IsFree false (Some cap) None (digest_of files)) (λ db q few. free_plain (Some cap) None (digest_of files) db q None refl few) lawful in
-      asked_so (decide database query cap tense civil) false tense civil (Some cap) None free still (none_failed still.files.0 still.files.1.0) (λ h. h) (λ h. h) (λ h. h)
-  complete (list database query from to limit after json cap tense civil) lawful still =
-      let free = asking tense civil files (IsResumable cap after (digest_of files)) (IsFree false (Some cap) after (digest_of files)) (λ db q h. free_plain (Some cap) after (digest_of files) db q h.tuple h.resumed h.few) lawful in
-      asked_so (list database query from to limit after json cap tense civil) false tense civil (Some cap) after free still (none_failed still.files.0 still.files.1.0) (λ h. h) (λ h. h) (λ h. h)
-  complete (explain database query tense civil) lawful still =
-      let free = asking tense civil files (λ db q. Unit {0}) (IsFree false None None (digest_of files)) (λ db q h. free_plain None None (digest_of files) db q None refl tt) lawful in
-      asked_so (explain database query tense civil) false tense civil None None free still (none_failed still.files.0 still.files.1.0) (λ h. h) (λ h. h) (λ h. h)
+  complete (ask database query cap way tense canon civil) lawful still =
+      let free = asking way tense civil files (IsAnswerable way canon cap) (IsFree way canon (Some cap) None (digest_of files)) (free_answer rows way canon cap (digest_of files)) lawful in
+      asked_so (ask database query cap way tense canon civil) way canon tense civil (Some cap) None free still (none_failed still.files.0 still.files.1.0) (λ h. h) (λ h. h) (λ h. h)
+  complete (decide database query cap way tense civil) lawful still =
+      let free = asking way tense civil files (HasFewCells way cap) (IsFree way false (Some cap) None (digest_of files)) (λ db q few. free_plain way (Some cap) None (digest_of files) db q None refl few) lawful in
+      asked_so (decide database query cap way tense civil) way false tense civil (Some cap) None free still (none_failed still.files.0 still.files.1.0) (λ h. h) (λ h. h) (λ h. h)
+  complete (list database query from to limit after json cap way tense civil) lawful still =
+      let free = asking way tense civil files (IsResumable way cap after (digest_of files)) (IsFree way false (Some cap) after (digest_of files)) (λ db q h. free_plain way (Some cap) after (digest_of files) db q h.tuple h.resumed h.few) lawful in
+      asked_so (list database query from to limit after json cap way tense civil) way false tense civil (Some cap) after free still (none_failed still.files.0 still.files.1.0) (λ h. h) (λ h. h) (λ h. h)
+  complete (explain database query way tense civil) lawful still =
+      let free = asking way tense civil files (λ db q. Unit {0}) (IsFree way false None None (digest_of files)) (λ db q h. free_plain way None None (digest_of files) db q None refl tt) lawful in
+      asked_so (explain database query way tense civil) way false tense civil None None free still (none_failed still.files.0 still.files.1.0) (λ h. h) (λ h. h) (λ h. h)
   complete (check database civil) lawful still =
       comes_so (check database civil) files run.seen run.taken
       (λ h. elim h [

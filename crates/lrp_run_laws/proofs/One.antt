@@ -10,6 +10,8 @@ use Rattle.lrp_model.specs.Rows.{Tuple}
 use Rattle.lrp_model.specs.Plans.{IsWithinLimits}
 use Rattle.lrp_model.specs.Texts.{Identifier, Text}
 use Rattle.lrp_model.specs.declared.plans.Plan.{Plan}
+use Rattle.lrp_model.specs.declared.plans.Planning.{Planning}
+use Rattle.lrp_plan_laws.specs.GuardedPlans.{plan_by}
 use Rattle.lrp_model.specs.declared.relations.Relation.{Relation}
 use Rattle.lrp_token.specs.Files.{files_digest}
 use Rattle.lrp_model.specs.Printed.{database_bytes}
@@ -103,33 +105,33 @@ ReadsOnly seen name bytes = (read : List ℕ) → AreBytesOf seen name read → 
 -- ---- a task that asks a query
 
 -- a query that is planned is within the limits
-planned_within : (canon : Bool) (db : List Relation) (q : Question) (p : Plan) → IsPlannedAs canon db q (Ok p) → IsWithinLimits db q
-planned_within canon db q p h = within h.first h.next
+planned_within : (way : Planning) (canon : Bool) (db : List Relation) (q : Question) (p : Plan) → IsPlannedAs way canon db q (Ok p) → IsWithinLimits (plan_by way db q) db q
+planned_within way canon db q p h = within h.first h.next
   where
-    within : (first : Result (Unit {0}) Refusal) → Behind first (λ fit. IsPlanned db q) (Ok p) → IsWithinLimits db q
+    within : (first : Result (Unit {0}) Refusal) → Behind first (λ fit. IsPlanned way db q) (Ok p) → IsWithinLimits (plan_by way db q) db q
     within (Ok fit) next = next.1
     within (Err refusal) next = cc
 
-module _ (known : Known) (canon tense civil : Bool) (files : Contents) (seen further : ShelfSeen) (database query : Identifier)
+module _ (known : Known) (way : Planning) (canon tense civil : Bool) (files : Contents) (seen further : ShelfSeen) (database query : Identifier)
     (first : ReadsOnly seen database files.database) (second : ReadsOnly further database files.database) (third : ReadsOnly seen query files.query) (fourth : ReadsOnly further query files.query)
     (S : List ℕ → List ℕ → Type 0) (Next Later : Source (List Relation) → Source Question → Plan → Outcome → Type 0) where
   -- what is due behind two plans agrees
   abbrev Finish : Type 0
-  Finish = (d : Source (List Relation)) (q : Source Question) → d.bytes ≡ files.database → q.bytes ≡ files.query → SaysRelations civil files d.says → SaysQuestion tense files d.says q.says → IsWithinLimits d.says q.says
+  Finish = (d : Source (List Relation)) (q : Source Question) → d.bytes ≡ files.database → q.bytes ≡ files.query → SaysRelations civil files d.says → SaysQuestion tense files d.says q.says → IsWithinLimits (plan_by way d.says q.says) d.says q.says
       → (p r : Plan) → SameText p r → (o v : Outcome) → Next d q p o → Later d q r v → Lasting o → Lasting v → Agree S o v
 
   module _ (finish : Finish) where
     abbrev Planned : Source (List Relation) → Source Question → Outcome → Type 0
-    Planned d q = Then (IsPlannedAs canon d.says q.says) (Next d q)
+    Planned d q = Then (IsPlannedAs way canon d.says q.says) (Next d q)
 
     abbrev Replanned : Source (List Relation) → Source Question → Outcome → Type 0
-    Replanned d q = Then (IsPlannedAs canon d.says q.says) (Later d q)
+    Replanned d q = Then (IsPlannedAs way canon d.says q.says) (Later d q)
 
     behind_query : (d : Source (List Relation)) (q : Source Question) → d.bytes ≡ files.database → q.bytes ≡ files.query → SaysRelations civil files d.says → SaysQuestion tense files d.says q.says
         → (o v : Outcome) → Planned d q o → Replanned d q v → Lasting o → Lasting v → Agree S o v
-    behind_query d q db qb says said = then_agree (IsPlannedAs canon d.says q.says) (IsPlannedAs canon d.says q.says) (Next d q) (Later d q) SameText S
-        (planned_agree canon d.says q.says)
-        (λ p r i j same. finish d q db qb says said (planned_within canon d.says q.says p i) p r same)
+    behind_query d q db qb says said = then_agree (IsPlannedAs way canon d.says q.says) (IsPlannedAs way canon d.says q.says) (Next d q) (Later d q) SameText S
+        (planned_agree way canon d.says q.says)
+        (λ p r i j same. finish d q db qb says said (planned_within way canon d.says q.says p i) p r same)
 
     queried : (d : Source (List Relation)) (q e : Source Question) → d.bytes ≡ files.database → SaysRelations civil files d.says → IsQueryRead tense d.says seen query (Ok q) → q ≡ e
         → (o v : Outcome) → Planned d q o → Replanned d e v → Lasting o → Lasting v → Agree S o v
@@ -149,7 +151,7 @@ module _ (known : Known) (canon tense civil : Bool) (files : Contents) (seen fur
         let is = subst (λ (b : List ℕ). (d.bytes ≡ b) × (length b ≤ 16777216) × IsDatabase (plain_if civil b) d.says) (first i.bytes i.told) i.is in
         behind_database d is.0 (record { short = is.1; is = is.2 }) o v n (subst (λ (x : Source (List Relation)). Then (IsQueryRead tense x.says further query) (Replanned x) v) (sym same) m) lo lv
 
-    pub asked_agree : (o v : Outcome) → IsPlannedFor canon tense civil seen database query Next o → IsPlannedFor canon tense civil further database query Later v → Lasting o → Lasting v → Agree S o v
+    pub asked_agree : (o v : Outcome) → IsPlannedFor way canon tense civil seen database query Next o → IsPlannedFor way canon tense civil further database query Later v → Lasting o → Lasting v → Agree S o v
     asked_agree = then_agree (IsDatabaseRead civil seen database) (IsDatabaseRead civil further database) (λ d. Then (IsQueryRead tense d.says seen query) (Planned d)) (λ d. Then (IsQueryRead tense d.says further query) (Replanned d)) (λ d e. d ≡ e) S
         (database_agree known.databases known.database_fault civil files.database seen further database first second)
         (λ d e i j same. databased d e i same)
@@ -157,27 +159,27 @@ module _ (known : Known) (canon tense civil : Bool) (files : Contents) (seen fur
 -- ---- what is due behind the plan
 
 -- the cells are counted, and then an output is told
-counted_agree : (db : List Relation) (q : Question) (cap : ℕ) (Tells : List ℕ → Type 0) (S : List ℕ → List ℕ → Type 0) → ((a b : List ℕ) → Tells a → Tells b → S a b)
-    → (o v : Outcome) → Then (IsCounted db q cap) (λ done. IsOutput Tells) o → Then (IsCounted db q cap) (λ done. IsOutput Tells) v → Lasting o → Lasting v → Agree S o v
-counted_agree db q cap Tells S same = then_agree (IsCounted db q cap) (IsCounted db q cap) (λ done. IsOutput Tells) (λ done. IsOutput Tells) Counted S (cells_agree db q cap)
+counted_agree : (way : Planning) (db : List Relation) (q : Question) (cap : ℕ) (Tells : List ℕ → Type 0) (S : List ℕ → List ℕ → Type 0) → ((a b : List ℕ) → Tells a → Tells b → S a b)
+    → (o v : Outcome) → Then (IsCounted way db q cap) (λ done. IsOutput Tells) o → Then (IsCounted way db q cap) (λ done. IsOutput Tells) v → Lasting o → Lasting v → Agree S o v
+counted_agree way db q cap Tells S same = then_agree (IsCounted way db q cap) (IsCounted way db q cap) (λ done. IsOutput Tells) (λ done. IsOutput Tells) Counted S (cells_agree way db q cap)
     (λ a b i j done. output_agree Tells Tells S same)
 
 -- the rows of the canonical answer are counted behind that, and then it is told
-canonical_agree : (known : Known) (db : List Relation) (q : Question) (cap : ℕ)
-    → (o v : Outcome) → Then (IsCounted db q cap) (λ done. Then (AreRowsCounted db q cap) (λ counted. IsOutput (IsCanonicalText db q))) o → Then (IsCounted db q cap) (λ done. Then (AreRowsCounted db q cap) (λ counted. IsOutput (IsCanonicalText db q))) v → Lasting o → Lasting v → Agree (λ a b. a ≡ b) o v
-canonical_agree known db q cap =
+canonical_agree : (known : Known) (way : Planning) (db : List Relation) (q : Question) (cap : ℕ)
+    → (o v : Outcome) → Then (IsCounted way db q cap) (λ done. Then (AreRowsCounted db q cap) (λ counted. IsOutput (IsCanonicalText db q))) o → Then (IsCounted way db q cap) (λ done. Then (AreRowsCounted db q cap) (λ counted. IsOutput (IsCanonicalText db q))) v → Lasting o → Lasting v → Agree (λ a b. a ≡ b) o v
+canonical_agree known way db q cap =
     let Told : Outcome → Type 0 = IsOutput (IsCanonicalText db q) in
-    then_agree (IsCounted db q cap) (IsCounted db q cap) (λ done. Then (AreRowsCounted db q cap) (λ counted. Told)) (λ done. Then (AreRowsCounted db q cap) (λ counted. Told)) Counted (λ a b. a ≡ b) (cells_agree db q cap)
+    then_agree (IsCounted way db q cap) (IsCounted way db q cap) (λ done. Then (AreRowsCounted db q cap) (λ counted. Told)) (λ done. Then (AreRowsCounted db q cap) (λ counted. Told)) Counted (λ a b. a ≡ b) (cells_agree way db q cap)
     (λ a b i j done. then_agree (AreRowsCounted db q cap) (AreRowsCounted db q cap) (λ counted. Told) (λ counted. Told) Counted (λ a b. a ≡ b) (rows_agree known.rows db q cap)
     (λ a b i j done. output_agree (IsCanonicalText db q) (IsCanonicalText db q) (λ a b. a ≡ b) (one_canonical known.text db db q q (own_answers db q))))
 
 -- the page begins before that
-listed_agree : (known : Known) (digest : List ℕ) (db : List Relation) (q : Question) (after : Option Text) (cap : ℕ) (Tells : Option Tuple → List ℕ → Type 0) → ((t : Option Tuple) (a b : List ℕ) → Tells t a → Tells t b → a ≡ b)
-    → (o v : Outcome) → Then (IsResumed digest q.head after) (λ t. Then (IsCounted db q cap) (λ done. IsOutput (Tells t))) o → Then (IsResumed digest q.head after) (λ t. Then (IsCounted db q cap) (λ done. IsOutput (Tells t))) v → Lasting o → Lasting v → Agree (λ a b. a ≡ b) o v
-listed_agree known digest db q after cap Tells same =
-    then_agree (IsResumed digest q.head after) (IsResumed digest q.head after) (λ t. Then (IsCounted db q cap) (λ done. IsOutput (Tells t))) (λ t. Then (IsCounted db q cap) (λ done. IsOutput (Tells t))) (λ t u. t ≡ u) (λ a b. a ≡ b)
+listed_agree : (known : Known) (way : Planning) (digest : List ℕ) (db : List Relation) (q : Question) (after : Option Text) (cap : ℕ) (Tells : Option Tuple → List ℕ → Type 0) → ((t : Option Tuple) (a b : List ℕ) → Tells t a → Tells t b → a ≡ b)
+    → (o v : Outcome) → Then (IsResumed digest q.head after) (λ t. Then (IsCounted way db q cap) (λ done. IsOutput (Tells t))) o → Then (IsResumed digest q.head after) (λ t. Then (IsCounted way db q cap) (λ done. IsOutput (Tells t))) v → Lasting o → Lasting v → Agree (λ a b. a ≡ b) o v
+listed_agree known way digest db q after cap Tells same =
+    then_agree (IsResumed digest q.head after) (IsResumed digest q.head after) (λ t. Then (IsCounted way db q cap) (λ done. IsOutput (Tells t))) (λ t. Then (IsCounted way db q cap) (λ done. IsOutput (Tells t))) (λ t u. t ≡ u) (λ a b. a ≡ b)
     (resumed_agree known.token digest q.head after)
-    (λ t u i j e o v n m. counted_agree db q cap (Tells t) (λ a b. a ≡ b) (same t) o v n (subst (λ x. Then (IsCounted db q cap) (λ done. IsOutput (Tells x)) v) (sym e) m))
+    (λ t u i j e o v n m. counted_agree way db q cap (Tells t) (λ a b. a ≡ b) (same t) o v n (subst (λ x. Then (IsCounted way db q cap) (λ done. IsOutput (Tells x)) v) (sym e) m))
 
 -- ---- a watch
 
@@ -226,34 +228,34 @@ module _ (known : Known) (seen further : ShelfSeen) (held more : List File) (tol
   Alike task = contents_of held task ≡ contents_of more task → (o v : Outcome) → IsDueOf task seen o → IsDueOf task further v → Lasting o → Lasting v → Agree (AreOneOutput task (contents_of held task)) o v
 
   -- a task that asks a query
-  asked_alike : (canon tense civil : Bool) (database query : Identifier) (S : List ℕ → List ℕ → Type 0) (Next : Source (List Relation) → Source Question → Plan → Outcome → Type 0)
+  asked_alike : (way : Planning) (canon tense civil : Bool) (database query : Identifier) (S : List ℕ → List ℕ → Type 0) (Next : Source (List Relation) → Source Question → Plan → Outcome → Type 0)
       → contents_at held database query ≡ contents_at more database query
-      → ((d : Source (List Relation)) (q : Source Question) → d.bytes ≡ content_of held database → q.bytes ≡ content_of held query → SaysRelations civil (contents_at held database query) d.says → SaysQuestion tense (contents_at held database query) d.says q.says → IsWithinLimits d.says q.says
+      → ((d : Source (List Relation)) (q : Source Question) → d.bytes ≡ content_of held database → q.bytes ≡ content_of held query → SaysRelations civil (contents_at held database query) d.says → SaysQuestion tense (contents_at held database query) d.says q.says → IsWithinLimits (plan_by way d.says q.says) d.says q.says
       → (p r : Plan) → SameText p r → (o v : Outcome) → Next d q p o → Next d q r v → Lasting o → Lasting v → Agree S o v)
-      → (o v : Outcome) → IsPlannedFor canon tense civil seen database query Next o → IsPlannedFor canon tense civil further database query Next v → Lasting o → Lasting v → Agree S o v
-  asked_alike canon tense civil database query S Next same finish =
-      asked_agree known canon tense civil (contents_at held database query) seen further database query
+      → (o v : Outcome) → IsPlannedFor way canon tense civil seen database query Next o → IsPlannedFor way canon tense civil further database query Next v → Lasting o → Lasting v → Agree S o v
+  asked_alike way canon tense civil database query S Next same finish =
+      asked_agree known way canon tense civil (contents_at held database query) seen further database query
       (reads_only seen held database (content_of held database) told refl) (reads_only further more database (content_of held database) again (ap (λ (c : Contents). c.database) same))
       (reads_only seen held query (content_of held query) told refl) (reads_only further more query (content_of held query) again (ap (λ (c : Contents). c.query) same))
       S Next Next finish
 
   due_alike : (task : Task) → Alike task
-  due_alike (ask database query cap tense true civil) same =
-      asked_alike true tense civil database query (λ a b. a ≡ b) (IsAnswered true cap) same
-      (λ d q db qb says said limits p r one. canonical_agree known d.says q.says cap)
-  due_alike (ask database query cap tense false civil) same =
-      asked_alike false tense civil database query (AreOneOutput (ask database query cap tense false civil) (contents_at held database query)) (IsAnswered false cap) same
-      (λ d q db qb says said limits p r one. counted_agree d.says q.says cap (IsAnswerText d.says q.says) (AreOneOutput (ask database query cap tense false civil) (contents_at held database query))
+  due_alike (ask database query cap way tense true civil) same =
+      asked_alike way true tense civil database query (λ a b. a ≡ b) (IsAnswered way true cap) same
+      (λ d q db qb says said limits p r one. canonical_agree known way d.says q.says cap)
+  due_alike (ask database query cap way tense false civil) same =
+      asked_alike way false tense civil database query (AreOneOutput (ask database query cap way tense false civil) (contents_at held database query)) (IsAnswered way false cap) same
+      (λ d q db qb says said limits p r one. counted_agree way d.says q.says cap (IsAnswerText d.says q.says) (AreOneOutput (ask database query cap way tense false civil) (contents_at held database query))
       (λ a b x y. record { db = d.says; says = says; holds = record { q = q.says; says = said; holds = record { limits = limits; holds = (x, y) } } }))
-  due_alike (decide database query cap tense civil) same =
-      asked_alike false tense civil database query (λ a b. a ≡ b) (IsDecided cap) same
-      (λ d q db qb says said limits p r one. counted_agree d.says q.says cap (TellsWitness d.says q.says) (λ a b. a ≡ b) (one_witness known.rank known.tuples d.says q.says))
-  due_alike (list database query from to limit after json cap tense civil) same =
-      asked_alike false tense civil database query (λ a b. a ≡ b) (IsListed civil from to limit after json cap) same
-      (λ d q db qb says said limits p r one. listed_agree known (files_digest d.bytes q.bytes) d.says q.says after cap (λ t. TellsPage d.says q.says from to t limit civil json (files_digest d.bytes q.bytes))
+  due_alike (decide database query cap way tense civil) same =
+      asked_alike way false tense civil database query (λ a b. a ≡ b) (IsDecided way cap) same
+      (λ d q db qb says said limits p r one. counted_agree way d.says q.says cap (TellsWitness d.says q.says) (λ a b. a ≡ b) (one_witness known.rank known.tuples d.says q.says))
+  due_alike (list database query from to limit after json cap way tense civil) same =
+      asked_alike way false tense civil database query (λ a b. a ≡ b) (IsListed way civil from to limit after json cap) same
+      (λ d q db qb says said limits p r one. listed_agree known way (files_digest d.bytes q.bytes) d.says q.says after cap (λ t. TellsPage d.says q.says from to t limit civil json (files_digest d.bytes q.bytes))
       (λ t a b. one_listing known.page d.says q.says from to t limit civil json (files_digest d.bytes q.bytes) a b))
-  due_alike (explain database query tense civil) same =
-      asked_alike false tense civil database query (λ a b. a ≡ b) IsExplained same
+  due_alike (explain database query way tense civil) same =
+      asked_alike way false tense civil database query (λ a b. a ≡ b) IsExplained same
       (λ d q db qb says said limits p r one. output_agree (TellsPlan p) (TellsPlan r) (λ a b. a ≡ b) (λ a b x y. x ∙ one ∙ sym y))
   due_alike (check database civil) same =
       then_agree (IsDatabaseRead civil seen database) (IsDatabaseRead civil further database) (λ d. IsOutput (TellsRelations d.says)) (λ d. IsOutput (TellsRelations d.says)) (λ d e. d ≡ e) (λ a b. a ≡ b)

@@ -8,7 +8,9 @@ use Rattle.lrp_model.specs.DatabaseReading.{IsDatabase}
 use Rattle.lrp_model.specs.Formulas.{Question}
 use Rattle.lrp_model.specs.Plans.{IsWithinLimits}
 use Rattle.lrp_model.specs.Texts.{Identifier}
+use Rattle.lrp_model.specs.declared.plans.Planning.{Planning}
 use Rattle.lrp_model.specs.declared.relations.Relation.{Relation}
+use Rattle.lrp_plan_laws.specs.GuardedPlans.{plan_by}
 use Rattle.lrp_edits.specs.EditReading.{SaysEdits}
 use Rattle.lrp_edits.specs.declared.edits.Edit.{Edit}
 use Rattle.lrp_kept.specs.KeptForm.{is_kept}
@@ -32,10 +34,10 @@ contents_at held database query = two_files (content_of held database) (content_
 
 -- those that files hold; a task that reads no query or no edits has no bytes of them
 abbrev pub contents_of : List File → Task → Contents
-contents_of held (ask database query cap tense canon civil) = contents_at held database query
-contents_of held (decide database query cap tense civil) = contents_at held database query
-contents_of held (list database query from to limit after json cap tense civil) = contents_at held database query
-contents_of held (explain database query tense civil) = contents_at held database query
+contents_of held (ask database query cap way tense canon civil) = contents_at held database query
+contents_of held (decide database query cap way tense civil) = contents_at held database query
+contents_of held (list database query from to limit after json cap way tense civil) = contents_at held database query
+contents_of held (explain database query way tense civil) = contents_at held database query
 contents_of held (check database civil) = two_files (content_of held database) []
 contents_of held (watch database query edits cap) = record { database = content_of held database; query = content_of held query; edits = content_of held edits }
 contents_of held (sample seed size) = two_files [] []
@@ -70,14 +72,14 @@ pub record OverQuery (tense : Bool) (files : Contents) (Holds : List Relation �
   pub says : SaysQuestion tense files db q
   pub holds : Holds db q
 
--- the query is within the limits, and of it this holds
-pub record WhereWithinLimits (Holds : List Relation → Question → Type 0) (db : List Relation) (q : Question) : Type 0 where
-  pub limits : IsWithinLimits db q
+-- the query is within the limits where it is planned by this way, and of it this holds
+pub record WhereWithinLimits (way : Planning) (Holds : List Relation → Question → Type 0) (db : List Relation) (q : Question) : Type 0 where
+  pub limits : IsWithinLimits (plan_by way db q) db q
   pub holds : Holds db q
 
--- there are a database and a query over it within the limits, and of them this holds
-abbrev pub Asking : Bool → Bool → Contents → (List Relation → Question → Type 0) → Type 0
-Asking tense civil files Holds = OverDatabase civil files (OverQuery tense files (WhereWithinLimits Holds))
+-- there are a database and a query over it within the limits where it is planned by this way, and of them this holds
+abbrev pub Asking : Planning → Bool → Bool → Contents → (List Relation → Question → Type 0) → Type 0
+Asking way tense civil files Holds = OverDatabase civil files (OverQuery tense files (WhereWithinLimits way Holds))
 
 -- the edits' bytes are at most 16,777,216 and the text of these edits of the relations
 pub record SaysTheseEdits (files : Contents) (db : List Relation) (edits : List Edit) : Type 0 where

@@ -12,7 +12,9 @@ use Rattle.lrp_model.specs.Sorts.{time_count}
 use Rattle.lrp_model.specs.Texts.{Identifier, Text}
 use Rattle.lrp_model.specs.declared.faults.DbFault.{DbFault}
 use Rattle.lrp_model.specs.declared.faults.QueryFault.{QueryFault}
+use Rattle.lrp_model.specs.declared.plans.Planning.{Planning}
 use Rattle.lrp_model.specs.declared.relations.Relation.{Relation}
+use Rattle.lrp_plan_laws.specs.GuardedPlans.{plan_by}
 use Rattle.lrp_edits.specs.EditReading.{IsEditsFault}
 use Rattle.lrp_kept.specs.KeptForm.{is_kept}
 use Rattle.lrp_token.specs.Reading.{IsNoToken, HasOtherCounts}
@@ -31,19 +33,19 @@ use Rattle.lrp_model.specs.Limits.{most_bytes, greatest_number}
 
 -- of a task that reads a database: this holds of whether times are civil ones
 abbrev pub OfDatabase : (Bool → Type 0) → Task → Type 0
-OfDatabase Holds (ask database query cap tense canon civil) = Holds civil
-OfDatabase Holds (decide database query cap tense civil) = Holds civil
-OfDatabase Holds (list database query from to limit after json cap tense civil) = Holds civil
-OfDatabase Holds (explain database query tense civil) = Holds civil
+OfDatabase Holds (ask database query cap way tense canon civil) = Holds civil
+OfDatabase Holds (decide database query cap way tense civil) = Holds civil
+OfDatabase Holds (list database query from to limit after json cap way tense civil) = Holds civil
+OfDatabase Holds (explain database query way tense civil) = Holds civil
 OfDatabase Holds (check database civil) = Holds civil
 OfDatabase Holds _ = ⊥
 
--- of a task that asks a query: this holds of whether a canonical answer is asked for, of whether it may have temporal operators and times are civil ones, of the token and of the cap
-abbrev pub OfQuery : (Bool → Bool → Bool → Option Text → Option ℕ → Type 0) → Task → Type 0
-OfQuery Holds (ask database query cap tense canon civil) = Holds canon tense civil None (Some cap)
-OfQuery Holds (decide database query cap tense civil) = Holds false tense civil None (Some cap)
-OfQuery Holds (list database query from to limit after json cap tense civil) = Holds false tense civil after (Some cap)
-OfQuery Holds (explain database query tense civil) = Holds false tense civil None None
+-- of a task that asks a query: this holds of how the query is planned, of whether a canonical answer is asked for, of whether it may have temporal operators and times are civil ones, of the token and of the cap
+abbrev pub OfQuery : (Planning → Bool → Bool → Bool → Option Text → Option ℕ → Type 0) → Task → Type 0
+OfQuery Holds (ask database query cap way tense canon civil) = Holds way canon tense civil None (Some cap)
+OfQuery Holds (decide database query cap way tense civil) = Holds way false tense civil None (Some cap)
+OfQuery Holds (list database query from to limit after json cap way tense civil) = Holds way false tense civil after (Some cap)
+OfQuery Holds (explain database query way tense civil) = Holds way false tense civil None None
 OfQuery Holds _ = ⊥
 
 -- the database's bytes are too many, or their text has a fault
@@ -71,19 +73,19 @@ HasOtherHead canon q = (canon ≡ true) × (time_count q.head ≢ 1)
 abbrev pub IsRefusedBehind : Bool → List ℕ → Option Text → List Relation → Question → Type 0
 IsRefusedBehind canon digest after db q = HasOtherHead canon q ⊎ IsNoTokenOf digest after db q
 
--- a step has more than cap cells; this is the first
-abbrev pub HasMany : Option ℕ → List Relation → Question → Type 0
-HasMany None db q = ⊥
-HasMany (Some cap) db q = (s : ℕ) × IsFirstMany db q cap s
+-- a step of the plan by this way has more than cap cells; this is the first
+abbrev pub HasMany : Planning → Option ℕ → List Relation → Question → Type 0
+HasMany way None db q = ⊥
+HasMany way (Some cap) db q = (s : ℕ) × IsFirstMany (plan_by way db q) db q cap s
 
 -- the canonical answer has more than cap rows
 abbrev pub HasManyRows : Option ℕ → List Relation → Question → Type 0
 HasManyRows None db q = ⊥
 HasManyRows (Some cap) db q = (n : ℕ) × HasCanonicalRows db q n × (cap < n)
 
--- the period is above the greatest number, the scaled reach is, a step has more than cap cells, or a canonical answer is asked for and has more than cap rows
-abbrev pub IsAboveLimits : Bool → Option ℕ → List Relation → Question → Type 0
-IsAboveLimits canon cap db q = (greatest_number < period db q.body) ⊎ (greatest_number < scaled_reach db q) ⊎ HasMany cap db q ⊎ ((canon ≡ true) × HasManyRows cap db q)
+-- the period is above the greatest number, the scaled reach of the plan by this way is, a step has more than cap cells, or a canonical answer is asked for and has more than cap rows
+abbrev pub IsAboveLimits : Planning → Bool → Option ℕ → List Relation → Question → Type 0
+IsAboveLimits way canon cap db q = (greatest_number < period db q.body) ⊎ (greatest_number < scaled_reach (plan_by way db q) q) ⊎ HasMany way cap db q ⊎ ((canon ≡ true) × HasManyRows cap db q)
 
 -- there is no database; or, for a watch, there are one and a query over it in kept form, and there are no edits
 abbrev pub IsDatabaseRefused : Contents → Task → Type 0
@@ -93,12 +95,12 @@ IsDatabaseRefused files task = OfDatabase (IsNoDatabase files) task
 -- there is no query over the database; or there is, and the head or the token is refused, or for a watch its form
 abbrev pub IsQueryRefused : Contents → Task → Type 0
 IsQueryRefused files (watch database query edits cap) = OverDatabase false files (λ db. IsNoQuery files false db ⊎ OverQuery false files (λ db q. is_kept q ≡ false) db)
-IsQueryRefused files task = OfQuery (λ canon tense civil after cap. OverDatabase civil files (λ db. IsNoQuery files tense db ⊎ OverQuery tense files (IsRefusedBehind canon (digest_of files) after) db)) task
+IsQueryRefused files task = OfQuery (λ way canon tense civil after cap. OverDatabase civil files (λ db. IsNoQuery files tense db ⊎ OverQuery tense files (IsRefusedBehind canon (digest_of files) after) db)) task
 
 -- there is a query over the database, and it is above a limit, or for a watch some edit is
 abbrev pub IsQueryAbove : Contents → Task → Type 0
 IsQueryAbove files (watch database query edits cap) = Watching files (PassesLimit cap)
-IsQueryAbove files task = OfQuery (λ canon tense civil after cap. OverDatabase civil files (OverQuery tense files (IsAboveLimits canon cap))) task
+IsQueryAbove files task = OfQuery (λ way canon tense civil after cap. OverDatabase civil files (OverQuery tense files (IsAboveLimits way canon cap))) task
 
 -- the count of faults of the database's name rose; or there is a database, and that of the query's name rose
 abbrev pub HasFailedOneOf : ShelfSeen → Contents → Bool → Identifier → Identifier → Type 0
@@ -106,10 +108,10 @@ HasFailedOneOf seen files civil database query = HasFailed seen database ⊎ Ove
 
 -- a file of the task failed
 abbrev pub HasFailedFile : ShelfSeen → Contents → Task → Type 0
-HasFailedFile seen files (ask database query cap tense canon civil) = HasFailedOneOf seen files civil database query
-HasFailedFile seen files (decide database query cap tense civil) = HasFailedOneOf seen files civil database query
-HasFailedFile seen files (list database query from to limit after json cap tense civil) = HasFailedOneOf seen files civil database query
-HasFailedFile seen files (explain database query tense civil) = HasFailedOneOf seen files civil database query
+HasFailedFile seen files (ask database query cap way tense canon civil) = HasFailedOneOf seen files civil database query
+HasFailedFile seen files (decide database query cap way tense civil) = HasFailedOneOf seen files civil database query
+HasFailedFile seen files (list database query from to limit after json cap way tense civil) = HasFailedOneOf seen files civil database query
+HasFailedFile seen files (explain database query way tense civil) = HasFailedOneOf seen files civil database query
 HasFailedFile seen files (check database civil) = HasFailed seen database
 HasFailedFile seen files (watch database query edits cap) = HasFailedOneOf seen files false database query ⊎ Keeping files (λ db q. HasFailed seen edits)
 HasFailedFile seen files (sample seed size) = ⊥

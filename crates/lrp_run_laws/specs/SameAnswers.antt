@@ -6,6 +6,7 @@ use Rattle.lrp_model.specs.Formulas.{Question}
 use Rattle.lrp_model.specs.Rows.{Tuple}
 use Rattle.lrp_model.specs.Satisfaction.{IsAnswer}
 use Rattle.lrp_model.specs.Texts.{Identifier}
+use Rattle.lrp_model.specs.declared.plans.Planning.{Planning}
 use Rattle.lrp_model.specs.declared.relations.Relation.{Relation}
 use Rattle.lrp_outputs.specs.declared.status.Status.TheVariants as status
 use Rattle.lrp_run_laws.specs.Contents.{contents_at, SaysQuestion, SaysRelations}
@@ -16,15 +17,16 @@ pub record HaveSameAnswers (db further : List Relation) (q r : Question) : Type 
   pub head : q.head ≡ r.head
   pub answers : (tuple : Tuple) → IsAnswer db q tuple ↔ IsAnswer further r tuple
 
--- a run that asks for the canonical answer, over files that say these relations and this query, ended with Done
+-- a run that asks for the canonical answer by some way of planning, over files that say these relations and this query, ended with Done
 pub record HasToldCanonical (run : Run) (db : List Relation) (q : Question) : Type 0 where
   pub database : Identifier
   pub query : Identifier
   pub cap : ℕ
+  pub way : Planning
   pub tense : Bool
   pub civil : Bool
   pub held : List File
-  pub is : IsRunOf (ask database query cap tense true civil) held run
+  pub is : IsRunOf (ask database query cap way tense true civil) held run
   pub relations : SaysRelations civil (contents_at held database query) db
   pub question : SaysQuestion tense (contents_at held database query) db q
   pub done : run.ended ≡ status.Done

@@ -10,7 +10,9 @@ use Rattle.lrp_model.specs.Plans.{IsPlan}
 use Rattle.lrp_model.specs.Sorts.{time_count}
 use Rattle.lrp_model.specs.Texts.{Text}
 use Rattle.lrp_model.specs.declared.plans.Plan.{Plan}
+use Rattle.lrp_model.specs.declared.plans.Planning.{Planning}
 use Rattle.lrp_model.specs.declared.relations.Relation.{Relation}
+use Rattle.lrp_plan_laws.specs.GuardedPlans.{plan_by}
 use Rattle.lrp_edits.specs.declared.edits.Edit.{Edit}
 use Rattle.lrp_keep.specs.declared.faults.KeepFault.{KeepFault}
 use Rattle.lrp_keep.specs.declared.faults.KeepFault.TheVariants as limit
@@ -23,20 +25,20 @@ use Rattle.lrp_run_laws.specs.Contents.{Contents, digest_of, OverDatabase, Askin
 
 -- ---- lawful tasks
 
--- no step has more than cap inhabited cells
-abbrev pub HasFewCells : ℕ → List Relation → Question → Type 0
-HasFewCells cap db q = (s : ℕ) → ManyAt db q cap s → ⊥
+-- no step of the plan by this way has more than cap inhabited cells
+abbrev pub HasFewCells : Planning → ℕ → List Relation → Question → Type 0
+HasFewCells way cap db q = (s : ℕ) → ManyAt (plan_by way db q) db q cap s → ⊥
 
 -- there is no token, or it is one of these files with the head's counts; and no step has more than cap inhabited cells
-pub record IsResumable (cap : ℕ) (after : Option Text) (digest : List ℕ) (db : List Relation) (q : Question) : Type 0 where
+pub record IsResumable (way : Planning) (cap : ℕ) (after : Option Text) (digest : List ℕ) (db : List Relation) (q : Question) : Type 0 where
   pub tuple : Option Tuple
   pub resumed : IsResumed digest q.head after (Ok tuple)
-  pub few : HasFewCells cap db q
+  pub few : HasFewCells way cap db q
 
 -- no step has more than cap inhabited cells; and where a canonical answer is asked for, the head has one time column and the answer has at most cap rows
-abbrev pub IsAnswerable : Bool → ℕ → List Relation → Question → Type 0
-IsAnswerable false cap db q = HasFewCells cap db q
-IsAnswerable true cap db q = HasFewCells cap db q × (time_count q.head ≡ 1) × ((n : ℕ) × HasCanonicalRows db q n × (n ≤ cap))
+abbrev pub IsAnswerable : Planning → Bool → ℕ → List Relation → Question → Type 0
+IsAnswerable way false cap db q = HasFewCells way cap db q
+IsAnswerable way true cap db q = HasFewCells way cap db q × (time_count q.head ≡ 1) × ((n : ℕ) × HasCanonicalRows db q n × (n ≤ cap))
 
 -- at some edit a limit is passed, the opening being edit 0
 pub record PassesLimit (cap : ℕ) (db : List Relation) (q : Question) (edits : List Edit) : Type 0 where
@@ -52,10 +54,10 @@ IsTextFor true = IsCanonicalText
 
 -- no refusal applies to the task; none ever does to the sample
 abbrev pub IsLawfulTask : Task → Contents → Type 0
-IsLawfulTask (ask database query cap tense canon civil) files = Asking tense civil files (IsAnswerable canon cap)
-IsLawfulTask (decide database query cap tense civil) files = Asking tense civil files (HasFewCells cap)
-IsLawfulTask (list database query from to limit after json cap tense civil) files = Asking tense civil files (IsResumable cap after (digest_of files))
-IsLawfulTask (explain database query tense civil) files = Asking tense civil files (λ db q. Unit {0})
+IsLawfulTask (ask database query cap way tense canon civil) files = Asking way tense civil files (IsAnswerable way canon cap)
+IsLawfulTask (decide database query cap way tense civil) files = Asking way tense civil files (HasFewCells way cap)
+IsLawfulTask (list database query from to limit after json cap way tense civil) files = Asking way tense civil files (IsResumable way cap after (digest_of files))
+IsLawfulTask (explain database query way tense civil) files = Asking way tense civil files (λ db q. Unit {0})
 IsLawfulTask (check database civil) files = OverDatabase civil files (λ db. Unit {0})
 IsLawfulTask (watch database query edits cap) files = Watching files (λ db q these. PassesLimit cap db q these → ⊥)
 IsLawfulTask (sample seed size) files = Unit {0}
@@ -68,19 +70,19 @@ pub record TellsPageBehind (from to : ℤ) (limit : ℕ) (after : Option Text) (
   pub resumed : IsResumed digest q.head after (Ok tuple)
   pub page : TellsPage db q from to tuple limit civil json digest output
 
--- the plan of the query
-pub record TellsPlanOf (output : List ℕ) (db : List Relation) (q : Question) : Type 0 where
+-- the plan of the query by this way
+pub record TellsPlanOf (way : Planning) (output : List ℕ) (db : List Relation) (q : Question) : Type 0 where
   pub plan : Plan
-  pub is : IsPlan plan db q
+  pub is : IsPlan plan (plan_by way db q) db q
   pub told : TellsPlan plan output
 
 -- the bytes are the task's output over the contents of its files
 abbrev pub IsOutputOf : Task → Contents → List ℕ → Type 0
-IsOutputOf (ask database query cap tense canon civil) files output = Asking tense civil files (λ db q. IsTextFor canon db q output)
-IsOutputOf (decide database query cap tense civil) files output = Asking tense civil files (λ db q. TellsWitness db q output)
-IsOutputOf (list database query from to limit after json cap tense civil) files output =
-    Asking tense civil files (TellsPageBehind from to limit after civil json (digest_of files) output)
-IsOutputOf (explain database query tense civil) files output = Asking tense civil files (TellsPlanOf output)
+IsOutputOf (ask database query cap way tense canon civil) files output = Asking way tense civil files (λ db q. IsTextFor canon db q output)
+IsOutputOf (decide database query cap way tense civil) files output = Asking way tense civil files (λ db q. TellsWitness db q output)
+IsOutputOf (list database query from to limit after json cap way tense civil) files output =
+    Asking way tense civil files (TellsPageBehind from to limit after civil json (digest_of files) output)
+IsOutputOf (explain database query way tense civil) files output = Asking way tense civil files (TellsPlanOf way output)
 IsOutputOf (check database civil) files output = OverDatabase civil files (λ db. TellsRelations db output)
 IsOutputOf (watch database query edits cap) files output = Watching files (λ db q these. TellsLeasts db q these cap output)
 IsOutputOf (sample seed size) files output = TellsSample seed size output

@@ -100,12 +100,17 @@ pub fn row_counts_are_unique()
 }
 
 /// Two runs that told the canonical answers of two queries, each over its own database, wrote the same bytes where the queries
-/// have one head and the same answers.
+/// have one head and the same answers. So two runs that told the canonical answer of one query wrote the same bytes, by
+/// whichever ways of planning.
 pub fn equal_answers_equal_bytes()
-    ensures { (run other : Run) (db further : List Relation) (q r : Question)
+    ensures answers { (run other : Run) (db further : List Relation) (q r : Question)
         → HasToldCanonical run db q
         → HasToldCanonical other further r
         → HaveSameAnswers db further q r
+        → WroteAlike run other }
+    ensures plans { (run other : Run) (db : List Relation) (q : Question)
+        → HasToldCanonical run db q
+        → HasToldCanonical other db q
         → WroteAlike run other }
 {
     texts_are_of_one_database();

@@ -8,9 +8,9 @@ use Rattle.lrp_model.specs.Pages.{IsAhead, IsPage}
 use Rattle.lrp_model.specs.Rows.{Tuple}
 use Rattle.lrp_model.specs.PrintedPages.{plain_line}
 use Rattle.lrp_model.specs.Periods.{period}
-use Rattle.lrp_model.specs.Plans.{plan, query_reach, scaled_reach}
+use Rattle.lrp_model.specs.Plans.{query_reach, scaled_reach}
 use Rattle.lrp_model.specs.Sorts.{time_count}
-use Rattle.lrp_model.specs.Steps.{PlanStep, step_at}
+use Rattle.lrp_model.specs.Steps.{PlanStep, Steps, step_at}
 use Rattle.lrp_model.specs.declared.tuples.Cell.{Cell}
 use Rattle.lrp_model.specs.declared.relations.Relation.{Relation}
 use Rattle.lrp_model.specs.Satisfaction.{HasShape}
@@ -20,6 +20,7 @@ use Rattle.lrp_model.specs.declared.tuples.Spot.{Spot}
 use Rattle.lrp_cutting.specs.Settling.{IsSmallZone}
 use Rattle.lrp_outputs.specs.SmallAnswers.{IsSmallAnswer}
 use Rattle.lrp_plan_laws.specs.Rising.{IsRising, period_at}
+use Rattle.lrp_plan_laws.specs.Settled.{IsSoundPlan}
 use Rattle.lrp_zone.specs.Zones.{reach_of}
 use Rattle.lrp_store.specs.Least.{IsLeastSpot, StandsFor}
 use Rattle.lrp_store.specs.Stores.{StoreView, tables_at, zone_of}
@@ -36,56 +37,58 @@ use Rattle.lrp_top.specs.Telling.{TellsWitness}
 -- ---- room for the least answer
 
 -- the last step of a plan is no wider than its reach, since each step is
-pub last_wide : (db : List Relation) (q : Question) (Is : PlanStep → Type 0) → ((s : ℕ) (step : PlanStep) → step_at (plan db q) s ≡ Some step → IsRising db q s step) → MatchOption (step_at (plan db q) (length (plan db q))) ⊥ Is
-    → period_at (plan db q) (length (plan db q)) ≤ query_reach db q
-last_wide db q Is rises last = by (step_at (plan db q) (length (plan db q))) refl last
+wide_at : (steps : Steps) (db : List Relation) (q : Question) (Is : PlanStep → Type 0) → ((s : ℕ) (step : PlanStep) → step_at steps s ≡ Some step → IsRising steps db q s step) → MatchOption (step_at steps (length steps)) ⊥ Is → period_at steps (length steps) ≤ query_reach steps
+wide_at steps db q Is rises last = by (step_at steps (length steps)) refl last
   where
-    by : (o : Option PlanStep) → step_at (plan db q) (length (plan db q)) ≡ o → MatchOption o ⊥ Is → unwrap_or (option_map (λ step. step.period) o) 1 ≤ unwrap_or (option_map (λ step. step.reach) o) 0
+    by : (o : Option PlanStep) → step_at steps (length steps) ≡ o → MatchOption o ⊥ Is → unwrap_or (option_map (λ step. step.period) o) 1 ≤ unwrap_or (option_map (λ step. step.reach) o) 0
     by None e m = absurd m
-    by (Some step) e m = (rises (length (plan db q)) step e).wide
+    by (Some step) e m = (rises (length steps) step e).wide
+
+pub last_wide : (steps : Steps) (db : List Relation) (q : Question) → IsSoundPlan steps db q → period_at steps (length steps) ≤ query_reach steps
+last_wide steps db q sound = wide_at steps db q _ (λ s step e. (sound.each s step e).rises) sound.head
 
 -- a zone of a cell, by its table
 zone_in : (s : StoreView) (cell : Cell) (tables : List (List (Option ℤ))) (table : List (Option ℤ)) → Contains tables table → Contains (map (zone_of s cell) tables) (zone_of s cell table)
 zone_in s cell tables table held = in_map (zone_of s cell) tables table held
 
-module _ (db : List Relation) (q : Question) (cap : ℕ) (a : Answer) (is : IsAnswerOf db q cap a) (reach : scaled_reach db q ≤ 2 ^ 62) (wide : period_at (plan db q) (length (plan db q)) ≤ query_reach db q) where
-  pub small_answer : IsSmallAnswer a (query_reach db q)
+module _ (steps : Steps) (db : List Relation) (q : Question) (cap : ℕ) (a : Answer) (is : IsAnswerOf steps db q cap a) (reach : scaled_reach steps q ≤ 2 ^ 62) (wide : period_at steps (length steps) ≤ query_reach steps) where
+  pub small_answer : IsSmallAnswer a (query_reach steps)
   small_answer =
-      let k : pos a.store.period ≡ pos (period_at (plan db q) (length (plan db q))) = sym a.period_is ∙ is.period in
-      let same : a.store.period ≡ period_at (plan db q) (length (plan db q)) = cc in
+      let k : pos a.store.period ≡ pos (period_at steps (length steps)) = sym a.period_is ∙ is.period in
+      let same : a.store.period ≡ period_at steps (length steps) = cc in
       record {
-        period = subst (λ n. n ≤ query_reach db q) (sym same) wide;
-        scaled = subst (λ cs. 2 ^ (time_count cs + 1) * query_reach db q ≤ 2 ^ 62) (sym is.head) reach;
-        small = λ cell z held. subst (λ cs. IsSmallZone z (time_count cs * query_reach db q)) (sym is.head) (is.small cell z held);
+        period = subst (λ n. n ≤ query_reach steps) (sym same) wide;
+        scaled = subst (λ cs. 2 ^ (time_count cs + 1) * query_reach steps ≤ 2 ^ 62) (sym is.head) reach;
+        small = λ cell z held. subst (λ cs. IsSmallZone z (time_count cs * query_reach steps)) (sym is.head) (is.small cell z held);
       }
 
 -- ---- room for the canonical answer
 
 -- one time column of the head is one of the store
-pub one_column : (db : List Relation) (q : Question) (cap : ℕ) (a : Answer) → IsAnswerOf db q cap a → time_count q.head ≡ 1 → a.store.shape.times ≡ 1
-one_column db q cap a is one = sym a.times_are ∙ ap time_count is.head ∙ one
+pub one_column : (steps : Steps) (db : List Relation) (q : Question) (cap : ℕ) (a : Answer) → IsAnswerOf steps db q cap a → time_count q.head ≡ 1 → a.store.shape.times ≡ 1
+one_column steps db q cap a is one = sym a.times_are ∙ ap time_count is.head ∙ one
 
-module _ (db : List Relation) (q : Question) (cap : ℕ) (a : Answer) (is : IsAnswerOf db q cap a) (reach : scaled_reach db q ≤ 2 ^ 62) (wide : period_at (plan db q) (length (plan db q)) ≤ query_reach db q) (one : time_count q.head ≡ 1) where
-  same_period : a.store.period ≡ period_at (plan db q) (length (plan db q))
-  same_period = let k : pos a.store.period ≡ pos (period_at (plan db q) (length (plan db q))) = sym a.period_is ∙ is.period in cc
+module _ (steps : Steps) (db : List Relation) (q : Question) (cap : ℕ) (a : Answer) (is : IsAnswerOf steps db q cap a) (reach : scaled_reach steps q ≤ 2 ^ 62) (wide : period_at steps (length steps) ≤ query_reach steps) (one : time_count q.head ≡ 1) where
+  same_period : a.store.period ≡ period_at steps (length steps)
+  same_period = let k : pos a.store.period ≡ pos (period_at steps (length steps)) = sym a.period_is ∙ is.period in cc
 
   pub can_be_canonical : CanMakeCanonical a.store
   can_be_canonical = record {
-    column = one_column db q cap a is one;
+    column = one_column steps db q cap a is one;
     reach = record {
       each = λ cell table held.
           let z = zone_of a.store cell table in
-          let small : reach_of z ≤ 1 * query_reach db q = subst (λ n. reach_of z ≤ n * query_reach db q) one (is.small cell z (zone_in a.store cell (tables_at a.store cell) table held)).stored in
-          let four : 2 ^ (1 + 1) * query_reach db q ≤ 2 ^ 62 = subst (λ n. 2 ^ (n + 1) * query_reach db q ≤ 2 ^ 62) one reach in
-          let low : a.store.period ≤ query_reach db q = subst (λ n. n ≤ query_reach db q) (sym same_period) wide in
+          let small : reach_of z ≤ 1 * query_reach steps = subst (λ n. reach_of z ≤ n * query_reach steps) one (is.small cell z (zone_in a.store cell (tables_at a.store cell) table held)).stored in
+          let four : 2 ^ (1 + 1) * query_reach steps ≤ 2 ^ 62 = subst (λ n. 2 ^ (n + 1) * query_reach steps ≤ 2 ^ 62) one reach in
+          let low : a.store.period ≤ query_reach steps = subst (λ n. n ≤ query_reach steps) (sym same_period) wide in
           omega arith;
     };
   }
 
 -- ---- the period
 
-pub period_of : (db : List Relation) (q : Question) (cap : ℕ) (a : Answer) → IsAnswerOf db q cap a → period_at (plan db q) (length (plan db q)) ≡ period db q.body → a.store.period ≡ period db q.body
-period_of db q cap a is last = let same : pos a.store.period ≡ pos (period db q.body) = sym a.period_is ∙ is.period ∙ ap pos last in cc
+pub period_of : (steps : Steps) (db : List Relation) (q : Question) (cap : ℕ) (a : Answer) → IsAnswerOf steps db q cap a → period_at steps (length steps) ≡ period db q.body → a.store.period ≡ period db q.body
+period_of steps db q cap a is last = let same : pos a.store.period ≡ pos (period db q.body) = sym a.period_is ∙ is.period ∙ ap pos last in cc
 
 -- ---- the least answer
 
@@ -93,7 +96,7 @@ period_of db q cap a is last = let same : pos a.store.period ≡ pos (period db 
 abbrev pub StandForTuples : Type 0
 StandForTuples = (columns : List Column) (shape : Shape) (domain : List Text) (spot : Spot) (tuple : Tuple) → HasShape columns tuple → StandsFor shape domain spot tuple → spot_tuple columns shape domain spot ≡ tuple
 
-module _ (stood : StandForTuples) (db : List Relation) (q : Question) (cap : ℕ) (a : Answer) (is : IsAnswerOf db q cap a) where
+module _ (stood : StandForTuples) (steps : Steps) (db : List Relation) (q : Question) (cap : ℕ) (a : Answer) (is : IsAnswerOf steps db q cap a) where
   pub told_none : ((tuple : Tuple) → InAnswer a.head.columns a.domain a.store tuple → ⊥) → TellsWitness db q (spot_text a None)
   told_none none = inl (record { none = λ tuple h. none tuple ((is.answers tuple).1 h); spelled = refl })
 

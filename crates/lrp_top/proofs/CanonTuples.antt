@@ -7,7 +7,7 @@ use Rattle.std.specs.List.{AllByRecursion}
 use Rattle.std.proofs.lemmas.Cmp.{tied_itself, nat_list_cmp_total}
 use Rattle.std.proofs.lemmas.List.{get_or-take, length-take-le}
 use Rattle.lrp_model.specs.Formulas.{Question}
-use Rattle.lrp_model.specs.Rows.{Datum, time, times_of, texts_of}
+use Rattle.lrp_model.specs.Rows.{Datum, times_of, texts_of}
 use Rattle.lrp_model.specs.Satisfaction.{HasShape, IsAnswer}
 use Rattle.lrp_model.specs.Texts.{Text, Ascends, text_cmp}
 use Rattle.lrp_model.specs.declared.relations.Relation.{Relation}
@@ -17,6 +17,7 @@ use Rattle.lrp_store.specs.Stores.{StoreView, HoldsJust, IsStore, InStore, table
 use Rattle.lrp_store.specs.Tables.{AreTexts, InAnswer}
 use Rattle.lrp_answers.specs.declared.answer.Answer.{Answer}
 use Rattle.lrp_spans.specs.Groups.{HoldsNumber}
+use Rattle.lrp_model.specs.Steps.{Steps}
 use Rattle.lrp_eval.specs.Answered.{IsAnswerOf}
 use Rattle.lrp_canon.specs.Answers.{HasNumber}
 use Rattle.lrp_top.proofs.CanonSets.{IsRenamed}
@@ -86,7 +87,7 @@ held_some s cell table held = by (finite.get s.tables cell) refl held
     by None e c = absurd (omega (arith, c.1))
     by (Some tables) e c = (tables, e)
 
-module _ (db : List Relation) (q : Question) (cap : ℕ) (a : Answer) (answered : IsAnswerOf db q cap a) (valid : IsStore a.store) (ascends : Ascends a.domain) (column : a.store.shape.times ≡ 1) where
+module _ (steps : Steps) (db : List Relation) (q : Question) (cap : ℕ) (a : Answer) (answered : IsAnswerOf steps db q cap a) (valid : IsStore a.store) (ascends : Ascends a.domain) (column : a.store.shape.times ≡ 1) where
   -- what the store holds has texts
   held_texts : (x : ℤ) (ns : List ℕ) → HoldsNumber a.store x ns → (ts : List Text) × AreTexts a.domain ns ts
   held_texts x ns h =
@@ -149,8 +150,8 @@ module _ (db : List Relation) (q : Question) (cap : ℕ) (a : Answer) (answered 
   }
 
 -- a store of the same set has the same answers
-pub answers_moved : (db : List Relation) (q : Question) (cap : ℕ) (a : Answer) → IsAnswerOf db q cap a → (made : Answer) → made.head ≡ a.head → made.domain ≡ a.domain → HoldsJust (InStore a.store) made.store → (tuple : List Datum) → InAnswer made.head.columns made.domain made.store tuple ↔ IsAnswer db q tuple
-answers_moved db q cap a answered made head domain same tuple = (
+pub answers_moved : (steps : Steps) (db : List Relation) (q : Question) (cap : ℕ) (a : Answer) → IsAnswerOf steps db q cap a → (made : Answer) → made.head ≡ a.head → made.domain ≡ a.domain → HoldsJust (InStore a.store) made.store → (tuple : List Datum) → InAnswer made.head.columns made.domain made.store tuple ↔ IsAnswer db q tuple
+answers_moved steps db q cap a answered made head domain same tuple = (
   (λ h. (answered.answers tuple).0 (record {
     shape = subst (λ (k : Head). HasShape k.columns tuple) head h.shape;
     held = (h.held.0, subst (λ (d : List Text). AreTexts d h.held.0 (texts_of tuple)) domain h.held.1, same.sound (times_of tuple) h.held.0 h.held.2);

@@ -18,6 +18,7 @@ use Rattle.lrp_model.specs.declared.tuples.Shape.{Shape}
 use Rattle.lrp_model.specs.declared.tuples.Spot.{Spot}
 use Rattle.lrp_model.specs.declared.tuples.Tuple.{Tuple as ToldTuple}
 use Rattle.lrp_answers.specs.declared.answer.Answer.{Answer}
+use Rattle.lrp_model.specs.Steps.{Steps}
 use Rattle.lrp_eval.specs.Answered.{IsAnswerOf}
 use Rattle.lrp_store.specs.Tables.{InAnswer}
 use Rattle.lrp_list.specs.Giving.{GivesTuples, IsFirstTuple}
@@ -105,11 +106,11 @@ known_all known a from to (spot ∷ spots) e h = (known_at known a from to spot 
 -- ---- the page that is told
 
 -- the page of the answers is the query's
-pub told_page : (db : List Relation) (q : Question) (cap : ℕ) (a : Answer) (from to : ℤ) (begins : List Column → Option Tuple) (limit : ℕ) (civil json : Bool) (files : List ℕ) (page : Page)
-    → IsAnswerOf db q cap a → page.answer ≡ a → page.civil ≡ civil → is_json page.form ≡ json → page.files ≡ files
+pub told_page : (steps : Steps) (db : List Relation) (q : Question) (cap : ℕ) (a : Answer) (from to : ℤ) (begins : List Column → Option Tuple) (limit : ℕ) (civil json : Bool) (files : List ℕ) (page : Page)
+    → IsAnswerOf steps db q cap a → page.answer ≡ a → page.civil ≡ civil → is_json page.form ≡ json → page.files ≡ files
     → IsPage (InAnswer a.head.columns a.domain a.store) from to (begins a.head.columns) limit (map (answer_tuple a) page.spots) page.more
     → TellsPage db q from to (begins q.head) limit civil json files (page_text page)
-told_page db q cap a from to begins limit civil json files page is same dates form digest h = record {
+told_page steps db q cap a from to begins limit civil json files page is same dates form digest h = record {
   page = map (answer_tuple a) page.spots;
   more = page.more;
   is = subst (λ columns. IsPage (IsAnswer db q) from to (begins columns) limit (map (answer_tuple a) page.spots) page.more) is.head

@@ -1,5 +1,5 @@
 -- The sample: what is left of its refusals, and what is told of it.
-use Rattle.std.proofs.Common.{◌≡◌, ◌≤◌, ◌*◌, ℕ, Bool, true, false, List, [], ◌∷◌, length, map, Option, Some, None, Err, refl, sym, ap, subst, ◌∙◌, arith}
+use Rattle.std.proofs.Common.{◌≡◌, ◌<◌, ◌≤◌, ◌*◌, ◌^◌, ℕ, Bool, true, false, List, [], ◌∷◌, length, map, Option, Some, None, Err, refl, sym, ap, subst, ◌∙◌, arith}
 use Rattle.std.specs.Prelude.{ℤ, pos, option_map, IfNone, IfSome, IsTrue}
 use Rattle.std.specs.FinMap as finite
 use Rattle.std.specs.List.{AllByRecursion}
@@ -11,19 +11,23 @@ use Rattle.lrp_model.specs.Formulas.{Question}
 use Rattle.lrp_model.specs.Order.{IsLeast}
 use Rattle.lrp_model.specs.Pages.{IsAhead, IsPage, Rises}
 use Rattle.lrp_model.specs.Rows.{Tuple}
-use Rattle.lrp_model.specs.Plans.{IsWithinLimits}
+use Rattle.lrp_model.specs.Plans.{plan, scaled_reach, IsWithinLimits}
 use Rattle.lrp_model.specs.QueryReading.{IsQuery}
 use Rattle.lrp_model.specs.Satisfaction.{IsAnswer}
 use Rattle.lrp_model.specs.Sorting.{IsWellSorted}
+use Rattle.lrp_model.specs.Steps.{Steps}
+use Rattle.lrp_model.specs.declared.plans.Planning.{Planning}
+use Rattle.lrp_model.specs.declared.plans.Planning.TheVariants.{Written}
 use Rattle.lrp_model.specs.declared.relations.Relation.{Relation}
 use Rattle.lrp_model.specs.declared.tuples.Spot.{Spot}
 use Rattle.lrp_store.specs.Least.{IsLeastSpot}
 use Rattle.lrp_store.specs.Tables.{InAnswer}
 use Rattle.lrp_answers.specs.declared.answer.Answer.{Answer}
+use Rattle.lrp_plan_laws.specs.GuardedPlans.{plan_by}
 use Rattle.lrp_eval.specs.Answered.{IsAnswerOf}
 use Rattle.lrp_sample.specs.Texts.{sample_database, sample_query}
 use Rattle.lrp_sample.specs.Trees.{raw_sample, sample_question, sample_relations}
-use Rattle.lrp_sample_laws.specs.Plans.{HasAtMostCells, IsOfFirstDay, IsSampleSize}
+use Rattle.lrp_sample_laws.specs.Plans.{HasAtMostCells, IsOfFirstDay, IsSampleSize, IsSampleWithinLimits, sample_steps}
 use Rattle.lrp_top.specs.Due.{IsCounted, IsOutput, IsPlanned}
 use Rattle.lrp_outputs.specs.Spots.{answer_tuple}
 use Rattle.lrp_outputs.specs.Outputs.{least_of, sample_text}
@@ -45,14 +49,14 @@ output_memory Tells Memory h = tt
 output_memory Tells _ h = absurd h
 
 -- is all that is left of a plan within the limits
-planned_memory : (db : List Relation) (q : Question) (refusal : Refusal) → IsWithinLimits db q → IsPlanned db q (Err refusal) → IsMemory refusal
+planned_memory : (db : List Relation) (q : Question) (refusal : Refusal) → IsWithinLimits (plan db q) db q → IsPlanned Written db q (Err refusal) → IsMemory refusal
 planned_memory db q Memory h is = tt
 planned_memory db q PeriodLimit h is = omega (arith, h.period, is)
-planned_memory db q BoundLimit h is = omega (arith, h.reach, is.1)
+planned_memory db q BoundLimit h is = let far : 2 ^ 62 < scaled_reach (plan db q) q = is.1 in omega (arith, h.reach, far)
 planned_memory db q _ h is = is
 
 -- and of steps with few cells
-counted_memory : (db : List Relation) (q : Question) (most : ℕ) (refusal : Refusal) → ((s : ℕ) → ManyAt db q most s → ⊥) → IsCounted db q most (Err refusal) → IsMemory refusal
+counted_memory : (db : List Relation) (q : Question) (most : ℕ) (refusal : Refusal) → ((s : ℕ) → ManyAt (plan db q) db q most s → ⊥) → IsCounted Written db q most (Err refusal) → IsMemory refusal
 counted_memory db q most Memory h is = tt
 counted_memory db q most (Cells n step) h is = h step is.1.is
 counted_memory db q most _ h is = is
@@ -65,22 +69,24 @@ module _ (seed size : ℕ) (db : List Relation) (q : Question) (d : db ≡ sampl
   of_sample P h = subst (λ r. P r q) (sym d) (subst (λ x. P (sample_relations seed size) x) (sym e) h)
 
   -- its plan is refused for want of memory alone, and so are its cells
-  pub sample_planned : (refusal : Refusal) → IsWithinLimits (sample_relations seed size) sample_question → IsPlanned db q (Err refusal) → IsMemory refusal
-  sample_planned refusal h is = planned_memory db q refusal (of_sample IsWithinLimits h) is
+  pub sample_planned : (refusal : Refusal) → IsSampleWithinLimits seed size → IsPlanned Written db q (Err refusal) → IsMemory refusal
+  sample_planned refusal h is = planned_memory db q refusal (of_sample (λ r x. IsWithinLimits (plan r x) r x) h) is
 
-  pub sample_counted : (most : ℕ) (refusal : Refusal) → HasAtMostCells seed size most → IsCounted db q most (Err refusal) → IsMemory refusal
-  sample_counted most refusal h is = counted_memory db q most refusal (of_sample (λ r x. (s : ℕ) → ManyAt r x most s → ⊥) h) is
+  pub sample_counted : (way : Planning) → way ≡ Written → (most : ℕ) (refusal : Refusal) → HasAtMostCells seed size most → IsCounted way db q most (Err refusal) → IsMemory refusal
+  sample_counted way written most refusal h is = counted_memory db q most refusal (of_sample (λ r x. (s : ℕ) → ManyAt (plan r x) r x most s → ⊥) h) (subst (λ w. IsCounted w db q most (Err refusal)) written is)
 
   -- and its answers are the sample's
-  pub sample_answered : (most : ℕ) (a : Answer) → IsAnswerOf db q most a → IsAnswerOf (sample_relations seed size) sample_question most a
-  sample_answered most a h = subst (λ x. IsAnswerOf (sample_relations seed size) x most a) e (subst (λ r. IsAnswerOf r q most a) d h)
+  pub sample_answered : (way : Planning) → way ≡ Written → (most : ℕ) (a : Answer) → IsAnswerOf (plan_by way db q) db q most a → IsAnswerOf (sample_steps seed size) (sample_relations seed size) sample_question most a
+  sample_answered way written most a h =
+      let as_written : IsAnswerOf (plan db q) db q most a = subst (λ w. IsAnswerOf (plan_by w db q) db q most a) written h in
+      subst (λ x. IsAnswerOf (plan (sample_relations seed size) x) (sample_relations seed size) x most a) e (subst (λ r. IsAnswerOf (plan r q) r q most a) d as_written)
 
 -- ---- the least answer
 
-pub least_is : StandForTuples → (db : List Relation) (q : Question) (most : ℕ) (a : Answer) (o : Option Spot) → IsAnswerOf db q most a
+pub least_is : StandForTuples → (steps : Steps) (db : List Relation) (q : Question) (most : ℕ) (a : Answer) (o : Option Spot) → IsAnswerOf steps db q most a
     → IfNone o ((tuple : Tuple) → InAnswer a.head.columns a.domain a.store tuple → ⊥) → IfSome o (λ spot. IsLeastSpot a.head.columns a.domain a.store spot) → IsFirst db q (option_map (answer_tuple a) o)
-least_is stood db q most a None is none some = λ tuple h. none tuple ((is.answers tuple).1 h)
-least_is stood db q most a (Some spot) is none some =
+least_is stood steps db q most a None is none some = λ tuple h. none tuple ((is.answers tuple).1 h)
+least_is stood steps db q most a (Some spot) is none some =
     subst (λ t. IsLeast (IsAnswer db q) t) (sym (stood a.head.columns a.store.shape a.domain spot some.tuple some.least.is.shape some.stands))
     (record { is = (is.answers some.tuple).0 some.least.is; first = λ other h. some.least.first other ((is.answers other).1 h) })
 
@@ -115,7 +121,7 @@ whole_day few counted seed size page more some h =
 -- ---- what is told
 
 pub told_sample : (seed size most : ℕ) (a : Answer) (spots : List Spot) (more : Bool) (report : Report) → HasFewAnswers → ArePagesCounted → IsDatabase (sample_database seed size) (sample_relations seed size) → IsQuery sample_query raw_sample
-    → IsWellSorted (sample_relations seed size) raw_sample → plain_question raw_sample ≡ sample_question → IsSampleSize size → IsAnswerOf (sample_relations seed size) sample_question most a
+    → IsWellSorted (sample_relations seed size) raw_sample → plain_question raw_sample ≡ sample_question → IsSampleSize size → IsAnswerOf (sample_steps seed size) (sample_relations seed size) sample_question most a
     → IsPage (InAnswer a.head.columns a.domain a.store) (pos 0) (pos 1439) None 1000000 (map (answer_tuple a) spots) more → IsFirst (sample_relations seed size) sample_question (least_of report.first)
     → report.rows ≡ size → report.cells ≡ finite.len a.store.tables → report.window ≡ length spots → TellsSample seed size (sample_text report)
 told_sample seed size most a spots more report few counted database query sorted plain some is page first rows cells window = record {

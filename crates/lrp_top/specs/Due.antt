@@ -12,7 +12,9 @@ use Rattle.lrp_model.specs.Plans.{IsPlan, HasLongPeriod, HasFarReach, IsWithinLi
 use Rattle.lrp_model.specs.Sorts.{time_count}
 use Rattle.lrp_model.specs.Texts.{Identifier, Text}
 use Rattle.lrp_model.specs.declared.plans.Plan.{Plan}
+use Rattle.lrp_model.specs.declared.plans.Planning.{Planning}
 use Rattle.lrp_model.specs.declared.relations.Relation.{Relation}
+use Rattle.lrp_plan_laws.specs.GuardedPlans.{plan_by}
 use Rattle.lrp_token.specs.Files.{files_digest}
 use Rattle.lrp_top.specs.Canonical.{HasCanonicalRows, IsCanonicalText}
 use Rattle.lrp_outputs.specs.Outcomes.{Outcome}
@@ -66,24 +68,24 @@ IsHeadFit true q (Ok fit) = time_count q.head ≡ 1
 IsHeadFit true q (Err CanonHead) = time_count q.head ≢ 1
 IsHeadFit true q (Err _) = ⊥
 
--- the query is planned. Ok: its plan. Refused: its period is above the greatest number, or that is not but its reach is, doubled once and once more for each time column of the head; or want of memory
-abbrev pub IsPlanned : List Relation → Question → Result Plan Refusal → Type 0
-IsPlanned db q (Ok p) = IsPlan p db q × IsWithinLimits db q
-IsPlanned db q (Err PeriodLimit) = HasLongPeriod db q
-IsPlanned db q (Err BoundLimit) = HasFarReach db q
-IsPlanned db q (Err Memory) = Unit {0}
-IsPlanned db q (Err _) = ⊥
+-- the query is planned by this way of planning. Ok: its plan. Refused: its period is above the greatest number, or that is not but the reach of its steps is, doubled once and once more for each time column of the head; or want of memory
+abbrev pub IsPlanned : Planning → List Relation → Question → Result Plan Refusal → Type 0
+IsPlanned way db q (Ok p) = IsPlan p (plan_by way db q) db q × IsWithinLimits (plan_by way db q) db q
+IsPlanned way db q (Err PeriodLimit) = HasLongPeriod db q
+IsPlanned way db q (Err BoundLimit) = HasFarReach (plan_by way db q) db q
+IsPlanned way db q (Err Memory) = Unit {0}
+IsPlanned way db q (Err _) = ⊥
 
 -- the head is looked at, and then the query is planned; the flag says whether a canonical answer is asked for
-abbrev pub IsPlannedAs : Bool → List Relation → Question → Result Plan Refusal → Type 0
-IsPlannedAs canon db q = Then (IsHeadFit canon q) (λ fit. IsPlanned db q)
+abbrev pub IsPlannedAs : Planning → Bool → List Relation → Question → Result Plan Refusal → Type 0
+IsPlannedAs way canon db q = Then (IsHeadFit canon q) (λ fit. IsPlanned way db q)
 
--- the cells of the plan's steps are counted. Ok: no step has more than cap. Refused: the first that has is told; or want of memory
-abbrev pub IsCounted : List Relation → Question → ℕ → Result (Unit {0}) Refusal → Type 0
-IsCounted db q cap (Ok done) = (s : ℕ) → ManyAt db q cap s → ⊥
-IsCounted db q cap (Err (Cells most step)) = (most ≡ cap) × IsFirstMany db q cap step
-IsCounted db q cap (Err Memory) = Unit {0}
-IsCounted db q cap (Err _) = ⊥
+-- the cells of the steps of the plan by this way are counted. Ok: no step has more than cap. Refused: the first that has is told; or want of memory
+abbrev pub IsCounted : Planning → List Relation → Question → ℕ → Result (Unit {0}) Refusal → Type 0
+IsCounted way db q cap (Ok done) = (s : ℕ) → ManyAt (plan_by way db q) db q cap s → ⊥
+IsCounted way db q cap (Err (Cells most step)) = (most ≡ cap) × IsFirstMany (plan_by way db q) db q cap step
+IsCounted way db q cap (Err Memory) = Unit {0}
+IsCounted way db q cap (Err _) = ⊥
 
 -- the rows of the canonical answer are counted. Ok: they are at most cap. Refused: they are more; or want of memory
 abbrev pub AreRowsCounted : List Relation → Question → ℕ → Result (Unit {0}) Refusal → Type 0
@@ -105,27 +107,27 @@ abbrev pub IsExplained : Source (List Relation) → Source Question → Plan →
 IsExplained d q p = IsOutput (TellsPlan p)
 
 -- the cells are counted, and then all answers are told; where the canonical answer is asked for, its rows are counted, and then it is told
-abbrev pub IsAnswered : Bool → ℕ → Source (List Relation) → Source Question → Plan → Outcome → Type 0
-IsAnswered false cap d q p = Then (IsCounted d.says q.says cap) (λ done. IsOutput (IsAnswerText d.says q.says))
-IsAnswered true cap d q p =
-    Then (IsCounted d.says q.says cap) (λ done. Then (AreRowsCounted d.says q.says cap) (λ counted. IsOutput (IsCanonicalText d.says q.says)))
+abbrev pub IsAnswered : Planning → Bool → ℕ → Source (List Relation) → Source Question → Plan → Outcome → Type 0
+IsAnswered way false cap d q p = Then (IsCounted way d.says q.says cap) (λ done. IsOutput (IsAnswerText d.says q.says))
+IsAnswered way true cap d q p =
+    Then (IsCounted way d.says q.says cap) (λ done. Then (AreRowsCounted d.says q.says cap) (λ counted. IsOutput (IsCanonicalText d.says q.says)))
 
 -- the cells are counted, and then the least answer is told, or that there is none
-abbrev pub IsDecided : ℕ → Source (List Relation) → Source Question → Plan → Outcome → Type 0
-IsDecided cap d q p = Then (IsCounted d.says q.says cap) (λ done. IsOutput (TellsWitness d.says q.says))
+abbrev pub IsDecided : Planning → ℕ → Source (List Relation) → Source Question → Plan → Outcome → Type 0
+IsDecided way cap d q p = Then (IsCounted way d.says q.says cap) (λ done. IsOutput (TellsWitness d.says q.says))
 
 -- the page begins where its token says, the cells are counted, and then the page of the window is told
-abbrev pub IsListed : Bool → ℤ → ℤ → ℕ → Option Text → Bool → ℕ → Source (List Relation) → Source Question → Plan → Outcome → Type 0
-IsListed civil from to limit after json cap d q p =
+abbrev pub IsListed : Planning → Bool → ℤ → ℤ → ℕ → Option Text → Bool → ℕ → Source (List Relation) → Source Question → Plan → Outcome → Type 0
+IsListed way civil from to limit after json cap d q p =
     let digest = files_digest d.bytes q.bytes in
-    Then (IsResumed digest q.says.head after) (λ tuple. Then (IsCounted d.says q.says cap) (λ done. IsOutput (TellsPage d.says q.says from to tuple limit civil json digest)))
+    Then (IsResumed digest q.says.head after) (λ tuple. Then (IsCounted way d.says q.says cap) (λ done. IsOutput (TellsPage d.says q.says from to tuple limit civil json digest)))
 
 -- ---- what is due for a task
 
--- a database is read, then a query over its relations, then the query is planned, and then this is due
-abbrev pub IsPlannedFor : {B : Type 0} → Bool → Bool → Bool → ShelfSeen → Identifier → Identifier → (Source (List Relation) → Source Question → Plan → Result B Refusal → Type 0) → Result B Refusal → Type 0
-IsPlannedFor canon tense civil seen database query Next result =
-    Then (IsDatabaseRead civil seen database) (λ d. Then (IsQueryRead tense d.says seen query) (λ q. Then (IsPlannedAs canon d.says q.says) (Next d q))) result
+-- a database is read, then a query over its relations, then the query is planned by this way, and then this is due
+abbrev pub IsPlannedFor : {B : Type 0} → Planning → Bool → Bool → Bool → ShelfSeen → Identifier → Identifier → (Source (List Relation) → Source Question → Plan → Result B Refusal → Type 0) → Result B Refusal → Type 0
+IsPlannedFor way canon tense civil seen database query Next result =
+    Then (IsDatabaseRead civil seen database) (λ d. Then (IsQueryRead tense d.says seen query) (λ q. Then (IsPlannedAs way canon d.says q.says) (Next d q))) result
 
 -- a database is read, then a query over its relations, which is to be in kept form, then edits of the database, and then they are made
 abbrev pub IsWatchedFor : ShelfSeen → Identifier → Identifier → Identifier → ℕ → Outcome → Type 0
@@ -134,11 +136,11 @@ IsWatchedFor seen database query edits cap =
 
 -- each task; the sample makes its own texts, and is refused for want of memory alone
 abbrev pub IsDueOf : Task → ShelfSeen → Outcome → Type 0
-IsDueOf (ask database query cap tense canon civil) seen outcome = IsPlannedFor canon tense civil seen database query (IsAnswered canon cap) outcome
-IsDueOf (decide database query cap tense civil) seen outcome = IsPlannedFor false tense civil seen database query (IsDecided cap) outcome
-IsDueOf (list database query from to limit after json cap tense civil) seen outcome =
-    IsPlannedFor false tense civil seen database query (IsListed civil from to limit after json cap) outcome
-IsDueOf (explain database query tense civil) seen outcome = IsPlannedFor false tense civil seen database query IsExplained outcome
+IsDueOf (ask database query cap way tense canon civil) seen outcome = IsPlannedFor way canon tense civil seen database query (IsAnswered way canon cap) outcome
+IsDueOf (decide database query cap way tense civil) seen outcome = IsPlannedFor way false tense civil seen database query (IsDecided way cap) outcome
+IsDueOf (list database query from to limit after json cap way tense civil) seen outcome =
+    IsPlannedFor way false tense civil seen database query (IsListed way civil from to limit after json cap) outcome
+IsDueOf (explain database query way tense civil) seen outcome = IsPlannedFor way false tense civil seen database query IsExplained outcome
 IsDueOf (check database civil) seen outcome = Then (IsDatabaseRead civil seen database) (λ d. IsOutput (TellsRelations d.says)) outcome
 IsDueOf (watch database query edits cap) seen outcome = IsWatchedFor seen database query edits cap outcome
 IsDueOf (sample seed size) seen outcome = IsOutput (TellsSample seed size) outcome
@@ -147,10 +149,10 @@ IsDueOf (sample seed size) seen outcome = IsOutput (TellsSample seed size) outco
 
 -- the names of the files that a task reads
 abbrev pub files_of : Task → List Identifier
-files_of (ask database query cap tense canon civil) = database ∷ query ∷ []
-files_of (decide database query cap tense civil) = database ∷ query ∷ []
-files_of (list database query from to limit after json cap tense civil) = database ∷ query ∷ []
-files_of (explain database query tense civil) = database ∷ query ∷ []
+files_of (ask database query cap way tense canon civil) = database ∷ query ∷ []
+files_of (decide database query cap way tense civil) = database ∷ query ∷ []
+files_of (list database query from to limit after json cap way tense civil) = database ∷ query ∷ []
+files_of (explain database query way tense civil) = database ∷ query ∷ []
 files_of (check database civil) = database ∷ []
 files_of (watch database query edits cap) = database ∷ query ∷ edits ∷ []
 files_of (sample seed size) = []

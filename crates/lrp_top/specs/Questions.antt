@@ -10,11 +10,14 @@ use Rattle.lrp_model.specs.RawQueries.{RawQuestion}
 use Rattle.lrp_model.specs.TestPoints.{points}
 use Rattle.lrp_model.specs.Tuples.{in_head_order}
 use Rattle.lrp_model.specs.declared.faults.QueryRead.{QueryRead}
+use Rattle.lrp_model.specs.Steps.{Steps}
 use Rattle.lrp_model.specs.declared.plans.Plan.{Plan}
+use Rattle.lrp_model.specs.declared.plans.Planning.{Planning}
 use Rattle.lrp_model.specs.declared.relations.Column.{Column}
 use Rattle.lrp_model.specs.declared.relations.Relation.{Relation}
 use Rattle.lrp_model.specs.declared.tuples.Tuple.{Tuple as ToldTuple}
 use Rattle.lrp_model.specs.declared.tuples.Spot.{Spot}
+use Rattle.lrp_plan_laws.specs.GuardedPlans.{plan_by}
 use Rattle.lrp_plan_laws.specs.Settled.{IsSettled}
 use Rattle.lrp_print.specs.Writable.{StepHasPeriods}
 use Rattle.lrp_eval.specs.Planned.{IsPlanOf}
@@ -102,9 +105,13 @@ pub record IsFit (db : List Relation) (file : QueryFile) : Type 0 where
   pub points : AllByRecursion (λ at. pos 1 ≤ℤ at.period) (points (form_of file.query.body))
   pub head : AreAnswerColumns file.query.head.columns
 
--- what holds of a question: its plan is that of its query, which is within the limits, and can be written; and its head can be that of a relation that is read
+-- the steps of the plan of a question's query by its way of planning
+abbrev pub question_steps : Question → Steps
+question_steps question = plan_by question.planning question.database.relations (question_of question.query.query)
+
+-- what holds of a question: its plan is that of its query by its way of planning, which is sound and within the limits, and can be written; and its head can be that of a relation that is read
 pub record IsReady (question : Question) : Type 0 where
-  pub planned : IsPlanOf question.database.relations (question_of question.query.query) question.plan
+  pub planned : IsPlanOf (question_steps question) question.database.relations (question_of question.query.query) question.plan
   pub writable : AllByRecursion StepHasPeriods question.plan.steps
   pub head : AreAnswerColumns question.query.query.head.columns
 
@@ -113,9 +120,9 @@ abbrev pub IsMadeOf : Source (List Relation) → Source Queried → Plan → Res
 IsMadeOf d q p (Ok question) = (database_source question.database ≡ d) × (query_source question.query ≡ q) × (question.plan ≡ p)
 IsMadeOf d q p (Err refusal) = ⊥
 
--- what is due behind the plan of the query in these files; the flag says whether a canonical answer is asked for
-abbrev pub IsAsked : {B : Type 0} → QuestionFiles → Bool → ShelfSeen → (Source (List Relation) → Source Queried → Plan → Result B Refusal → Type 0) → Result B Refusal → Type 0
-IsAsked files canon seen = IsPlannedFor canon files.tense files.civil seen files.database.now files.query.now
+-- what is due behind the plan of the query in these files by this way of planning; the flag says whether a canonical answer is asked for
+abbrev pub IsAsked : {B : Type 0} → QuestionFiles → Planning → Bool → ShelfSeen → (Source (List Relation) → Source Queried → Plan → Result B Refusal → Type 0) → Result B Refusal → Type 0
+IsAsked files way canon seen = IsPlannedFor way canon files.tense files.civil seen files.database.now files.query.now
 
 -- the values in head order of a tuple that is told by its times and its texts, where one is
 abbrev pub resumed_as : List Column → Result (Option ToldTuple) Refusal → Result (Option Tuple) Refusal
@@ -128,12 +135,12 @@ abbrev pub done_as : {A : Type 0} → Result A Refusal → Result (Unit {0}) Ref
 done_as (Ok a) = Ok tt
 done_as (Err refusal) = Err refusal
 
--- what is due for a purpose
-abbrev pub IsServed : Purpose → Source (List Relation) → Source Queried → Plan → Outcome → Type 0
-IsServed purpose.Plan = IsExplained
-IsServed (purpose.Answer cap canon) = IsAnswered canon cap
-IsServed (purpose.Witness cap) = IsDecided cap
-IsServed (purpose.Page paging) = IsListed paging.civil paging.from paging.to paging.limit (after_text paging.after) paging.json paging.cap
+-- what is due for a purpose, where the query is planned by this way
+abbrev pub IsServed : Planning → Purpose → Source (List Relation) → Source Queried → Plan → Outcome → Type 0
+IsServed way purpose.Plan = IsExplained
+IsServed way (purpose.Answer cap canon) = IsAnswered way canon cap
+IsServed way (purpose.Witness cap) = IsDecided way cap
+IsServed way (purpose.Page paging) = IsListed way paging.civil paging.from paging.to paging.limit (after_text paging.after) paging.json paging.cap
 
 -- whether a purpose asks for a canonical answer
 abbrev pub is_canonical : Purpose → Bool
@@ -154,15 +161,16 @@ abbrev pub HasWindow : Purpose → Type 0
 HasWindow (purpose.Page paging) = IsEnd paging.civil paging.from × IsEnd paging.civil paging.to
 HasWindow _ = Unit {0}
 
--- the question that a command asks, where it asks one: of which files, and for what
+-- the question that a command asks, where it asks one: of which files, how it is planned, and for what
 abbrev pub asked_of : Command → Option Asked
-asked_of (Ask db query cap tense canon civil) = Some (record { files = record { database = db; query = query; tense = tense; civil = civil }; purpose = purpose.Answer cap canon })
-asked_of (Decide db query cap tense civil) = Some (record { files = record { database = db; query = query; tense = tense; civil = civil }; purpose = purpose.Witness cap })
-asked_of (Page db query from to limit after json cap tense civil) = Some (record {
+asked_of (Ask db query cap planning tense canon civil) = Some (record { files = record { database = db; query = query; tense = tense; civil = civil }; planning = planning; purpose = purpose.Answer cap canon })
+asked_of (Decide db query cap planning tense civil) = Some (record { files = record { database = db; query = query; tense = tense; civil = civil }; planning = planning; purpose = purpose.Witness cap })
+asked_of (Page db query from to limit after json cap planning tense civil) = Some (record {
   files = record { database = db; query = query; tense = tense; civil = civil };
+  planning = planning;
   purpose = purpose.Page (record { from = from; to = to; limit = limit; after = after; json = json; cap = cap; civil = civil });
 })
-asked_of (Explain db query tense civil) = Some (record { files = record { database = db; query = query; tense = tense; civil = civil }; purpose = purpose.Plan })
+asked_of (Explain db query planning tense civil) = Some (record { files = record { database = db; query = query; tense = tense; civil = civil }; planning = planning; purpose = purpose.Plan })
 asked_of (Check db civil) = None
 asked_of (Watch db query edits cap) = None
 asked_of (Sample seed size) = None

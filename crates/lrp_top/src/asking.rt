@@ -3,6 +3,7 @@ ghost use Rattle.std.specs.Prelude.{◌≡◌, option_map};
 ghost use Rattle.lrp_top.specs.Questions.{asked_of};
 
 use crate::purpose::{Paging, Purpose};
+use lrp_model::Planning;
 use lrp_words::Command;
 
 /// The files of a question by their names. With `tense` the query may have temporal operators, and with `civil` the database
@@ -15,10 +16,11 @@ pub struct QuestionFiles<'a> {
     pub civil: bool,
 }
 
-/// A question of files, and what it is asked for.
+/// A question of files, how its query is planned, and what it is asked for.
 #[derive(Clone, Copy)]
 pub struct Asked<'a> {
     pub files: QuestionFiles<'a>,
+    pub planning: Planning,
     pub purpose: Purpose<'a>,
 }
 
@@ -28,6 +30,7 @@ pub fn asked_by(command: Command<'_>) -> Option<Asked<'_>>
 {
     let (database, query) = names_of(command)?;
     let (tense, civil) = flags_of(command)?;
+    let planning = planning_of(command)?;
     let purpose = purpose_of(command)?;
     let files = QuestionFiles {
         database,
@@ -35,7 +38,11 @@ pub fn asked_by(command: Command<'_>) -> Option<Asked<'_>>
         tense,
         civil,
     };
-    Some(Asked { files, purpose })
+    Some(Asked {
+        files,
+        planning,
+        purpose,
+    })
 }
 
 /// The names of its files: of the database, and of the query.
@@ -62,6 +69,19 @@ fn flags_of(command: Command<'_>) -> Option<(bool, bool)>
         | Command::Decide { tense, civil, .. }
         | Command::List { tense, civil, .. }
         | Command::Explain { tense, civil, .. } => Some((tense, civil)),
+        Command::Check { .. } | Command::Watch { .. } | Command::Sample { .. } => None,
+    }
+}
+
+/// How its query is planned.
+fn planning_of(command: Command<'_>) -> Option<Planning>
+    ensures { result ≡ option_map (λ asked. asked.planning) (asked_of command.entry) }
+{
+    match command {
+        Command::Ask { planning, .. }
+        | Command::Decide { planning, .. }
+        | Command::List { planning, .. }
+        | Command::Explain { planning, .. } => Some(planning),
         Command::Check { .. } | Command::Watch { .. } | Command::Sample { .. } => None,
     }
 }

@@ -11,9 +11,8 @@ ghost use Rattle.lrp_top.specs.Telling.{TellsRelations};
 ghost use Rattle.lrp_words.specs.Commands.{task_of};
 ghost use Rattle.lrp_words.specs.Ranges.{IsInRange};
 
-use crate::asking::{QuestionFiles, asked_by};
+use crate::asking::{Asked, asked_by};
 use crate::files::database_of;
-use crate::purpose::Purpose;
 use crate::question::question_of;
 use crate::sampling::sample;
 use crate::seeing::Watched;
@@ -51,7 +50,7 @@ fn carry_out<F: Shelf>(
     ensures unread { files_of (task_of command.entry) ≡ [] → shelf.new ≡ shelf.old }
 {
     match asked_by(command) {
-        Some(asked) => ask(alloc, &asked.files, &asked.purpose, shelf),
+        Some(asked) => ask(alloc, &asked, shelf),
         None => carry_out_other(alloc, command, shelf),
     }
 }
@@ -112,19 +111,16 @@ fn check<F: Shelf>(
 }
 
 /// What is told of a query over a database for a purpose.
-fn ask<F: Shelf>(
-    alloc: Global,
-    files: &QuestionFiles<'_>,
-    purpose: &Purpose<'_>,
-    shelf: &mut F,
-) -> Result<Output, Refusal>
-    requires window { HasWindow purpose.now }
-    ensures due { IsAsked files.now (is_canonical purpose.now)
-        (⟦<F as Watched>⟧.seen shelf.old shelf.new) (IsServed purpose.now) (told result) }
+fn ask<F: Shelf>(alloc: Global, asked: &Asked<'_>, shelf: &mut F) -> Result<Output, Refusal>
+    requires window { HasWindow asked.now.purpose }
+    ensures due { IsAsked asked.now.files asked.now.planning (is_canonical asked.now.purpose)
+        (⟦<F as Watched>⟧.seen shelf.old shelf.new)
+        (IsServed asked.now.planning asked.now.purpose) (told result) }
     ensures long { TellsLength (⟦<F as Watched>⟧.seen shelf.old shelf.new) (told result) }
 {
-    match question_of(alloc, files, purpose.is_canonical(), shelf) {
-        Ok(question) => serve(alloc, question, purpose),
+    let canon = asked.purpose.is_canonical();
+    match question_of(alloc, &asked.files, asked.planning, canon, shelf) {
+        Ok(question) => serve(alloc, question, &asked.purpose),
         Err(refusal) => Err(refusal),
     }
 }

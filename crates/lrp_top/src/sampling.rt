@@ -2,7 +2,7 @@
 ghost use Rattle.std.specs.Prelude.{◌≤◌, IfOk, ℕ};
 ghost use Rattle.lrp_eval.specs.Answered.{IsAnswerOf};
 ghost use Rattle.lrp_sample.specs.Trees.{sample_question, sample_relations};
-ghost use Rattle.lrp_sample_laws.specs.Plans.{IsSampleSize};
+ghost use Rattle.lrp_sample_laws.specs.Plans.{IsSampleSize, sample_steps};
 ghost use Rattle.lrp_store.specs.Least.{HasRoom};
 ghost use Rattle.lrp_top.specs.Due.{IsOutput};
 ghost use Rattle.lrp_outputs.specs.Outputs.{sample_text, told};
@@ -16,7 +16,7 @@ use crate::reading::{database_in, query_in};
 use crate::serving::{answers, least_of};
 use lrp_answers::Answer;
 use lrp_eval::whole_pages_count_answers;
-use lrp_model::Memory;
+use lrp_model::{Memory, Planning};
 use lrp_outputs::{Output, Refusal, Report};
 use lrp_sample::{Texts, sample_query_is_well_sorted, sample_texts, sample_texts_are_read};
 use lrp_sample_laws::{sample_has_few_answers, sample_has_few_cells, sample_is_within_limits};
@@ -52,10 +52,12 @@ fn question_of(alloc: Global, seed: u32, size: u32) -> Result<Question, Refusal>
     sample_is_within_limits();
     let database = database_in(alloc, database, false)?;
     let query = query_in(alloc, &database.relations, query, false)?;
-    let plan = plan_of(alloc, &database.relations, &query.query)?;
+    let planning = Planning::Written;
+    let plan = plan_of(alloc, &database.relations, &query.query, planning)?;
     Ok(Question {
         database,
         query,
+        planning,
         plan,
     })
 }
@@ -65,7 +67,8 @@ fn report_of(alloc: Global, answer: Answer, size: u32) -> Result<Report, Memory>
     requires size { IsSampleSize size }
     requires room { HasRoom answer.store }
     ensures { IfOk result (λ report. (seed cap : ℕ)
-        → IsAnswerOf (sample_relations seed size) sample_question cap answer
+        → IsAnswerOf (sample_steps seed size) (sample_relations seed size) sample_question
+        cap answer
         → TellsSample seed size (sample_text report)) }
 {
     sample_texts_are_read();

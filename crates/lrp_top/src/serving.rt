@@ -4,13 +4,14 @@ ghost use Rattle.lrp_eval.specs.Answered.{IsAnswerOf};
 ghost use Rattle.lrp_model.specs.DataTexts.{IsDomain};
 ghost use Rattle.lrp_model.specs.Formulas.{Question as Queried, question_of};
 ghost use Rattle.lrp_model.specs.Sorts.{time_count};
+ghost use Rattle.lrp_model.specs.Steps.{Steps};
 ghost use Rattle.lrp_model.specs.declared.relations.Relation.{Relation};
 ghost use Rattle.lrp_store.specs.Least.{HasRoom};
 ghost use Rattle.lrp_store.specs.Stores.{IsStore};
 ghost use Rattle.lrp_top.specs.Canonical.{IsCanonicalText};
 ghost use Rattle.lrp_top.specs.Due.{AreRowsCounted, IsAnswered, IsCounted, IsDecided, IsOutput};
 ghost use Rattle.lrp_outputs.specs.Outputs.{least_of as least_tuple, told, witness_text};
-ghost use Rattle.lrp_top.specs.Questions.{HasOneTime, HasWindow, IsReady, IsServed, database_source, done_as, is_canonical, query_source};
+ghost use Rattle.lrp_top.specs.Questions.{HasOneTime, HasWindow, IsReady, IsServed, database_source, done_as, is_canonical, query_source, question_steps};
 ghost use Rattle.lrp_outputs.specs.First.{IsFirst};
 ghost use Rattle.lrp_top.specs.Steps.{Then};
 ghost use Rattle.lrp_top.specs.Telling.{TellsWitness};
@@ -27,7 +28,6 @@ use lrp_outputs::{
     Output, Refusal, WholeAnswer, Witness, WritablePlan, small_answers_have_room,
     spots_stand_for_tuples,
 };
-use lrp_plan_laws::{plan_rises, steps_are_made};
 use lrp_theory::floors_keep_bounds;
 use std::alloc::Global;
 
@@ -36,7 +36,7 @@ pub fn serve(alloc: Global, question: Question, purpose: &Purpose<'_>) -> Result
     requires ready { IsReady question }
     requires window { HasWindow purpose.now }
     requires head { HasOneTime (is_canonical purpose.now) question.query.query.head.columns }
-    ensures served { IsServed purpose.now (database_source question.database)
+    ensures served { IsServed question.planning purpose.now (database_source question.database)
         (query_source question.query) question.plan (told result) }
 {
     match purpose {
@@ -53,10 +53,10 @@ pub fn serve(alloc: Global, question: Question, purpose: &Purpose<'_>) -> Result
 /// The answers of a question. It is refused at the first step whose formula is inhabited in more than `cap` cells.
 pub fn answers(alloc: Global, question: &Question, cap: u32) -> Result<Answer, Refusal>
     requires ready { IsReady question.now }
-    ensures counted { IsCounted question.now.database.relations
+    ensures counted { IsCounted question.now.planning question.now.database.relations
         (question_of question.now.query.query) cap (done_as result) }
-    ensures answers { IfOk result (λ made. IsAnswerOf question.now.database.relations
-        (question_of question.now.query.query) cap made) }
+    ensures answers { IfOk result (λ made. IsAnswerOf (question_steps question.now)
+        question.now.database.relations (question_of question.now.query.query) cap made) }
     ensures room { IfOk result (λ made. HasRoom made.store) }
     ensures valid { IfOk result (λ made. IsStore made.store) }
     ensures domain { IfOk result (λ made. IsDomain made.domain) }
@@ -64,8 +64,6 @@ pub fn answers(alloc: Global, question: &Question, cap: u32) -> Result<Answer, R
     match answer(alloc, &question.plan, &question.database.relations, cap) {
         Ok(answer) => {
             small_answers_have_room();
-            plan_rises();
-            steps_are_made();
             Ok(answer)
         }
         Err(EvalFault::TooManyCells { step }) => Err(Refusal::Cells { cap, step }),
@@ -82,7 +80,7 @@ fn whole_answer(
 ) -> Result<Output, Refusal>
     requires ready { IsReady question.now }
     requires head { HasOneTime canon question.now.query.query.head.columns }
-    ensures due { IsAnswered canon cap (database_source question.now.database)
+    ensures due { IsAnswered question.now.planning canon cap (database_source question.now.database)
         (query_source question.now.query) question.now.plan (told result) }
 {
     if canon {
@@ -95,12 +93,11 @@ fn whole_answer(
 /// All answers of a question, or the first step with too many cells.
 fn all_answers(alloc: Global, question: &Question, cap: u32) -> Result<Output, Refusal>
     requires ready { IsReady question.now }
-    ensures due { IsAnswered false cap (database_source question.now.database)
+    ensures due { IsAnswered question.now.planning false cap (database_source question.now.database)
         (query_source question.now.query) question.now.plan (told result) }
 {
     match answers(alloc, question, cap) {
         Ok(answer) => {
-            plan_rises();
             answers_are_texts();
             Ok(Output::Answer(WholeAnswer::new(answer)))
         }
@@ -112,7 +109,7 @@ fn all_answers(alloc: Global, question: &Question, cap: u32) -> Result<Output, R
 fn canonical_answer(alloc: Global, question: &Question, cap: u32) -> Result<Output, Refusal>
     requires ready { IsReady question.now }
     requires head { time_count question.now.query.query.head.columns ≡ 1 }
-    ensures due { IsAnswered true cap (database_source question.now.database)
+    ensures due { IsAnswered question.now.planning true cap (database_source question.now.database)
         (query_source question.now.query) question.now.plan (told result) }
 {
     match answers(alloc, question, cap) {
@@ -130,8 +127,8 @@ fn canonical_text(
 ) -> Result<Output, Refusal>
     requires ready { IsReady question.now }
     requires head { time_count question.now.query.query.head.columns ≡ 1 }
-    requires answers { IsAnswerOf question.now.database.relations
-        (question_of question.now.query.query) cap answer }
+    requires answers { IsAnswerOf (question_steps question.now)
+        question.now.database.relations (question_of question.now.query.query) cap answer }
     requires valid { IsStore answer.store }
     requires domain { IsDomain answer.domain }
     ensures due { Then (AreRowsCounted question.now.database.relations
@@ -139,8 +136,6 @@ fn canonical_text(
         (λ counted. IsOutput (IsCanonicalText question.now.database.relations
         (question_of question.now.query.query))) (told result) }
 {
-    plan_rises();
-    steps_are_made();
     floors_keep_bounds();
     answers_are_texts();
     match canonical_within(alloc, answer, cap) {
@@ -153,7 +148,7 @@ fn canonical_text(
 /// The least answer of a question, or the first step with too many cells.
 fn witness(alloc: Global, question: &Question, cap: u32) -> Result<Output, Refusal>
     requires ready { IsReady question.now }
-    ensures due { IsDecided cap (database_source question.now.database)
+    ensures due { IsDecided question.now.planning cap (database_source question.now.database)
         (query_source question.now.query) question.now.plan (told result) }
 {
     match answers(alloc, question, cap) {
@@ -165,9 +160,11 @@ fn witness(alloc: Global, question: &Question, cap: u32) -> Result<Output, Refus
 /// The least of these answers.
 pub fn least_of(answer: Answer) -> Witness
     requires room { HasRoom answer.store }
-    ensures least { (db : List Relation) (q : Queried) (cap : ℕ) → IsAnswerOf db q cap answer
+    ensures least { (planned : Steps) (db : List Relation) (q : Queried) (cap : ℕ)
+        → IsAnswerOf planned db q cap answer
         → TellsWitness db q (witness_text result) }
-    ensures first { (db : List Relation) (q : Queried) (cap : ℕ) → IsAnswerOf db q cap answer
+    ensures first { (planned : Steps) (db : List Relation) (q : Queried) (cap : ℕ)
+        → IsAnswerOf planned db q cap answer
         → IsFirst db q (least_tuple result) }
 {
     spots_stand_for_tuples();

@@ -4,21 +4,23 @@ use Rattle.std.specs.Borrow.{Bor}
 use Rattle.std.specs.Option.{option_and_then}
 use Rattle.std.specs.Str.{bytes_eq}
 use Rattle.lrp_model.specs.Texts.{Text}
+use Rattle.lrp_model.specs.declared.plans.Planning.{Planning}
+use Rattle.lrp_model.specs.declared.plans.Planning.TheVariants.{Written, Guarded}
 use Rattle.lrp_civil.specs.Minutes.{minute_by}
 use Rattle.lrp_words.specs.declared.keys.Key.{Key}
-use Rattle.lrp_words.specs.declared.keys.Key.TheVariants.{Db, Query, Edits, Cap, From, To, Limit, After, Form, Tense, Canon, Civil, Seed, Size}
+use Rattle.lrp_words.specs.declared.keys.Key.TheVariants.{Db, Query, Edits, Cap, Plan, From, To, Limit, After, Form, Tense, Canon, Civil, Seed, Size}
 use Rattle.lrp_words.specs.declared.command.Command.{Command}
 use Rattle.lrp_words.specs.declared.command.Command.TheVariants.{Ask, Decide, List as Page, Explain, Check, Watch, Sample}
 use Rattle.lrp_words.specs.Entries.{value_for, are_given}
 use Rattle.lrp_words.specs.Numbers.{natural, within, integer_up_to}
 use Rattle.lrp_model.specs.Limits.{greatest_number}
 
--- what is asked: files by their names, caps and limits, a window, a token, whether the page is in JSON, a seed and a size; and last, whether the query may have temporal operators, for `ask` whether its canonical answer is told, and whether times are civil ones
+-- what is asked: files by their names, caps and limits, a window, a token, whether the page is in JSON, how the query is planned, a seed and a size; and last, whether the query may have temporal operators, for `ask` whether its canonical answer is told, and whether times are civil ones
 pub data Task : Type 0 where
-  ask : Text → Text → ℕ → Bool → Bool → Bool → Task
-  decide : Text → Text → ℕ → Bool → Bool → Task
-  list : Text → Text → ℤ → ℤ → ℕ → Option Text → Bool → ℕ → Bool → Bool → Task
-  explain : Text → Text → Bool → Bool → Task
+  ask : Text → Text → ℕ → Planning → Bool → Bool → Bool → Task
+  decide : Text → Text → ℕ → Planning → Bool → Bool → Task
+  list : Text → Text → ℤ → ℤ → ℕ → Option Text → Bool → ℕ → Planning → Bool → Bool → Task
+  explain : Text → Text → Planning → Bool → Bool → Task
   check : Text → Bool → Task
   watch : Text → Text → Text → ℕ → Task
   sample : ℕ → ℕ → Task
@@ -30,10 +32,10 @@ after_text (Some text) = Some text.now
 
 -- what a command of the program asks; `Page` is its command `List`
 abbrev pub task_of : Command → Task
-task_of (Ask db query cap tense canon civil) = ask db.now query.now cap tense canon civil
-task_of (Decide db query cap tense civil) = decide db.now query.now cap tense civil
-task_of (Page db query from to limit after json cap tense civil) = list db.now query.now from to limit (after_text after) json cap tense civil
-task_of (Explain db query tense civil) = explain db.now query.now tense civil
+task_of (Ask db query cap planning tense canon civil) = ask db.now query.now cap planning tense canon civil
+task_of (Decide db query cap planning tense civil) = decide db.now query.now cap planning tense civil
+task_of (Page db query from to limit after json cap planning tense civil) = list db.now query.now from to limit (after_text after) json cap planning tense civil
+task_of (Explain db query planning tense civil) = explain db.now query.now planning tense civil
 task_of (Check db civil) = check db.now civil
 task_of (Watch db query edits cap) = watch db.now query.now edits.now cap
 task_of (Sample seed size) = sample seed size
@@ -79,6 +81,11 @@ abbrev pub json_of : Option Text → Option Bool
 json_of None = Some false
 json_of (Some text) = if bytes_eq text (codes "plain") then Some false else if bytes_eq text (codes "json") then Some true else None
 
+-- how a query is planned; as it is written where it is not given
+abbrev pub planning_of : Option Text → Option Planning
+planning_of None = Some Written
+planning_of (Some text) = if bytes_eq text (codes "written") then Some Written else if bytes_eq text (codes "guarded") then Some Guarded else None
+
 -- a billion cells at most, and a million by default
 abbrev pub cap_of : List Text → Option ℕ
 cap_of words = number_or 1000000 1 1000000000 (value_for Cap words)
@@ -86,6 +93,10 @@ cap_of words = number_or 1000000 1 1000000000 (value_for Cap words)
 -- a million lines at most, and a thousand by default
 abbrev pub limit_of : List Text → Option ℕ
 limit_of words = number_or 1000 1 1000000 (value_for Limit words)
+
+-- how the query is planned
+abbrev pub planning_in : List Text → Option Planning
+planning_in words = planning_of (value_for Plan words)
 
 -- the files of a database, a query and edits
 abbrev pub database_name : List Text → Option Text
@@ -113,35 +124,37 @@ civil_of words = flag_of (value_for Civil words)
 
 abbrev pub ask_of : List Text → Option Task
 ask_of words =
-    with_some (database_name words) (λ db. with_some (query_name words) (λ query. with_some (cap_of words) (λ cap.
-    with_some (tense_flag words) (λ tense. with_some (canon_of words) (λ canon. with_some (civil_of words) (λ civil. Some (ask db query cap tense canon civil)))))))
+    with_some (database_name words) (λ db. with_some (query_name words) (λ query. with_some (cap_of words) (λ cap. with_some (planning_in words) (λ planning.
+    with_some (tense_flag words) (λ tense. with_some (canon_of words) (λ canon. with_some (civil_of words) (λ civil. Some (ask db query cap planning tense canon civil))))))))
 
 abbrev pub ask_keys : List Key
-ask_keys = Db ∷ Query ∷ Cap ∷ Tense ∷ Canon ∷ Civil ∷ []
+ask_keys = Db ∷ Query ∷ Cap ∷ Plan ∷ Tense ∷ Canon ∷ Civil ∷ []
 
 abbrev pub decide_of : List Text → Option Task
 decide_of words =
-    with_some (database_name words) (λ db. with_some (query_name words) (λ query. with_some (cap_of words) (λ cap.
-    with_some (tense_flag words) (λ tense. with_some (civil_of words) (λ civil. Some (decide db query cap tense civil))))))
+    with_some (database_name words) (λ db. with_some (query_name words) (λ query. with_some (cap_of words) (λ cap. with_some (planning_in words) (λ planning.
+    with_some (tense_flag words) (λ tense. with_some (civil_of words) (λ civil. Some (decide db query cap planning tense civil)))))))
 
 abbrev pub decide_keys : List Key
-decide_keys = Db ∷ Query ∷ Cap ∷ Tense ∷ Civil ∷ []
+decide_keys = Db ∷ Query ∷ Cap ∷ Plan ∷ Tense ∷ Civil ∷ []
 
 abbrev pub list_of : List Text → Option Task
 list_of words =
     with_some (tense_flag words) (λ tense. with_some (civil_of words) (λ civil.
     with_some (database_name words) (λ db. with_some (query_name words) (λ query. with_some (end_of civil (value_for From words)) (λ from. with_some (end_of civil (value_for To words)) (λ to.
-    with_some (limit_of words) (λ limit. with_some (json_of (value_for Form words)) (λ json. with_some (cap_of words) (λ cap. Some (list db query from to limit (value_for After words) json cap tense civil))))))))))
+    with_some (limit_of words) (λ limit. with_some (json_of (value_for Form words)) (λ json. with_some (cap_of words) (λ cap.
+    with_some (planning_in words) (λ planning. Some (list db query from to limit (value_for After words) json cap planning tense civil)))))))))))
 
 abbrev pub list_keys : List Key
-list_keys = Db ∷ Query ∷ From ∷ To ∷ Limit ∷ After ∷ Form ∷ Cap ∷ Tense ∷ Civil ∷ []
+list_keys = Db ∷ Query ∷ From ∷ To ∷ Limit ∷ After ∷ Form ∷ Cap ∷ Plan ∷ Tense ∷ Civil ∷ []
 
 abbrev pub explain_of : List Text → Option Task
 explain_of words =
-    with_some (database_name words) (λ db. with_some (query_name words) (λ query. with_some (tense_flag words) (λ tense. with_some (civil_of words) (λ civil. Some (explain db query tense civil)))))
+    with_some (database_name words) (λ db. with_some (query_name words) (λ query. with_some (planning_in words) (λ planning.
+    with_some (tense_flag words) (λ tense. with_some (civil_of words) (λ civil. Some (explain db query planning tense civil))))))
 
 abbrev pub explain_keys : List Key
-explain_keys = Db ∷ Query ∷ Tense ∷ Civil ∷ []
+explain_keys = Db ∷ Query ∷ Plan ∷ Tense ∷ Civil ∷ []
 
 abbrev pub check_of : List Text → Option Task
 check_of words = with_some (database_name words) (λ db. with_some (civil_of words) (λ civil. Some (check db civil)))

@@ -4,7 +4,7 @@ use Rattle.std.specs.List.{list_all, list_any, before_first, after_first}
 use Rattle.std.specs.Str.{bytes_eq}
 use Rattle.lrp_model.specs.Texts.{Text}
 use Rattle.lrp_words.specs.declared.keys.Key.{Key}
-use Rattle.lrp_words.specs.declared.keys.Key.TheVariants.{Db, Query, Edits, Cap, From, To, Limit, After, Form, Tense, Canon, Civil, Seed, Size}
+use Rattle.lrp_words.specs.declared.keys.Key.TheVariants.{Db, Query, Edits, Cap, Plan, From, To, Limit, After, Form, Tense, Canon, Civil, Seed, Size}
 
 -- how a key is spelled
 abbrev pub key_name : Key → Text
@@ -12,6 +12,7 @@ key_name Db = codes "db"
 key_name Query = codes "query"
 key_name Edits = codes "edits"
 key_name Cap = codes "cap"
+key_name Plan = codes "plan"
 key_name From = codes "from"
 key_name To = codes "to"
 key_name Limit = codes "limit"

@@ -18,6 +18,6 @@ pub record IsEnd (civil : Bool) (x : ℤ) : Type 0 where
 
 -- the numbers of a task that has a window, a seed or a size
 abbrev pub IsInRange : Task → Type 0
-IsInRange (list database query from to limit after json cap tense civil) = IsEnd civil from × IsEnd civil to
+IsInRange (list database query from to limit after json cap planning tense civil) = IsEnd civil from × IsEnd civil to
 IsInRange (sample seed size) = (seed ≤ 1000000) × (1 ≤ size) × (size ≤ 500)
 IsInRange _ = Unit {0}

@@ -1,6 +1,6 @@
 // Words as a command: its name, and then the values of its keys.
 ghost use Rattle.std.specs.Prelude.{◌≡◌, ◌<◌, ◌≤◌, ◌^◌, [], ◌∷◌, map, string_bytes, Some, None, IfOk, IfSome, MatchResult};
-ghost use Rattle.lrp_words.specs.Commands.{ask_keys, ask_of, canon_of, cap_of, check_keys, check_of, civil_of, command, decide_keys, decide_of, end_of, explain_keys, explain_of, flag_of, file as file_by, json_of as is_json_by, limit_of, list_keys, list_of, number_in as number_by, number_or as number_or_by, over, sample_keys, sample_of, task_of, tasks_of, tense_flag, after_text, watch_keys, watch_of};
+ghost use Rattle.lrp_words.specs.Commands.{ask_keys, ask_of, canon_of, cap_of, check_keys, check_of, civil_of, command, decide_keys, decide_of, end_of, explain_keys, explain_of, flag_of, file as file_by, json_of as is_json_by, limit_of, list_keys, list_of, number_in as number_by, number_or as number_or_by, over, planning_in, sample_keys, sample_of, task_of, tasks_of, tense_flag, after_text, watch_keys, watch_of};
 ghost use Rattle.lrp_words.specs.Entries.{value_for as value_by};
 ghost use Rattle.lrp_words.specs.Ranges.{IsInRange, IsEnd};
 
@@ -9,6 +9,7 @@ use crate::entries::{are_given, value};
 use crate::keys::Key;
 use crate::numbers::{integer, within};
 use lrp_civil::minute_of;
+use lrp_model::Planning;
 
 /// The command that the words after the program's name spell, or `Usage` where they spell none.
 ///
@@ -54,6 +55,7 @@ fn ask(words: &[String]) -> Option<Command<'_>>
         Key::Db,
         Key::Query,
         Key::Cap,
+        Key::Plan,
         Key::Tense,
         Key::Canon,
         Key::Civil,
@@ -65,6 +67,7 @@ fn ask(words: &[String]) -> Option<Command<'_>>
         db: file(Key::Db, words)?,
         query: file(Key::Query, words)?,
         cap: cap(words)?,
+        planning: planning(words)?,
         tense: tense(words)?,
         canon: canon(words)?,
         civil: civil(words)?,
@@ -77,7 +80,14 @@ fn decide(words: &[String]) -> Option<Command<'_>>
     ensures range { IfSome result (λ found. IsInRange (task_of found)) }
 {
     if !are_given(
-        &[Key::Db, Key::Query, Key::Cap, Key::Tense, Key::Civil],
+        &[
+            Key::Db,
+            Key::Query,
+            Key::Cap,
+            Key::Plan,
+            Key::Tense,
+            Key::Civil,
+        ],
         words,
     ) {
         return None;
@@ -86,6 +96,7 @@ fn decide(words: &[String]) -> Option<Command<'_>>
         db: file(Key::Db, words)?,
         query: file(Key::Query, words)?,
         cap: cap(words)?,
+        planning: planning(words)?,
         tense: tense(words)?,
         civil: civil(words)?,
     })
@@ -105,6 +116,7 @@ fn list(words: &[String]) -> Option<Command<'_>>
         Key::After,
         Key::Form,
         Key::Cap,
+        Key::Plan,
         Key::Tense,
         Key::Civil,
     ];
@@ -122,6 +134,7 @@ fn list(words: &[String]) -> Option<Command<'_>>
         after: value(Key::After, words),
         json: is_json(words)?,
         cap: cap(words)?,
+        planning: planning(words)?,
         tense,
         civil,
     })
@@ -132,12 +145,16 @@ fn explain(words: &[String]) -> Option<Command<'_>>
         (explain_of (map string_bytes words.now)) }
     ensures range { IfSome result (λ found. IsInRange (task_of found)) }
 {
-    if !are_given(&[Key::Db, Key::Query, Key::Tense, Key::Civil], words) {
+    if !are_given(
+        &[Key::Db, Key::Query, Key::Plan, Key::Tense, Key::Civil],
+        words,
+    ) {
         return None;
     }
     Some(Command::Explain {
         db: file(Key::Db, words)?,
         query: file(Key::Query, words)?,
+        planning: planning(words)?,
         tense: tense(words)?,
         civil: civil(words)?,
     })
@@ -239,6 +256,18 @@ fn end(key: Key, civil: bool, words: &[String]) -> Option<i64>
         minute_of(text)
     } else {
         integer(text)
+    }
+}
+
+/// How the query is planned.
+fn planning(words: &[String]) -> Option<Planning>
+    ensures { result ≡ planning_in (map string_bytes words.now) }
+{
+    match value(Key::Plan, words) {
+        None => Some(Planning::Written),
+        Some("written") => Some(Planning::Written),
+        Some("guarded") => Some(Planning::Guarded),
+        Some(_) => None,
     }
 }
 

@@ -37,7 +37,7 @@ returns-in-Ok c =
     let p = c.args.paging.now in
     let spelled : c.digest-files.result ≡ files_digest question.database.bytes question.query.bytes = c.digest-files.ensures ∙ ap₂ files_digest c.as_slice.ensures c.as_slice-2.ensures in
     let Next : List ℕ → Option Tuple → Outcome → Type 0 = λ files tuple.
-    Then (IsCounted question.database.relations (question_of question.query.query) p.cap) (λ done. IsOutput (TellsPage question.database.relations (question_of question.query.query) p.from p.to tuple p.limit p.civil p.json files)) in
+    Then (IsCounted question.planning question.database.relations (question_of question.query.query) p.cap) (λ done. IsOutput (TellsPage question.database.relations (question_of question.query.query) p.from p.to tuple p.limit p.civil p.json files)) in
     record {
       page = record {
         first = resumed_as head (Ok c.in-Ok.after);

@@ -5,6 +5,7 @@ use Rattle.lrp_model.specs.Formulas.{question_of}
 use Rattle.lrp_model.specs.Rows.{Tuple}
 use Rattle.lrp_model.specs.declared.relations.Column.{Column}
 use Rattle.std.specs.Prelude.{List, Option}
+use Rattle.lrp_top.specs.Questions.{question_steps}
 use Rattle.lrp_top.proofs.Listed.{some_shape, told_page}
 use Rattle.lrp_top.proofs.listing.page_behind.Goals as goal
 
@@ -20,7 +21,7 @@ returns-in-Ok-page_of c =
       page = record {
         first = Ok tt;
         is = c.in-Ok.ensures.counted;
-        next = told_page question.database.relations (question_of question.query.query) p.cap c.in-Ok.answer p.from p.to begins p.limit p.civil p.json c.args.files c.in-Ok-page_of.page
+        next = told_page (question_steps question) question.database.relations (question_of question.query.query) p.cap c.in-Ok.answer p.from p.to begins p.limit p.civil p.json c.args.files c.in-Ok-page_of.page
             c.in-Ok.ensures.answers c.in-Ok-page_of.ensures.answer c.in-Ok-page_of.ensures.civil c.in-Ok-page_of.ensures.form c.in-Ok-page_of.ensures.files c.in-Ok-page_of.ensures.page;
       };
     }

@@ -1,5 +1,5 @@
 -- Both texts are read, and the plan is within the limits.
-use Rattle.std.proofs.Common.{◌≡◌, sym, ◌∙◌, subst}
+use Rattle.std.proofs.Common.{◌≡◌, refl, sym, ◌∙◌, subst}
 use Rattle.std.proofs.lemmas.Result.{err_from_is_err_and}
 use Rattle.lrp_model.specs.DatabaseReading.{IsDatabase}
 use Rattle.lrp_model.specs.Formulas.{question_of}
@@ -44,6 +44,7 @@ returns c =
       ready = record {
         planned = record {
           settled = fit.settled;
+          sound = c.in_ok-plan.ensures.sound;
           points = fit.points;
           is = c.in_ok-plan.ensures.planned.0;
           period = c.in_ok-plan.ensures.planned.1.period;
@@ -52,6 +53,7 @@ returns c =
         writable = c.in_ok-plan.ensures.writable;
         head = fit.head;
       };
+      planning = refl;
       relations = read;
       query = asked;
     }

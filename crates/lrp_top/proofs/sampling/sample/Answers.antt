@@ -11,7 +11,7 @@ returns-in_err-answer c =
     let is = c.in_ok-question.ensures in
     let p = err_from_is_err_and c.from_residual-in_err-answer.result c.from_residual-in_err-answer.ensures.1 in
     rw (p.1, p.2) (output_memory (TellsSample c.args.seed c.args.size) c.in_err-answer.field-0.0
-    (sample_counted c.args.seed c.args.size question.database.relations (question_of question.query.query) is.relations is.query 1000000 c.in_err-answer.field-0.0
+    (sample_counted c.args.seed c.args.size question.database.relations (question_of question.query.query) is.relations is.query question.planning is.planning 1000000 c.in_err-answer.field-0.0
     (c.sample_has_few_cells.ensures.default c.args.seed c.args.size c.requires.size) c.in_err-answer.ensures.counted))
 
 pub returns-in_err-report : goal.returns-in_err-report
@@ -23,4 +23,4 @@ pub returns : goal.returns
 returns c =
     let question = c.in_ok-question.question in
     let is = c.in_ok-question.ensures in
-    c.in_ok-report.ensures c.args.seed 1000000 (sample_answered c.args.seed c.args.size question.database.relations (question_of question.query.query) is.relations is.query 1000000 c.in_ok-answer.answer c.in_ok-answer.ensures.answers)
+    c.in_ok-report.ensures c.args.seed 1000000 (sample_answered c.args.seed c.args.size question.database.relations (question_of question.query.query) is.relations is.query question.planning is.planning 1000000 c.in_ok-answer.answer c.in_ok-answer.ensures.answers)

@@ -3,6 +3,7 @@ use Rattle.std.proofs.Common.{Ok, Err, refl, subst, sym}
 use Rattle.lrp_model.specs.AnswerTexts.{IsAnswerText, IsAnswerTextOf}
 use Rattle.lrp_model.specs.Formulas.{question_of}
 use Rattle.lrp_answer_text.specs.AnswerText.{answer_text}
+use Rattle.lrp_top.specs.Questions.{question_steps}
 use Rattle.lrp_top.proofs.Answered.{period_of}
 use Rattle.lrp_top.proofs.serving.all_answers.Goals as goal
 
@@ -15,7 +16,7 @@ returns-in-Ok c =
       due = record {
         first = Ok tt;
         is = c.in-Ok.ensures.counted;
-        next = subst (λ a. IsAnswerText db q (answer_text a)) (sym c.new.ensures) (subst (λ k. IsAnswerTextOf k db q (answer_text c.in-Ok.answer)) (period_of db q c.args.cap c.in-Ok.answer answered (c.plan_rises.ensures.last db q)) (c.answers_are_texts.ensures db q c.in-Ok.answer (record {
+        next = subst (λ a. IsAnswerText db q (answer_text a)) (sym c.new.ensures) (subst (λ k. IsAnswerTextOf k db q (answer_text c.in-Ok.answer)) (period_of (question_steps c.args.question.now) db q c.args.cap c.in-Ok.answer answered c.requires.ready.planned.sound.period) (c.answers_are_texts.ensures db q c.in-Ok.answer (record {
           store = c.in-Ok.ensures.valid;
           ascends = c.in-Ok.ensures.domain.ascends;
           head = answered.head;

@@ -13,6 +13,7 @@ use Rattle.lrp_store.specs.Stores.{zone_count}
 use Rattle.lrp_canon.specs.Canonical.{HasCanonicalZones as HasStoredRows, HasMoreRows, IsCanonicalOf}
 use Rattle.lrp_canon.specs.Answers.{HasNumber}
 use Rattle.lrp_outputs.specs.declared.refusal.Refusal.TheVariants.{CanonRows, Memory}
+use Rattle.lrp_top.specs.Questions.{question_steps}
 use Rattle.lrp_top.proofs.Answered.{can_be_canonical, last_wide, one_column}
 use Rattle.lrp_top.proofs.CanonSets.{count_named, period_named, same_sets}
 use Rattle.lrp_top.proofs.CanonTuples.{answers_moved, numbered}
@@ -22,9 +23,9 @@ pub canonical_within-requires : goal.canonical_within-requires
 canonical_within-requires c =
     let db = c.args.question.now.database.relations in
     let q = question_of c.args.question.now.query.query in
+    let steps = question_steps c.args.question.now in
     let planned = c.requires.ready.planned in
-    can_be_canonical db q c.args.cap c.args.answer c.requires.answers planned.reach
-    (last_wide db q _ (c.plan_rises.ensures.steps db q planned.settled.elements planned.settled.periods) (c.steps_are_made.ensures.last db q)) c.requires.head
+    can_be_canonical steps db q c.args.cap c.args.answer c.requires.answers planned.reach (last_wide steps db q planned.sound) c.requires.head
 
 pub new-requires : goal.new-requires
 new-requires c =
@@ -42,10 +43,10 @@ returns-in-Ok-Some c =
     let domain : made.domain ≡ a.domain = subst (λ found. IfSome found (λ new. new.domain ≡ a.domain)) c.in-Ok-Some.field-0-is c.in-Ok-Some.ensures.domain in
     let counted : HasStoredRows a.store (zone_count made.store) = subst (λ found. IfSome found (λ new. HasStoredRows a.store (zone_count new.store))) c.in-Ok-Some.field-0-is c.in-Ok-Some.ensures.counted in
     let few : zone_count made.store ≤ c.args.cap = subst (λ found. IfSome found (λ new. zone_count new.store ≤ c.args.cap)) c.in-Ok-Some.field-0-is c.in-Ok-Some.ensures.few in
-    let one = one_column db q c.args.cap a c.requires.answers c.requires.head in
+    let one = one_column (question_steps c.args.question.now) db q c.args.cap a c.requires.answers c.requires.head in
     let same = same_sets (HoldsNumber made.store) (HoldsNumber a.store) (λ x ns h. is.same.sound _ ns h) (λ x ns h. is.same.whole _ ns h) in
     let least = period_named (HoldsNumber made.store) (HoldsNumber a.store) same made.store.period is.canonical.period in
-    let sets = numbered db q c.args.cap a c.requires.answers c.requires.valid c.requires.domain.ascends one in
+    let sets = numbered (question_steps c.args.question.now) db q c.args.cap a c.requires.answers c.requires.valid c.requires.domain.ascends one in
     record {
       due = record {
         first = Ok tt;
@@ -58,7 +59,7 @@ returns-in-Ok-Some c =
             store = is.canonical.valid;
             ascends = subst Ascends (sym domain) c.requires.domain.ascends;
             head = ap (λ h. h.columns) head ∙ c.requires.answers.head;
-            answers = answers_moved db q c.args.cap a c.requires.answers made head domain is.same;
+            answers = answers_moved (question_steps c.args.question.now) db q c.args.cap a c.requires.answers made head domain is.same;
             settled = is.canonical.settled;
             room = is.room;
             texts = subst (AllByRecursion IsDataText) (sym domain) c.requires.domain.whole;
@@ -73,12 +74,12 @@ returns-in-Ok-None c =
     let db = c.args.question.now.database.relations in
     let q = question_of c.args.question.now.query.query in
     let a = c.args.answer in
-    let one = one_column db q c.args.cap a c.requires.answers c.requires.head in
+    let one = one_column (question_steps c.args.question.now) db q c.args.cap a c.requires.answers c.requires.head in
     let more : HasMoreRows a.store c.args.cap = subst (λ found. IfNone found (HasMoreRows a.store c.args.cap)) c.in-Ok-None.field-0-is c.in-Ok-None.ensures.none in
     record {
       due = record {
         first = Err (CanonRows c.args.cap);
-        is = (refl, (more.0, count_named (HoldsNumber a.store) (HasNumber db q) (numbered db q c.args.cap a c.requires.answers c.requires.valid c.requires.domain.ascends one) c.floors_keep_bounds.ensures.some more.0 more.2.rows, more.1));
+        is = (refl, (more.0, count_named (HoldsNumber a.store) (HasNumber db q) (numbered (question_steps c.args.question.now) db q c.args.cap a c.requires.answers c.requires.valid c.requires.domain.ascends one) c.floors_keep_bounds.ensures.some more.0 more.2.rows, more.1));
         next = refl;
       };
     }

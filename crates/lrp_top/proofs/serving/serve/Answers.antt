@@ -6,15 +6,15 @@ use Rattle.lrp_top.proofs.serving.serve.Goals as goal
 
 pub returns-in-Answer : goal.returns-in-Answer
 returns-in-Answer c = record {
-  served = subst (λ p. IsServed p (database_source c.args.question.database) (query_source c.args.question.query) c.args.question.plan (told c.whole_answer.result)) (sym c.in-Answer.is) c.whole_answer.ensures.due;
+  served = subst (λ p. IsServed c.args.question.planning p (database_source c.args.question.database) (query_source c.args.question.query) c.args.question.plan (told c.whole_answer.result)) (sym c.in-Answer.is) c.whole_answer.ensures.due;
 }
 
 pub returns-in-Witness : goal.returns-in-Witness
 returns-in-Witness c = record {
-  served = subst (λ p. IsServed p (database_source c.args.question.database) (query_source c.args.question.query) c.args.question.plan (told c.witness.result)) (sym c.in-Witness.is) c.witness.ensures.due;
+  served = subst (λ p. IsServed c.args.question.planning p (database_source c.args.question.database) (query_source c.args.question.query) c.args.question.plan (told c.witness.result)) (sym c.in-Witness.is) c.witness.ensures.due;
 }
 
 pub returns-in-Page : goal.returns-in-Page
 returns-in-Page c = record {
-  served = subst (λ p. IsServed p (database_source c.args.question.database) (query_source c.args.question.query) c.args.question.plan (told c.page.result)) (sym c.in-Page.is) c.page.ensures.page;
+  served = subst (λ p. IsServed c.args.question.planning p (database_source c.args.question.database) (query_source c.args.question.query) c.args.question.plan (told c.page.result)) (sym c.in-Page.is) c.page.ensures.page;
 }
