@@ -87,7 +87,7 @@ def has_one(query):
 
 
 def canonical(program, case):
-    """The canonical text, also of the query's double negation; or the refusal of another head."""
+    """The canonical text, also of the query's double negation and under guards; or the refusal of another head."""
     words = ["ask", "canon=yes", *case.keys("ask")]
     if not has_one(case.parsed):
         program.expect(NEEDS_ONE, 4, *words, **case.files)
@@ -97,6 +97,8 @@ def canonical(program, case):
     program.expect(wanted, 0, *words, **case.files)
     twice_not = case.query.replace(b"|", b"| not not ", 1)
     program.expect(wanted, 0, *words, database=case.database, query=twice_not)
+    guarded = [*(word for word in words if not word.startswith("plan=")), "plan=guarded"]
+    program.expect(wanted, 0, *guarded, **case.files)
 
 
 def canonical_cap(program, case):

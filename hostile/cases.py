@@ -8,6 +8,7 @@ import civil
 from answers import answer_fault
 from canon import NEEDS_ONE, canonical_rows, canonical_text, has_one
 from common import EXAMPLES, digest
+from guarded import GuardedPlan
 from language import Fault, read_database, relation_text
 from meaning import Meaning, TooHard
 from opinion import page, plain
@@ -79,7 +80,8 @@ class Judge:
             return 4, ("refused: query %s\n" % fault).encode()
         if self.is_canon and not has_one(parsed):
             return 4, NEEDS_ONE
-        plan = Plan(relations, plain, self.budget)
+        planner = GuardedPlan if self.keys.get("plan") == "guarded" else Plan
+        plan = planner(relations, plain, self.budget)
         return self.planned(plan, Meaning(relations, parsed, self.budget), digest(database, query), text)
 
     def watched(self):

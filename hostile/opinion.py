@@ -5,6 +5,7 @@ import random
 import civil
 from answers import answer_fault
 from common import digest, token
+from guarded import GuardedPlan
 from invent import Inventor
 from language import quoted, read_database, relation_text
 from meaning import Meaning, TooHard
@@ -45,10 +46,11 @@ def split(answer):
 class Case:
     """One random database and query, with what the program has to answer."""
 
-    def __init__(self, seed, budget, is_civil=False, is_tense=False, times=None):
+    def __init__(self, seed, budget, is_civil=False, is_tense=False, times=None, is_guarded=False):
         kinds = "civil " * is_civil + "tense " * is_tense + ("" if times is None else "times %d " % times)
+        kinds += "guarded " * is_guarded
         self.chance = random.Random("%s%d" % (kinds, seed))
-        self.is_civil, self.is_tense = is_civil, is_tense
+        self.is_civil, self.is_tense, self.is_guarded = is_civil, is_tense, is_guarded
         inventor = Inventor(self.chance, is_civil, is_tense)
         self.database, self.query = inventor.database().encode(), inventor.query(times).encode()
         self.relations = read_database(civil.plain_text(self.database) if is_civil else self.database)
@@ -59,13 +61,21 @@ class Case:
     def meaning(self):
         return Meaning(self.relations, self.parsed, self.budget)
 
+    def plan(self, relations=None, query=None, budget=0):
+        """The plan of this case, or of these relations and this query in its place."""
+        planner = GuardedPlan if self.is_guarded else Plan
+        return planner(relations or self.relations, query or self.plain, budget)
+
+    def plan_keys(self):
+        return ["plan=guarded"] if self.is_guarded else self.chance.choice(([], ["plan=written"]))
+
     def keys(self, command):
         """The keys of a run. Where no civil value stands, civil=yes changes only how a page shows its times; where no
         operator stands, tense=yes changes nothing."""
         wider = [] if command == "list" else ["civil=yes"]
         civil_keys = ["civil=yes"] if self.is_civil else self.chance.choice(([], [], ["civil=no"], wider))
         tense_keys = ["tense=yes"] if self.is_tense else self.chance.choice(([], ["tense=no"], ["tense=yes"]))
-        return civil_keys + (tense_keys if command != "check" else [])
+        return civil_keys + (tense_keys + self.plan_keys() if command != "check" else [])
 
     def ends(self, start, end):
         show = civil.as_end if self.is_civil else str
@@ -130,7 +140,7 @@ def far_from_zero(case):
     while True:
         database, query = database_text(case.relations, by).encode(), query_text(case.parsed, by).encode()
         relations = read_database(database)
-        if not Plan(relations, read_tense(query, relations, case.is_tense)[1]).refusal():
+        if not case.plan(relations, read_tense(query, relations, case.is_tense)[1]).refusal():
             return by, {"database": database, "query": query}
         by = by // 2
 
@@ -151,12 +161,13 @@ def moved(program, case):
         "to=%d" % (end + by),
         "limit=1000000",
         *(["tense=yes"] if case.is_tense else []),
+        *case.plan_keys(),
         **files,
     )
 
 
 def explain(program, case):
-    plan = Plan(case.relations, case.plain)
+    plan = case.plan()
     refused = plan.refusal()
     program.expect(
         (refused or plan.text()).encode(), 5 if refused else 0, "explain", *case.keys("explain"), **case.files
@@ -165,7 +176,7 @@ def explain(program, case):
 
 def cap(program, case):
     """The cap at the greatest number of cells, and one below: then the first step with as many is named."""
-    plan = Plan(case.relations, case.plain, case.budget)
+    plan = case.plan(budget=case.budget)
     cells = [plan.cells(number) for number in range(1, len(plan.steps) + 1)]
     most = max(cells)
     keys = case.keys("decide")
@@ -242,3 +253,10 @@ def civil_opinion(program, tally, seeds, budget):
         (Case(seed, budget, is_civil=True) for seed in seeds),
         [check, explain, decide, listing, cap, ask],
     )
+
+
+def guarded_opinion(program, tally, seeds, budget):
+    """Plans under guards, and what they answer: the same as the written ones do, with their own caps."""
+    kinds = (False, False, True)
+    cases = (Case(seed, budget, is_tense=kinds[seed % 3], is_guarded=True) for seed in seeds)
+    compare(program, tally, cases, [explain, decide, listing, cap, ask, moved])

@@ -17,10 +17,10 @@ REQUIRED = {
     "watch": {"db", "query", "edits"},
 }
 FURTHER = {
-    "ask": {"cap", "civil", "tense", "canon"},
-    "decide": {"cap", "civil", "tense"},
-    "list": {"limit", "after", "form", "cap", "civil", "tense"},
-    "explain": {"civil", "tense"},
+    "ask": {"cap", "civil", "tense", "canon", "plan"},
+    "decide": {"cap", "civil", "tense", "plan"},
+    "list": {"limit", "after", "form", "cap", "civil", "tense", "plan"},
+    "explain": {"civil", "tense", "plan"},
     "check": {"civil"},
     "sample": set(),
     "watch": {"cap"},
@@ -33,7 +33,13 @@ RANGES = {
     "from": (-(2**62), 2**62),
     "to": (-(2**62), 2**62),
 }
-CHOICES = {"form": ("plain", "json"), "civil": ("yes", "no"), "tense": ("yes", "no"), "canon": ("yes", "no")}
+CHOICES = {
+    "form": ("plain", "json"),
+    "civil": ("yes", "no"),
+    "tense": ("yes", "no"),
+    "canon": ("yes", "no"),
+    "plan": ("written", "guarded"),
+}
 VALUES = (
     "",
     "none",
@@ -58,6 +64,8 @@ VALUES = (
     "18446744073709551617",
     "plain",
     "json",
+    "written",
+    "guarded",
     "Plain",
     "yes",
     "no",
@@ -133,9 +141,11 @@ def random_words(chance):
                             "size",
                             "after",
                             "from",
+                            "plan",
                             "civil",
                             "tense",
                             "canon",
+                            "plan",
                             "x",
                             "Db",
                             "db ",
