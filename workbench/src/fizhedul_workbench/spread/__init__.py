@@ -1,0 +1,1 @@
+"""Many questions, or one over many windows, on many processors and machines."""
