@@ -1,7 +1,6 @@
 """The documents: each command that they show writes what stands under it, and each file that they show is as shown."""
 
 import re
-import shutil
 import tempfile
 import unittest
 from collections.abc import Iterable
@@ -108,6 +107,12 @@ class Mistakes(unittest.TestCase):
 class Scale(unittest.TestCase):
     """How work is spread."""
 
+    def setUp(self):
+        for name in ("answers", "silence", "conflicts"):
+            for path in (Path("/tmp", name), Path("/tmp", f"{name}.how")):
+                path.unlink(missing_ok=True)
+                self.addCleanup(path.unlink, missing_ok=True)
+
     def test_each_command_writes_what_is_shown(self):
         need("parallel", "GNU parallel")
         lines = [each for _, block in blocks_of(TOP / "docs/scale.md") for each in commands_of(block)]
@@ -116,21 +121,16 @@ class Scale(unittest.TestCase):
             with self.subTest(line):
                 self.assertEqual(shell(line, TOP / "examples/passes").out, wanted)
 
-    def test_the_counts_shown_are_counted_again(self):
-        counted = passes()
-        self.assertEqual(counted["silence"].count("\n") - 1, 48 // 3)
-        self.assertEqual(counted["conflicts"].count("\n") - 1, 9 // 3)
+    def test_what_is_shown_is_counted_again(self):
+        counted, page = passes(), (TOP / "docs/scale.md").read_text()
+        # The passes repeat by the day, so the last lines of three days are those of the first one, two days later.
+        silence, conflicts = (counted[name].splitlines()[:-1] for name in ("silence", "conflicts"))
+        self.assertIn(f"wc -l </tmp/silence\n    {3 * len(silence) + 1}\n", page)
+        self.assertIn(f"\n    {int(silence[-1]) + 2880}\n    end\n", page)
+        rise, over, names = conflicts[-1].split(", ", 2)
+        self.assertIn(f"\n    {int(rise) + 2880}, {int(over) + 2880}, {names}\n    end\n", page)
         self.assertEqual(counted["nearest_silence"], "Nonempty\n24\n")
         self.assertEqual(counted["seen"], "Empty\n")
-
-    def test_the_array_is_a_script_of_shell(self):
-        block = next(block for _, block in blocks_of(TOP / "docs/scale.md") if block.startswith("#!"))
-        with tempfile.TemporaryDirectory() as name:
-            for file in ("sky.lrp", "silence.lrq"):
-                shutil.copy(TOP / "examples/passes" / file, name)
-            Path(name, "day.sh").write_text(block)
-            self.assertEqual(shell("bash day.sh", Path(name), SLURM_ARRAY_TASK_ID="0").status, 0)
-            self.assertEqual(Path(name, "day-0").read_text(), passes()["silence"])
 
 
 class Definitions(unittest.TestCase):

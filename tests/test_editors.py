@@ -191,6 +191,33 @@ class Editors(unittest.TestCase):
                            check=False, timeout=60, env=environment(HOME=name, PATH=f"{name}:/usr/bin:/bin"))
             self.assertEqual(said.read_text(), "8 3 Arity\n")
 
+    def vim(self, file: Path, *commands: str) -> list[str]:
+        """What Vim, with its own plugins and with the folder where its page says, writes at the end of some commands."""
+        vim = need("vim", "+syntax")
+        with tempfile.TemporaryDirectory() as name:
+            home = Path(name)
+            package = home / ".vim/pack/fizhedul/start"
+            package.mkdir(parents=True)
+            (package / "fizhedul").symlink_to(TOP / "editors/vim")
+            (home / "fizhedul").symlink_to(TOP / "fizhedul")
+            words = [each for command in ("filetype plugin on", "edit", *commands, "qa!") for each in ("-c", command)]
+            subprocess.run([vim, "-es", "-N", "-u", "NORC", "-i", "NONE", *words, file], stdin=subprocess.DEVNULL, cwd=home,
+                           capture_output=True, check=False, timeout=60, env=environment(HOME=name, PATH=f"{name}:/usr/bin:/bin"))
+            return (home / "said").read_text().splitlines() if (home / "said").exists() else []
+
+    def test_vim_with_its_plugins_opens_a_database_as_a_text(self):
+        file = TOP / "examples/bus/bus.lrp"
+        said = self.vim(file, "call writefile([&filetype] + getline(1, '$'), 'said')")
+        self.assertEqual(said, ["fizhedul", *file.read_text().splitlines()])
+
+    def test_make_explains_a_query_and_leaves_edits_alone(self):
+        faults = "call writefile(map(getqflist(), {_, it -> it.lnum . ' ' . it.text}), 'said')"
+        self.assertEqual(self.vim(TOP / "examples/bus/misspelt.lrq", "silent make", faults), ["1 UnknownRelation"])
+        said = self.vim(TOP / "examples/guide/hourly.lrq", "let b:fizhedul_database = 'none.lrp'", "edit", "silent make", faults)
+        self.assertEqual(said, ["0 refused: read of database"])
+        wanted = self.vim(TOP / "README.md", "call writefile([&makeprg], 'said')")
+        self.assertEqual(self.vim(TOP / "examples/guide/changes.lre", "call writefile([&makeprg], 'said')"), wanted)
+
     def test_visual_studio_code(self):
         folder = TOP / "editors/vscode"
         grammar = json.loads((folder / "syntaxes/fizhedul.tmLanguage.json").read_text())

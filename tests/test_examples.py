@@ -1,11 +1,15 @@
 """The answers that the planning examples expect are those that a second count gives."""
 
+import subprocess
+import tempfile
 import unittest
+from pathlib import Path
 
 from recounts import EXAMPLES
 from recounts import FOLDERS as BY_NUMBERS
 from recounts import RULES
 from recounts_by_dates import dates
+from support import environment, fake
 
 PROBLEMS = {**BY_NUMBERS, "dates": dates}
 FOLDERS = {**PROBLEMS, **RULES}
@@ -39,6 +43,26 @@ class Examples(unittest.TestCase):
             page = (EXAMPLES / folder / "README.md").read_text()
             for query in (EXAMPLES / folder).glob("*.lrq"):
                 self.assertIn(query.name, page, folder)
+
+
+class Check(unittest.TestCase):
+    """`examples/check`."""
+
+    def call(self, program: str | Path) -> subprocess.CompletedProcess[str]:
+        """Runs it with a program."""
+        return subprocess.run([EXAMPLES / "check"], stdin=subprocess.DEVNULL, capture_output=True, text=True, check=False,
+                              env=environment(FIZHEDUL_PROGRAM=str(program)), timeout=120)
+
+    def test_without_a_program_it_stops_at_once(self):
+        done = self.call("/nowhere/program")
+        self.assertEqual((done.returncode, done.stdout), (1, ""))
+        self.assertIn("there is no program at /nowhere/program", done.stderr)
+
+    def test_it_runs_the_program_that_is_named(self):
+        with tempfile.TemporaryDirectory() as name:
+            done = self.call(fake(Path(name), "echo other\n"))
+            self.assertEqual(done.returncode, 1)
+            self.assertRegex(done.stdout, r"(?m)^0 passed, [1-9]\d* failed$")
 
 
 if __name__ == "__main__":

@@ -8,7 +8,7 @@ import tomllib
 import unittest
 from pathlib import Path
 
-from support import LAUNCHER, TOP, run, shell
+from support import LAUNCHER, PROGRAM, TOP, fake, run, shell
 from table import read_table
 
 PAGES = sorted((TOP / "share/help").glob("*.txt"))
@@ -115,12 +115,35 @@ class Help(unittest.TestCase):
 class Version(unittest.TestCase):
     """One version for all that shows one."""
 
-    def test_version_commit_and_toolchain(self):
+    def test_version_commit_toolchain_and_program(self):
         lines = run("--version").out.splitlines()
-        self.assertEqual(lines[0], "fizhedul " + (TOP / "share/version").read_text().strip())
-        self.assertRegex(lines[1], r"^commit ([0-9a-f]{12}|unknown)$")
+        self.assertRegex(lines[0], rf"^fizhedul {re.escape((TOP / 'share/version').read_text().strip())}(-dev)?$")
+        self.assertRegex(lines[1], r"^commit ([0-9a-f]{12}(, with changes)?|unknown)$")
         self.assertEqual(lines[2], "toolchain " + (TOP / "share/toolchain").read_text().strip())
-        self.assertEqual(len(lines), 3)
+        self.assertEqual(lines[3:], [f"program {PROGRAM}, which FIZHEDUL_PROGRAM names"])
+
+    def test_a_working_copy_is_told_from_a_version(self):
+        with tempfile.TemporaryDirectory() as name:
+            folder = Path(name)
+            shutil.copy(LAUNCHER, folder)
+            shutil.copytree(TOP / "share", folder / "share")
+            (folder / "share/version").write_text("7.8.9\n")
+            (folder / "crates").mkdir()
+
+            def told() -> tuple[str, str, str]:
+                number, commit, _, program = shell("./fizhedul --version", folder, FIZHEDUL_PROGRAM="").out.splitlines()
+                return number, commit[19:], program
+
+            def git(line: str) -> None:
+                shell(f"git -c user.name=a -c user.email=b@c {line}", folder)
+
+            self.assertEqual(told()[0], "fizhedul 7.8.9")
+            git("init -q && git add . ; git -c user.name=a -c user.email=b@c commit -qm one")
+            self.assertEqual(told(), ("fizhedul 7.8.9-dev", "", "program not built yet"))
+            git("tag v7.8.9")
+            self.assertEqual(told()[:2], ("fizhedul 7.8.9", ""))
+            (folder / "more").touch()
+            self.assertEqual(told()[:2], ("fizhedul 7.8.9-dev", ", with changes"))
 
     def test_the_toolchain_is_that_of_the_readme(self):
         self.assertIn((TOP / "share/toolchain").read_text().strip(), (TOP / "README.md").read_text())
@@ -196,6 +219,72 @@ printf '#!/bin/sh\\necho ran\\n' >{out}/lrp_main; chmod +x {out}/lrp_main
             self.assertEqual(call(), (0, "ran\n", "built\n"))
             tool.write_text("#!/bin/sh\necho 'fizhedul: there is no space' >&2\nexit 70\n")
             self.assertEqual(call(), (70, "", "fizhedul: there is no space\n"))
+
+    def test_a_query_may_stand_in_the_words(self):
+        for query in ("{ t: time | bus(t) }", " { t: time | bus(t) }"):
+            said = run("ask", "db=examples/bus/bus.lrp", f"query={query}")
+            self.assertEqual((said.status, said.out, said.err), (0, "relation answer(t: time) {\n  (5+60n);\n}\n", ""))
+        said = run("ask", "db=examples/bus/bus.lrp", "query={ t: time | buss(t) }", explain="always")
+        self.assertEqual((said.status, said.out), (4, "refused: query UnknownRelation at 1:13\n"))
+        self.assertTrue(said.err.startswith("query:1:13\n  { t: time | buss(t) }\n              ^~~~\n"), said.err)
+
+    def test_a_query_may_stand_in_the_words_of_the_workbench(self):
+        said = shell("fizhedul export csv db=- query='{ t: time | bus(t) }' from=0 to=100 <examples/bus/bus.lrp")
+        self.assertEqual((said.status, said.out, said.err), (0, "t: time\n5\n65\n", ""))
+        line = "fizhedul export csv db=examples/bus/bus.lrp query='{ t: time | bus(t) and bus(t) }' from=0 to=100"
+        self.assertEqual(shell(line).err, "refused: query Syntax at 1:20\n")
+        self.assertIn("\nquery:1:20\n", shell(line, explain="always").err)
+        self.assertIn("\nA list stands in parentheses: (F and G).\n", shell(line, explain="always").err)
+
+    def test_a_minus_is_standard_input(self):
+        with tempfile.TemporaryDirectory() as name:
+            folder = Path(name)
+            (folder / "a.lrp").write_text("relation bus(t: time) { (5+60n); }")
+            (folder / "b.lrq").write_text("{ t: time | bus(t) }")
+            (folder / "c.lre").write_text("- bus (5+60n);")
+            wanted = run("watch", "db=a.lrp", "query=b.lrq", "edits=c.lre", folder=folder).out
+            self.assertEqual(wanted, "5\nnone\n")
+            for words in ("db=- query=b.lrq edits=c.lre <a.lrp", "db=a.lrp query=- edits=c.lre <b.lrq",
+                          "db=a.lrp query=b.lrq edits=- <c.lre", "db=a.lrp query=- edits=c.lre < <(cat b.lrq)"):
+                self.assertEqual(shell(f"fizhedul watch {words}", folder).out, wanted, words)
+            said = shell("fizhedul ask db=- query=- <a.lrp", folder)
+            self.assertEqual((said.status, said.out), (2, ""))
+            self.assertIn("'query=-' is the second one", said.err)
+            said = shell("echo 'relation bus(' | fizhedul check db=-", folder, "always")
+            self.assertTrue(said.err.startswith("db:2:1\n"), said.err)
+
+    def test_nothing_is_left_of_texts_in_the_words(self):
+        with tempfile.TemporaryDirectory() as name:
+            run("ask", "db=examples/bus/bus.lrp", "query={ t: time | bus(t) }", TMPDIR=name)
+            run("ask", "db=examples/bus/bus.lrp", "query={ t: time | bs(t) }", explain="always", TMPDIR=name)
+            self.assertEqual(list(Path(name).iterdir()), [])
+
+    def test_a_window_that_nothing_lies_in_is_warned_of(self):
+        words = ["list", "db=examples/bus/bus.lrp", "query={ t: time | bus(t) }"]
+        civil = ["from=2026-12-25T00:00", "to=2026-12-24T23:59", "civil=yes"]
+        for window, wanted in ((["from=9", "to=0"], "from=9 is after to=0"), (["to=-10", "from=-9"], "from=-9 is after to=-10"),
+                               (civil, "from=2026-12-25T00:00 is after to=2026-12-24T23:59"), (["from=0", "to=0"], ""),
+                               (["from=9", "to=10"], "")):
+            self.assertEqual(run(*words, *window).err, "")
+            said = run(*words, *window, FIZHEDUL_WARN="always")
+            self.assertEqual(said.status, 0)
+            self.assertEqual(said.err.count("\n"), 1 if wanted else 0)
+            self.assertIn(wanted, said.err)
+            self.assertEqual(run(*words, *window, FIZHEDUL_WARN="never").err, "")
+
+    def test_python_is_started_for_an_explanation_alone(self):
+        with tempfile.TemporaryDirectory() as name:
+            folder = Path(name)
+            (folder / "fizhedul").write_text(LAUNCHER.read_text())
+            (folder / "fizhedul").chmod(0o755)
+            shutil.copytree(TOP / "share", folder / "share")
+            # An explanation that shows that it was asked for.
+            (folder / "share/launcher/explain.py").write_text("print('explained')\n")
+            program = fake(folder, 'echo "$1"; [ "$1" = list ]\n')
+            program.write_text('#!/bin/sh\necho "refused: $1"\n[ "$1" = list ] || exit 2\n')
+            for word, wanted in (("list", ""), ("lst", "explained\n")):
+                said = shell(f"./fizhedul {word}", folder, "always", FIZHEDUL_PROGRAM=str(program))
+                self.assertEqual((said.out, said.err), (f"refused: {word}\n", wanted))
 
     def test_a_program_that_is_not_there(self):
         for explain in ("never", "always"):

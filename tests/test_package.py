@@ -84,7 +84,20 @@ class Package(unittest.TestCase):
         done = call(launcher, "ask", "db=bus/bus.lrp", "query=bus/misspelt.lrq", cwd=examples, env=plain)
         self.assertEqual((done.returncode, done.stdout), (4, "refused: query UnknownRelation at 1:13\n"))
         self.assertIn("^~~~", done.stderr)
+        done = call(launcher, "ask", "db=bus/bus.lrp", "query={ t: time | bus(t) }", cwd=examples, env=plain)
+        self.assertEqual((done.returncode, done.stdout), (0, "relation answer(t: time) {\n  (5+60n);\n}\n"))
         self.assertIn("toolchain rattle", call(launcher, "--version", env=plain).stdout)
+
+    def test_it_has_the_page_of_the_workbench_and_what_that_shows(self):
+        root = self.folder / "pages"
+        call("dpkg-deb", "-x", self.package, root)
+        pages = root / "usr/share/doc/fizhedul"
+        text = (pages / "workbench.md").read_text()
+        named = re.findall(r"\b((?:workbench/)?examples/[\w./-]+)", text) + re.findall(r"\((pictures/[^)]+)\)", text)
+        self.assertGreater(len(named), 8)
+        for name in named:
+            self.assertTrue((pages / name.rstrip(".")).exists(), name)
+        self.assertTrue((root / "usr/share/vim/vimfiles/after/plugin/fizhedul.vim").exists())
 
     def test_it_installs_runs_and_leaves_a_clean_root(self):
         if os.geteuid() != 0:

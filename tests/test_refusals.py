@@ -33,55 +33,73 @@ class Case(NamedTuple):
     more: tuple[str, ...] = ()
     command: str = "decide"
     edits: str | bytes = ""
+    said: str = ""
 
 
 DATABASE = [
     Case("refused: database Utf8 at 2:3", b"# \xc3\xa4\n# \xff\n", caret="\ufffd"),
-    Case("refused: database Syntax at 1:33", "relation bus(t: time) { (5+60n) }", caret="}"),
+    Case("refused: database Syntax at 1:33", "relation bus(t: time) { (5+60n) }", caret="}",
+         said="Syntax error: this is not expected here. Here may stand: 'where' or ';'."),
     Case("refused: database Number at 2:4", f"relation r(t: time) {{\n  ({BIG}); }}", caret=BIG),
     Case("refused: database Period at 1:26", "relation r(t: time) { (5+0n); }", caret="0"),
     Case("refused: database TextTooLong at 1:23", f'relation r(d: data) {{("{LONG}"); }}', caret='"x'),
     Case("refused: database Name at 2:10", f"{BUS}\nrelation bus() {{ }}", caret="bus"),
-    Case("refused: database Arity at 1:23", "relation r(t: time) { (5, 6); }", caret="("),
-    Case("refused: database Sort at 1:24", 'relation r(t: time) { ("7"); }', caret='"7"'),
+    Case("refused: database Arity at 1:23", "relation r(t: time) { (5, 6); }", caret="(",
+         said="The relation 'r' has 1 column, but the row has 2 values: r(t: time)."),
+    Case("refused: database Sort at 1:24", 'relation r(t: time) { ("7"); }', caret='"7"',
+         said="The column 't' is of sort time, so it holds points and numbers, and no texts."),
     Case("refused: database Column at 1:34", "relation r(t: time) { (5) where  u <= 5; }", caret="u"),
     Case("refused: database Wide at 1:92", f"relation r({NINE}) {{ }}", caret="c8"),
 ]
 QUERY = [
     Case("refused: query Utf8 at 1:3", BUS, b"# \xff", caret="\ufffd"),
-    Case("refused: query Syntax at 1:20", BUS, "{ t: time | bus(t) and bus(t) }", caret="and"),
+    Case("refused: query Syntax at 1:20", BUS, "{ t: time | bus(t) and bus(t) }", caret="and",
+         said="A list stands in parentheses: (F and G)."),
     Case("refused: query Number at 1:18", BUS, f"{{ t: time | t <= {BIG} }}", caret=BIG),
     Case("refused: query Period at 1:20", BUS, "{ t: time | t in 3+0n }", caret="0"),
     Case("refused: query Deep at 1:69", BUS, "{ | " + "(" * 64 + "0 = 0" + ")" * 64 + " }", caret="0"),
     Case("refused: query TextTooLong at 1:5", BUS, f'{{ | "{LONG}" = "7" }}', caret='"x'),
-    Case("refused: query UnknownRelation at 1:13", BUS, "{ t: time | buss(t) }", caret="buss"),
-    Case("refused: query Arity at 1:13", BUS, "{ t: time | bus(t, t) }", caret="bus"),
-    Case("refused: query Sort at 1:17", BUS, '{ t: time | bus("7") }', caret='"7"'),
-    Case("refused: query Unbound at 1:30", BUS, "{ t: time | (bus(t) and t <= u) }", caret="u"),
+    Case("refused: query UnknownRelation at 1:13", BUS, "{ t: time | buss(t) }", caret="buss",
+         said="The nearest name is 'bus'. Its relations are bus(t: time)."),
+    Case("refused: query Arity at 1:13", BUS, "{ t: time | bus(t, t) }", caret="bus",
+         said="The relation 'bus' has 1 column, but 2 terms are given: bus(t: time)."),
+    Case("refused: query Sort at 1:17", BUS, '{ t: time | bus("7") }', caret='"7"',
+         said="Its relations are bus(t: time)."),
+    Case("refused: query Unbound at 1:30", BUS, "{ t: time | (bus(t) and t <= u) }", caret="u",
+         said="No column of the head and no quantifier around it names 'u'."),
     Case("refused: query Rebound at 1:20", BUS, "{ t: time | exists t: time bus(t) }", caret="t"),
     Case("refused: query Wide at 1:83", BUS, f"{{ {NINE} | bus(c0) }}", caret="c8"),
-    Case("refused: query UnknownSort at 1:6", TRIP, "{ l: lime | l = l }", caret="lime"),
+    Case("refused: query UnknownSort at 1:6", TRIP, "{ l: lime | l = l }", caret="lime",
+         said="Its sorts are time, line."),
 ]
 EDITS = [
     Case("refused: edits Utf8 at 1:3", BUS, edits=b"# \xff", caret="\ufffd"),
-    Case("refused: edits Syntax at 1:13", BUS, edits="+ bus (0+7n)", caret=""),
+    Case("refused: edits Syntax at 1:13", BUS, edits="+ bus (0+7n)", caret="",
+         said="Here may stand: 'where' or ';'."),
     Case("refused: edits Number at 2:8", BUS, edits=f"# one\n+ bus ({BIG});", caret=BIG),
     Case("refused: edits Period at 1:10", BUS, edits="+ bus (5+0n);", caret="0"),
     Case("refused: edits TextTooLong at 1:9", TRIP, "{ t: time, l: line | trip(t, l) }", edits=f'+ trip ("{LONG}");', caret='"x'),
-    Case("refused: edits UnknownRelation at 1:3", BUS, edits="- tram (1);", caret="tram"),
-    Case("refused: edits Arity at 1:7", BUS, edits="+ bus (5, 6);", caret="("),
-    Case("refused: edits Sort at 1:8", BUS, edits='+ bus ("7");', caret='"7"'),
-    Case("refused: edits Column at 1:17", BUS, edits="+ bus (5) where u <= 5;", caret="u"),
+    Case("refused: edits UnknownRelation at 1:3", BUS, edits="- tram (1);", caret="tram",
+         said="Its relations are bus(t: time)."),
+    Case("refused: edits Arity at 1:7", BUS, edits="+ bus (5, 6);", caret="(",
+         said="The relation 'bus' has 1 column, but the row has 2 values: bus(t: time)."),
+    Case("refused: edits Sort at 1:8", BUS, edits='+ bus ("7");', caret='"7"',
+         said="The column 't' is of sort time, so it holds points and numbers, and no texts."),
+    Case("refused: edits Column at 1:17", BUS, edits="+ bus (5) where u <= 5;", caret="u",
+         said="Its relations are bus(t: time)."),
 ]
 OTHERS = [
-    Case("refused: read of edits", BUS, more=("edits=none",), command="watch"),
+    Case("refused: read of edits", BUS, more=("edits=none",), command="watch",
+         said="The file that 'edits=' names can't be read: none: No such file or directory."),
     Case("refused: edits longer than 16777216 bytes", BUS, edits=" " * 16777217),
     Case("refused: query not kept", BUS, "{ t: time | not bus(t) }", edits="+ bus (1);"),
     Case("refused: period above 4611686018427387904 at edit 1", BUS, edits="+ bus (0+4611686018427387903n);"),
     Case("refused: bound above 4611686018427387904 at edit 0", BUS, "{ t: time | (bus(t) and t >= 4611686018427387904) }", edits="+ bus (1);"),
     Case("refused: more than 59 cells at edit 2", BUS, edits="- bus (0); + bus (0+7n);", more=("cap=59",)),
-    Case("refused: read of database", ""),
-    Case("refused: read of query", BUS, ""),
+    Case("refused: read of database", "",
+         said="The file that 'db=' names can't be read: a.lrp: No such file or directory."),
+    Case("refused: read of query", BUS, "",
+         said="The file that 'query=' names can't be read: b.lrq: No such file or directory."),
     Case("refused: database longer than 16777216 bytes", " " * 16777217),
     Case("refused: query longer than 16777216 bytes", BUS, " " * 16777217),
     Case("refused: period above 4611686018427387904", "relation r(t: time) { (0+4611686018427387904n); (0+3n); }",
@@ -100,7 +118,12 @@ OTHERS = [
 USAGE = [
     ((), "", "A command is missing.", "ask, decide, watch, list, explain, check, sample"),
     (("lst", "db=a"), "lst", "'lst' is no command.", "'list'"),
-    (("xyzzy",), "xyzzy", "'xyzzy' is no command.", "ask, decide, watch, list, explain, check, sample"),
+    (("xyzzy",), "xyzzy", "'xyzzy' is no command.", "ask, decide, watch, list, explain, check, sample, shell, draw, "),
+    (("shel", "db=a"), "shel", "'shel' is no command.", "'shell'"),
+    (("drw", "db=a"), "drw", "'drw' is no command.", "'draw'"),
+    (("list", "db=a", "query=b", "from=2026-12-24", "to=9"), "from=2026", "'2026-12-24' has no time of day.",
+     "Write from=2026-12-24T00:00, and add civil=yes."),
+    (("list", "db=a", "query=b", "to=2026-12-24", "civil=yes"), "to=2026", "no time of day.", "Write to=2026-12-24T23:59."),
     (("smaple",), "smaple", "'smaple' is no command.", "'sample'"),
     (("sample", "seed=1", "size=501"), "size=501", "'501' is no value of 'size'.", "from 1 to 500"),
     (("sample", "seed=1000001", "size=1"), "seed=1", "'1000001' is no value of 'seed'.", "from 0 to 1000000"),
@@ -121,16 +144,17 @@ USAGE = [
     (("list", "db=a", "query=b", "from=0", "to=" + BIG), "to=", f"'{BIG}' is no value of 'to'.", "whole number"),
     (("list", "db=a", "query=b", "from=0", "to=9", "limit=1e3"), "limit=1e3", "'1e3' is no value", "whole number"),
     (("list", "db=a", "query=b", "from=0", "to=9", "form=xml"), "form=xml", "'xml' is no value", "plain or json"),
+    (("list", "db=a", "query=b", "from=0", "to=9", "form=csv"), "form=csv", "'csv' is no value", "'fizhedul export csv'"),
     (("check", "db=a", "tense=yes"), "tense=yes", "'check' has no key 'tense'.", "db, civil"),
     (("ask", "db=a", "query=b", "tense=on"), "tense=on", "'on' is no value of 'tense'.", "no or yes"),
-    (("decide", "db=a", "query=b", "canon=yes"), "canon=yes", "'decide' has no key 'canon'.", "db, query, cap, tense, civil"),
+    (("decide", "db=a", "query=b", "canon=yes"), "canon=yes", "'decide' has no key 'canon'.", "db, query, cap, plan, tense, civil"),
     (("ask", "db=a", "query=b", "canon=on"), "canon=on", "'on' is no value of 'canon'.", "no or yes"),
     (("ask", "db=a", "query=b", "cannon=yes"), "cannon=yes", "'ask' has no key 'cannon'.", "'canon'"),
     (("check", "db=a", "civil=true"), "civil=true", "'true' is no value of 'civil'.", "no or yes"),
     (("ask", "db=a", "query=b", "cvil=yes"), "cvil=yes", "'ask' has no key 'cvil'.", "'civil'"),
     (("list", "civil=yes", "db=a", "query=b", "from=5"), "from=5", "'5' is no value of 'from'.", "civil=no beside a number"),
     (("list", "db=a", "query=b", "from=2023-02-29T00:00", "civil=yes"), "from=2023", "no value", "a date and a time of day"),
-    (("list", "db=a", "query=b", "from=2024-02-29T00:00"), "from=2024", "no value", "civil=yes beside a date"),
+    (("list", "db=a", "query=b", "from=2024-02-29T00:00"), "from=2024", "is a date, and times are numbers", "add civil=yes"),
     (("list", "db=a", "query=b", "from=2024-02-29T00:00", "to=2024-02-29 08:15", "civil=yes"), "to=2024", "no value",
      "as 2024-02-26T08:15"),
     (("list", "db=a", "query=b", "from=0"), "", "'list' needs the key 'to'.", "to=NUMBER"),
@@ -176,8 +200,13 @@ class Explained(unittest.TestCase):
         self.assertEqual((told.status, told.out), (plain.status, plain.out))
         means, to_do = sentences_of(heading_of(case.line))
         words_told = " ".join(told.err.split())
-        self.assertIn(means, words_told)
-        self.assertIn(to_do, words_told)
+        if case.said:
+            # What is said exactly of a case is not said in general too.
+            self.assertIn(case.said, words_told)
+            self.assertNotIn(to_do, words_told)
+        else:
+            self.assertIn(means, words_told)
+            self.assertIn(to_do, words_told)
         if case.caret:
             self.assertTrue(under_caret(told.err).startswith(case.caret), told.err)
 
@@ -347,6 +376,90 @@ class Explained(unittest.TestCase):
         done = subprocess.run([support.LAUNCHER, "lst"], stdin=subprocess.DEVNULL, capture_output=True, check=False,
                               env={**support.environment(), "FIZHEDUL_EXPLAIN": ""})
         self.assertEqual((done.returncode, done.stdout, done.stderr), (2, b"refused: usage\n", b""))
+
+
+TWO = "relation bus(dep: time, arr: time) { (5+60n, 30+60n) where arr = dep + 25; }"
+# Mistakes of newcomers: the kind of text, the text, and what is said of it; the general sentences are not said then.
+HINTS = [
+    ("db", "relation bus(t: time, l: line) { (5+60n, Ada); }", 'A text stands between quotes: "Ada".'),
+    ("db", "relation bus(t: time, l: line) { (5+60n, \u201c7\u201d); }", 'Texts stand between straight double quotes, as "7".'),
+    ("db", "relation bus(t: time, l: line) { (5+60n, '7'); }", 'Texts stand between straight double quotes, as "7".'),
+    ("db", "\ufeff" + BUS, "The file has a byte order mark; save it as UTF-8 without one."),
+    ("db", "relation bus(t: Time) { (5+60n); }", "Capitals count: times are of the sort 'time', and 'Time' is a sort of texts."),
+    ("db", "Relation bus(t: time) { }", "Words of the language have small letters: write 'relation'."),
+    ("db", "relation bus(a, b: time) { }", "Each column has its sort: 'a: time, b: time'."),
+    ("db", "relation bus(t: time) { (08:15); }", "Write a time of day as 'daily 08:15' or 'weekly mon 08:15', and give civil=yes."),
+    ("db", "relation bus(t: time) { (2026-12-24 08:15); }", "Write a date as 'on 2026-12-24 08:15', and give civil=yes."),
+    ("db", "relation bus(t: time) { (on 2026-12-24 08:15); }", "Civil values, as 'daily 08:15', are read with civil=yes."),
+    ("db", "relation bus(t: time) { (2.5); }", "Numbers are whole: choose a smaller unit of time."),
+    ("query", "{ t: Time | bus(t, t) }", "Capitals count: write 'time'."),
+    ("query", "{ | exists a, b: time bus(a, b) }", "Each variable has a quantifier and a sort of its own: 'exists a: time exists b: time F'."),
+    ("query", "{ a, b: time | bus(a, b) }", "Each column has its sort: 'a: time, b: time'."),
+    ("query", "{ a: time | exists b: time (bus(a, b) and a != b) }", "'Not equal' is written 'not t = u'."),
+    ("query", "{ a: time | exists b: time (bus(a, b) and a <> b) }", "'Not equal' is written 'not t = u'."),
+    ("query", "{ a: time | bus(a, _) }", "There is no wildcard: give a column that doesn't matter a variable of its own"),
+    ("query", "{ a: time | exists b: time (bus(a, b) and 2*a = b) }", "Multiples of times can't be said"),
+    ("query", "{ a: time | exists b: time (bus(a, b) and b - a <= 25) }", "'b - a <= 5' is 'b <= a + 5'."),
+    ("query", "{ a: time | exists b: time (bus(a, b) and b = a + b) }", "Sums of two times can't be said; an offset is a number."),
+    ("query", "{ a: time | exists b: time bus(a, b) and a <= 480 }", "A list stands in parentheses: (F and G)."),
+    ("query", "{ a: time | (a = 1 and a = 2 or a = 3) }", "A list has one kind of word"),
+    ("query", "{ a: time | (a = 1 && a = 2) }", "Write 'and', with the list in parentheses"),
+    ("query", "{ a: time | a == 1 }", "Write '='."),
+    ("query", "{ a: time | a \u2264 1 }", "Write '<='."),
+    ("query", "{ a: time | bus(a) }", "The relation 'bus' has 2 columns, but 1 term is given: bus(dep: time, arr: time)."),
+    ("query", "{ | exists t: time bus(t, Ada) }", 'a text stands between quotes: "Ada".'),
+    ("query", "{ t: time | bus(08:15, t) }", "In queries times are numbers: minutes since 1970-01-01 00:00"),
+    ("edits", "+ bus (Ada, 5);", 'A text stands between quotes: "Ada".'),
+]
+
+
+class Hints(unittest.TestCase):
+    """What to write instead of what newcomers write."""
+
+    def test_each_mistake_has_its_remedy_and_nothing_general(self):
+        for kind, text, wanted in HINTS:
+            with self.subTest(text), tempfile.TemporaryDirectory() as name:
+                texts = {"db": TWO, "query": "{ d: time, a: time | bus(d, a) }", "edits": ""} | {kind: text}
+                for key, ending in (("db", "lrp"), ("query", "lrq"), ("edits", "lre")):
+                    Path(name, f"a.{ending}").write_text(texts[key])
+                command = {"db": ["check"], "query": ["decide", "query=a.lrq"], "edits": ["watch", "query=a.lrq", "edits=a.lre"]}
+                told = run(*command[kind], "db=a.lrp", folder=Path(name), explain="always")
+                said = " ".join(told.err.split())
+                self.assertIn(wanted, said)
+                for sentence in sentences_of(heading_of(told.out.rstrip("\n"))):
+                    self.assertNotIn(sentence, said)
+
+    def test_files_that_are_exchanged(self):
+        with tempfile.TemporaryDirectory() as name:
+            Path(name, "a.lrp").write_text("# A plan.\n" + BUS)
+            Path(name, "b.lrq").write_text("# A question.\n" + ASK)
+            told = run("ask", "db=b.lrq", "query=a.lrp", folder=Path(name), explain="always")
+            self.assertIn("The files of 'db=' and 'query=' are exchanged: 'b.lrq' is a query, and 'a.lrp' is a database.",
+                          " ".join(told.err.split()))
+            told = run("ask", "db=b.lrq", "query=b.lrq", folder=Path(name), explain="always")
+            self.assertIn("'b.lrq' is a query, and 'db=' names a database.", " ".join(told.err.split()))
+
+    def test_a_text_in_place_of_a_file(self):
+        told = run("ask", "db=examples/bus/bus.lrp", "query=bus(t)", explain="always")
+        self.assertEqual(told.out, "refused: read of query\n")
+        self.assertIn("'bus(t)' looks like a text and not like the name of a file; a query that is given here begins with '{'.",
+                      " ".join(told.err.split()))
+
+    def test_a_letter_of_several_bytes_is_shown_whole(self):
+        for text in ("\ufeff" + BUS, "relation bus(t: time, l: line) { (5, \u201c7\u201d); }"):
+            with tempfile.TemporaryDirectory() as name:
+                Path(name, "a.lrp").write_text(text)
+                told = run("check", "db=a.lrp", folder=Path(name), explain="always").err
+                self.assertIn(text.replace("\ufeff", "\ufffd"), told)
+                self.assertRegex(told, r"(?m)^ +\^$")
+
+    def test_a_higher_cap_has_its_price(self):
+        folder = TOP / "examples/guide"
+        told = run("decide", "db=line.lrp", "query=costly.lrq", "cap=100000", folder=folder, explain="always")
+        self.assertRegex(" ".join(told.err.split()),
+                         r"A step with 1000000 cells may take \d+\.\d GB and \d+ seconds; this machine has \d+ GB\.")
+        told = run("decide", "db=line.lrp", "query=costly.lrq", "cap=10", folder=folder, explain="always")
+        self.assertNotIn("this machine has", " ".join(told.err.split()))
 
 
 class Usage(unittest.TestCase):

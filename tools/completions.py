@@ -4,9 +4,9 @@ import re
 
 from table import SHARE, Key
 
-TOPICS = ["language", "refusals", "workbench"]
+TOPICS = ["language", "refusals", "spread", "workbench"]
 TOOLS = {"shell": "a prompt over one database", "draw": "a picture of a window", "import": "a database from other data",
-         "export": "a window as a table"}
+         "export": "a window as a table", "spread": "many questions or windows on many machines"}
 
 
 def help_of_commands() -> dict[str, str]:

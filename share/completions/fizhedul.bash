@@ -4,15 +4,16 @@
 _fizhedul_keys() {
     local keys=
     case $1 in
-        ask) keys='db query cap tense canon civil' ;;
-        decide) keys='db query cap tense civil' ;;
+        ask) keys='db query cap plan tense canon civil' ;;
+        decide) keys='db query cap plan tense civil' ;;
         watch) keys='db query edits cap' ;;
-        list) keys='db query from to limit after form cap tense civil' ;;
-        explain) keys='db query tense civil' ;;
+        list) keys='db query from to limit after form cap plan tense civil' ;;
+        explain) keys='db query plan tense civil' ;;
         check) keys='db civil' ;;
         sample) keys='seed size' ;;
-        shell) keys='db from to limit cap tense canon civil' ;;
-        draw) keys='db query from to format grid marks hour out cap tense civil' ;;
+        shell) keys='db from to limit cap plan tense canon civil' ;;
+        draw) keys='db query from to format grid marks hour out cap plan tense civil' ;;
+        spread) keys='db query queries from to parts by overlap engine out jobs tries hosts scheduler options limit form cap plan tense civil' ;;
     esac
     echo "$keys"
 }
@@ -36,12 +37,14 @@ _fizhedul_values() {
         db) endings='lrp' ;;
         query) endings='lrq' ;;
         edits) endings='lre' ;;
+        plan) values='written guarded' ;;
         tense) values='no yes' ;;
         canon) values='no yes' ;;
         civil) values='no yes' ;;
         form) values='plain json' ;;
         format) values='html svg png' ;;
         grid) values='numbers dates' ;;
+        engine) values='parallel slurm dask' ;;
     esac
     if [ -n "$endings" ]; then
         compopt -o filenames 2>/dev/null
@@ -71,11 +74,13 @@ _fizhedul() {
     [[ $line == *[[:blank:]] ]] || { word=${words[-1]}; unset 'words[-1]'; }
     COMPREPLY=()
     if [ ${#words[@]} -le 1 ]; then
-        mapfile -t COMPREPLY < <(compgen -W 'check ask decide watch list explain sample shell draw import export help --version' -- "$word")
+        mapfile -t COMPREPLY < <(compgen -W 'check ask decide watch list explain sample shell draw import export spread help --version' -- "$word")
     elif [ "${words[1]}" = help ]; then
-        [ ${#words[@]} -gt 2 ] || mapfile -t COMPREPLY < <(compgen -W 'ask decide watch list explain check sample language refusals workbench' -- "$word")
+        [ ${#words[@]} -gt 2 ] || mapfile -t COMPREPLY < <(compgen -W 'ask decide watch list explain check sample language refusals spread workbench' -- "$word")
     elif [ "${words[1]}" = import ] || [ "${words[1]}" = export ]; then
         _fizhedul_kinds_or_files "${words[1]}" "$word" ${#words[@]}
+    elif [ "${words[1]}" = spread ] && [ ${#words[@]} -eq 2 ]; then
+        mapfile -t COMPREPLY < <(compgen -W 'list decide' -- "$word")
     elif [[ $word == *=* ]]; then
         _fizhedul_values "${word%%=*}" "${word#*=}"
         # Where bash cuts words at '=', only what stands behind it is completed.

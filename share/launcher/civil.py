@@ -7,7 +7,7 @@ DAYS = ("mon", "tue", "wed", "thu", "fri", "sat", "sun")
 EPOCH = datetime(1970, 1, 1)
 MINUTE = timedelta(minutes=1)
 WINDOW_END = re.compile(r"([0-9]{4}-[0-9]{2}-[0-9]{2})T([0-9]{2}):([0-9]{2})")
-# A text, a comment, a name with what stands behind it like a civil value, or another token.
+# A text, a comment, a name with what stands after it like a civil value, or another token.
 PIECE = re.compile(
     r'"(?:[^"\\\x00-\x1f\x7f]|\\["\\])*"|#[^\n]*|'
     r"(?P<civil>(?:daily|weekly (?P<day>[a-z]+)|on (?P<date>[0-9]{4}-[0-9]{2}-[0-9]{2})) "
@@ -53,7 +53,7 @@ def plain_value(match: re.Match[str]) -> str:
 
 
 def plain_text(text: str) -> str:
-    """A database with each civil value as its plain one, and blanks behind it, so that every place stays."""
+    """A database with each civil value as its plain one, and blanks after it, so that every place stays."""
 
     def plain(match: re.Match[str]) -> str:
         whole = match.group()

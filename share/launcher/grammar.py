@@ -46,7 +46,7 @@ def without_texts_and_comments(text: str) -> str:
 
 
 def is_operator(text: str, place: int) -> bool:
-    """Whether the token at a place is the name behind the word of a temporal operator."""
+    """Whether the token at a place is the name after the word of a temporal operator."""
     before = [found.group() for found in TOKEN.finditer(text[:place]) if found.lastgroup]
     name = TOKEN.match(text, place)
     is_name = name is not None and name.lastgroup == "name" and name.group() not in RESERVED
@@ -151,7 +151,7 @@ class Reader:
                 self.need("n")
 
     def integer(self) -> None:
-        """A number, perhaps behind a minus."""
+        """A number, perhaps after a minus."""
         self.at("-")
         self.need("a number")
 
@@ -196,7 +196,7 @@ class Reader:
             self.test()
 
     def operator(self, word: str) -> None:
-        """What goes on behind a temporal operator and its variable."""
+        """What goes on after a temporal operator and its variable."""
         self.need("(")
         item = self.formula if word in ("since", "until") else self.integer
         item()
@@ -222,7 +222,7 @@ class Reader:
         self.need(")")
 
     def atom_or_test(self) -> None:
-        """What goes on behind a name: an atom, or the left side of a test."""
+        """What goes on after a name: an atom, or the left side of a test."""
         if self.at("("):
             self.list_up_to(")", self.term)
             return
@@ -237,7 +237,7 @@ class Reader:
             self.offset_name_or(self.integer)
 
     def test(self) -> None:
-        """What goes on behind the left side of a comparison or of 'in'."""
+        """What goes on after the left side of a comparison or of 'in'."""
         if self.at("in"):
             self.integer()
             self.need("+")

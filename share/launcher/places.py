@@ -5,7 +5,7 @@ import unicodedata
 from pathlib import Path
 from typing import NamedTuple
 
-TOKEN = re.compile(rb'[A-Za-z_][A-Za-z0-9_]*|[0-9]+|"(?:[^"\\\n]|\\.)*"?|<=|>=|[^\s]')
+TOKEN = re.compile(rb'[A-Za-z_][A-Za-z0-9_]*|[0-9]+|"(?:[^"\\\n]|\\.)*"?|<=|>=|[\xc0-\xff][\x80-\xbf]*|[^\s]')
 WORD = re.compile(rb"[^ ]+")
 TAIL = "..."
 
@@ -18,12 +18,15 @@ class Place(NamedTuple):
     column: int
 
 
-def show_place(place: Place, width: int) -> str:
-    """The file's line with a caret under the place, at most `width` wide; nothing where the file can't be read again."""
+def show_place(place: Place, width: int, name: str = "") -> str:
+    """The file's line with a caret under the place, at most `width` wide; nothing where the file can't be read again.
+
+    `name` stands for the name of a file that has none of its own.
+    """
     lines = read_lines(place.file)
     if lines is None or place.line > len(lines):
         return ""
-    shown = f"{clean(place.file)}:{place.line}:{place.column}\n"
+    shown = f"{clean(name or place.file)}:{place.line}:{place.column}\n"
     line = lines[place.line - 1]
     if place.line == len(lines) and place.column > len(line):
         shown += last_words(lines, width)

@@ -8,7 +8,7 @@ LIMIT = 2**62
 
 
 class Key(NamedTuple):
-    """One key of a command. `kind` is the first word of what its value is, `of` the words behind it."""
+    """One key of a command. `kind` is the first word of what its value is, `of` the words after it."""
 
     command: str
     name: str

@@ -5,10 +5,13 @@ import re
 from typing import NamedTuple
 
 from civil import is_window_end
-from table import LIMIT, Key, read_table
+from table import LIMIT, SHARE, Key, read_table
 
 WHOLE = re.compile(r"0|[1-9][0-9]*")
+DAY = re.compile(r"[0-9]{4}-[0-9]{2}-[0-9]{2}", re.ASCII)
 SIGNED = re.compile(r"0|-?[1-9][0-9]*")
+# What the launcher does itself, and the words of the workbench that have no keys.
+OTHERS = ("import", "export", "help")
 DATE = "a date and a time of day from 0001-01-01T00:00 to 9999-12-31T23:59, as 2024-02-26T08:15"
 
 
@@ -27,7 +30,8 @@ def find_fault(words: list[str]) -> Fault | None:
         return Fault(0, "A command is missing.", "Begin with one of: " + ", ".join(table) + ". 'fizhedul help' says more.")
     command, *pairs = words
     if command not in table:
-        return Fault(0, f"'{command}' is no command.", nearest(command, list(table), "command"))
+        names = list(dict.fromkeys([*table, *read_table(SHARE / "workbench"), *OTHERS]))
+        return Fault(0, f"'{command}' is no command.", nearest(command, names, "command"))
     seen: set[str] = set()
     is_civil = "civil=yes" in pairs
     for number, word in enumerate(pairs, 1):
@@ -41,7 +45,7 @@ def find_fault(words: list[str]) -> Fault | None:
 
 
 def fault_of_word(keys: dict[str, Key], word: str, seen: set[str], is_civil: bool) -> tuple[str, str] | None:
-    """What is wrong with one word behind the command, with what to do. Its key joins those that were seen."""
+    """What is wrong with one word after the command, with what to do. Its key joins those that were seen."""
     command = next(iter(keys.values())).command
     name, sign, value = word.partition("=")
     if not sign:
@@ -54,8 +58,14 @@ def fault_of_word(keys: dict[str, Key], word: str, seen: set[str], is_civil: boo
     wanted = fault_of_value(keys[name], value, is_civil)
     if wanted is None:
         return None
+    if keys[name].kind == "time" and DAY.fullmatch(value):
+        civil = "" if is_civil else ", and add civil=yes"
+        return f"'{value}' has no time of day.", f"Write {name}={value}T{'23:59' if name == 'to' else '00:00'}{civil}."
+    if keys[name].kind == "time" and not is_civil and is_window_end(value.replace(" ", "T")):
+        return f"'{value}' is a date, and times are numbers here.", f"Write {name}={value.replace(' ', 'T')}, and add civil=yes."
     shown = f"'{value}' is no value of '{name}'." if value else f"'{name}' has no value."
-    return shown, f"Write {wanted}."
+    table = " Tables are written by 'fizhedul export csv' and 'fizhedul export tsv'." if value in ("csv", "tsv") else ""
+    return shown, f"Write {wanted}.{table}"
 
 
 def fault_of_bare_word(keys: dict[str, Key], word: str, seen: set[str]) -> tuple[str, str]:
@@ -70,7 +80,7 @@ def fault_of_bare_word(keys: dict[str, Key], word: str, seen: set[str]) -> tuple
     for key in keys.values():
         if key.kind == "file" and key.of == [ending] and key.name not in seen:
             return means, f"Write {key.name}={word}."
-    return means, "Write each word behind the command as KEY=VALUE; the keys are " + ", ".join(keys) + "."
+    return means, "Write each word after the command as KEY=VALUE; the keys are " + ", ".join(keys) + "."
 
 
 def fault_of_value(key: Key, value: str, is_civil: bool) -> str | None:
@@ -93,8 +103,7 @@ def fault_of_time(value: str) -> str | None:
     """What is wanted of an end of a window that is a number."""
     if SIGNED.fullmatch(value) and len(value) < 25 and abs(int(value)) <= LIMIT:
         return None
-    hint = ", or civil=yes beside a date" if is_window_end(value.replace(" ", "T")) else ""
-    return f"a whole number from -{LIMIT} to {LIMIT}, without leading zeros{hint}"
+    return f"a whole number from -{LIMIT} to {LIMIT}, without leading zeros"
 
 
 def fault_of_date(value: str) -> str | None:

@@ -46,8 +46,9 @@ def test_its_refusals_have_a_sentence(bus: Path) -> None:
     out, status = piped(bus, f".canon on\n.cap 2\n{parts}\n.ask\n.cap 4\n{pair}\n.ask\n")
     assert status == 4
     for line in (
-        "refused: more than 2 canonical rows: the answer in its one form has more than 2 rows; .cap N allows more\n",
-        "refused: canon needs one time column: the head has none or more than one; .canon off writes any answer\n",
+        "refused: more than 2 canonical rows\nThe answer in its one form has more rows than 'cap' allows",
+        "or give a higher cap by '.cap N', or say '.canon off'.\n",
+        "refused: canon needs one time column\nAfter '.canon on', the head of the query has to have one column",
     ):
         assert line in out, out
     assert "canon=on is none of yes, no" in tool("shell", "db=bus.lrp", "canon=on", text="", folder=bus).stderr

@@ -148,3 +148,14 @@ def test_dates_are_read_in_both_spellings_and_no_other() -> None:
     for text in ("2023-02-29T00:00", "2024-02-26", "2024-02-26T8:15", "2024-02-26T24:00", "20240226T0815", "495", ""):
         assert minute_of(text) is None
     assert dated(LAST) == "9999-12-31 23:59" and dated(LAST + 1) == str(LAST + 1)
+
+
+def test_the_shell_opens_on_this_week(roster: Path) -> None:
+    today = datetime.now()
+    monday = today - timedelta(days=today.weekday())
+    week = f"from {monday:%Y-%m-%d} 00:00 to {monday + timedelta(days=6):%Y-%m-%d} 23:59"
+    query = "{ t: time | not t = t }\n"
+    assert week in shell(roster, query, "db=roster.lrp", "civil=yes")[0]
+    assert week in shell(roster, query + ".civil on\n", "db=roster.lrp")[0]
+    out, _ = shell(roster, query, "db=roster.lrp", "civil=yes", "from=2024-02-26T00:00", "to=2024-02-26T23:59")
+    assert "from 2024-02-26 00:00 to 2024-02-26 23:59" in out

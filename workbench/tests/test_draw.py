@@ -96,7 +96,10 @@ def test_refusals_are_passed_on(tmp_path: Path) -> None:
 
 
 def test_the_grid_has_hours_and_days() -> None:
-    assert steps(60)[:10] == [1, 5, 15, 30, 60, 120, 240, 360, 720, 1440]
+    assert steps(60, False)[:11] == [1, 5, 15, 30, 60, 120, 240, 360, 720, 1440, 10080]
+    assert steps(60, True)[9:13] == [1440, 2880, 5760, 10080]
+    # Hours have a line for each day of two weeks, and from then on one for each week.
+    assert grid_of(0, 336, 1, False) == list(range(0, 337, 24)) and grid_of(0, 400, 1, False) == [0, 168, 336]
     assert step_for(2880, 60, False) == 240 and step_for(2880, 60, True) == 360
     assert step_for(12, 60, False) == 1 and step_for(2000, 1, False) == 168
     assert lines(-7, 12, 5) == [-5, 0, 5, 10]

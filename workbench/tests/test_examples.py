@@ -62,3 +62,13 @@ def test_two_machines_on_one_day(tmp_path: Path) -> None:
     window = [f"from={minute(first)}", f"to={minute(last)}"]
     words = [f"db={made}", f"query={EXAMPLES / 'upkeep' / 'both.lrq'}", *window]
     assert program("list", *words).splitlines() == [*wanted, "end"] and len(wanted) > 10
+
+
+def test_the_first_picture_is_that_of_the_first_page(tmp_path: Path) -> None:
+    folder = TOP / "examples" / "guide"
+    words = [f"db={folder / 'clock.lrp'}", f"query={folder / 'trips.lrq'}", "civil=yes"]
+    out = tmp_path / "line.svg"
+    window = ["from=2026-12-24T00:00", "to=2026-12-24T23:59"]
+    assert tool("draw", *words, *window, f"out={out}").returncode == 0
+    assert out.read_bytes() == (TOP / "docs" / "pictures" / "line.svg").read_bytes()
+    assert "(docs/pictures/line.svg)" in (TOP / "README.md").read_text()

@@ -232,7 +232,10 @@ def test_frequencies_with_exact_times_are_trips(tmp_path: Path) -> None:
     folder = small(tmp_path, frequencies__txt=header + "t,08:00:00,08:30:00,900,0\n")
     done = tool("import", "gtfs", str(folder))
     assert done.returncode == 3 and done.stdout == ""
-    assert done.stderr == "refused: frequencies.txt:2: the trip 't' runs by a headway and not by exact times\n"
+    assert done.stderr == (
+        "refused: frequencies.txt:2: the trip 't' runs by a headway and not by exact times;"
+        " headway=as-exact takes its times as exact, and skip=t leaves it out\n"
+    )
 
 
 def test_a_clock_that_changes_is_refused(tmp_path: Path) -> None:

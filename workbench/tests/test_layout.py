@@ -26,4 +26,4 @@ def test_a_missing_package_is_one_line(tmp_path_factory: pytest.TempPathFactory,
 def test_the_first_word_names_a_tool() -> None:
     done = tool()
     assert done.returncode == 2
-    assert done.stderr == "refused: usage: the first word is one of shell, draw, import, export\n"
+    assert done.stderr == "refused: usage: the first word is one of shell, draw, import, export, spread\n"

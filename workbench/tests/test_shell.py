@@ -15,12 +15,12 @@ from pathlib import Path
 import pytest
 from fizhedul_workbench.queries import head_of, open_brackets, variables
 from fizhedul_workbench.shell.prompt import Words
-from fizhedul_workbench.shell.refusals import told
+from fizhedul_workbench.shell.refusals import IN_THE_SHELL
 from fizhedul_workbench.shell.session import Session
 from fizhedul_workbench.shell.table import table
 from prompt_toolkit.completion import CompleteEvent
 from prompt_toolkit.document import Document
-from tools import RUN, environment, program, shell
+from tools import RUN, TOP, environment, program, shell
 
 BUS = 'relation bus(dep: time, line: line) {\n  (5+60n, "7");\n  (20+30n, "Ä");\n}\n'
 
@@ -74,20 +74,98 @@ def test_a_drawing_is_written(bus: Path) -> None:
     assert "<!DOCTYPE html>" in (bus / "drawing.html").read_text()
 
 
+def test_queries_are_planned_under_guards_or_as_they_are_written() -> None:
+    guide = Path(__file__).parents[2] / "examples/guide"
+    costly = (guide / "costly.lrq").read_text()
+    text = f"{costly}.cap 10000\n.plan written\n.decide\n.plan\n.plan guarded\n.decide\n"
+    out, status = shell(guide, text, "db=line.lrp", "from=0", "to=1439")
+    page, refused, rest = out.partition("refused: more than 10000 cells at step 8\n")
+    assert page == "   d     a\n----  ----\n1205  1230\n(1 answer; the last from 0 to 1439)\n"
+    assert status == 5 and refused and "\nSay '.plan guarded'; see the steps by '.explain'; " in rest
+    end = "queries are planned as they are written; .plan guarded and .plan written change that\nNonempty\n-235, -210\n"
+    assert rest.endswith(end)
+
+
 def test_refusals_are_shown_in_place(bus: Path) -> None:
     out, status = piped(bus, "{ t: time |\n  tram(t) }\n.cap 1\n{ t: time, l: line | bus(t, l) }\n")
     assert status == 5 and out == (
-        "    tram(t) }\n    ^\n"
-        "refused: query UnknownRelation at 2:3: the database has no relation of this name\n"
-        "refused: more than 1 cells at step 1: step 1 of the plan needs more than 1 cells; .cap N allows more\n"
+        "refused: query UnknownRelation at 2:3\nquery:2:3\n    tram(t) }\n    ^~~~\n"
+        "The database has no relation of this name.\n"
+        "Its relations are bus(dep: time, line: line).\n"
+        "refused: more than 1 cells at step 1\n"
+        "This step of the plan has tuples in more cells than 'cap' allows: a cell is a remainder of each\n"
+        "time by the step's period, and a text for each other variable.\n"
+        "The step is '1 scan bus(t, l) [period 60, reach 60]'.\n"
+        "See the steps by '.explain'; tie the variables together by a relation or use\n"
+        "shorter periods; or give a higher cap by '.cap N'; a cell may take 750 bytes and 10 microseconds.\n"
     )
+
+
+def test_what_the_launcher_says_of_keys_is_said_of_commands(bus: Path) -> None:
+    out, _ = piped(bus, "{ t: time | once t (0, 5) bus(t) }\n")
+    assert "Temporal operators, as 'once t (-10, 0) ..', are read after '.tense on'." in " ".join(out.split())
+    said = (TOP / "share/help/refusals.txt").read_text() + "".join(
+        file.read_text() for file in (TOP / "share/launcher").glob("*.py")
+    )
+    assert all(key in " ".join(said.split()) for key in IN_THE_SHELL)
+
+
+def test_a_query_that_is_refused_leaves_the_one_before_it(bus: Path) -> None:
+    out, status = piped(bus, '{ t: time | bus(t, "7") }\n{ t: time | buss(t) }\n.decide\n')
+    assert status == 4 and out.endswith("Nonempty\n5\n")
+
+
+def test_comments_and_blank_lines_stand_between_entries(bus: Path) -> None:
+    text = '# All of line 7.\n\n   # Really.\n{ t: time | # a bracket: (\n  bus(t, "7") }\n\n# The least.\n.decide\n#'
+    out, status = piped(bus, text, "to=10")
+    assert status == 0 and out == "t\n-\n5\n(1 answer; the last from 0 to 10)\nNonempty\n5\n"
+
+
+def test_files_are_read_as_if_typed(bus: Path) -> None:
+    (bus / "more.lrq").write_text("# One page.\n{ t: time, l: line |\n  bus(t, l) }\n.decide\n.read more.lrq\n.quit\n")
+    out, status = piped(bus, ".limit 1\n.read more.lrq\n.ask\n")
+    assert status == 0 and out == (
+        't  l\n-  -\n5  7\n(1 answer; more with .next)\nNonempty\n5, "7"\n'
+        "a file that is read can't read another one\n"
+    )
+    out, status = piped(bus, ".read none.lrq\n.read\n.limit 0\n.schema\n")
+    assert status == 6 and out == (
+        "refused: none.lrq: No such file or directory\nwhich file? as in .read queries.lrq\n"
+        "a limit is a number from 1 to 1000000\nbus(dep: time, line: line)\n"
+    )
+
+
+def test_words_of_other_shells_point_to_commands(bus: Path) -> None:
+    for word, wanted in (
+        ("quit", ".quit"),
+        ("exit", ".quit"),
+        ("help", ".help"),
+        ("?", ".help"),
+        (".tabels", ".tables"),
+    ):
+        assert piped(bus, word + "\n") == (
+            f"'{word}' is no command; '{wanted}' is. .help lists them, and a query begins with '{{'\n",
+            0,
+        )
+
+
+def test_files_of_commands_are_completed(bus: Path, monkeypatch: pytest.MonkeyPatch) -> None:
+    monkeypatch.chdir(bus)
+    (bus / "some.lrq").touch()
+    (bus / "folder").mkdir()
+    session = Session("bus.lrp", bus)
+    assert completed(session, ".open b") == ["us.lrp"] and completed(session, ".open s") == []
+    assert completed(session, ".read ") == ["folder", "some.lrq"] and completed(session, ".save so") == ["me.lrq"]
 
 
 def test_a_broken_database_is_shown_in_place(tmp_path: Path) -> None:
     (tmp_path / "bus.lrp").write_text('relation bus(t: time, l: line) {\n  (5, "Ä", 6);\n}')
     out, status = piped(tmp_path, ".tables\n")
-    caret = '    (5, "Ä", 6);\n    ^\nrefused: database Arity at 2:3: '
-    assert status == 3 and out.count(caret) == 2
+    told = (
+        'refused: database Arity at 2:3\nbus.lrp:2:3\n    (5, "Ä", 6);\n    ^\n'
+        "The relation 'bus' has 2 columns, but the row has 3 values: bus(t: time, l: line).\n"
+    )
+    assert status == 3 and out == told * 2
 
 
 def test_other_lines_are_told(bus: Path) -> None:
@@ -95,14 +173,14 @@ def test_other_lines_are_told(bus: Path) -> None:
     assert status == 0 and out == (
         "there is no next page\nthere is no query yet\na window is two whole numbers, as in .window 0 1439\n"
         "a cap is a number from 1 to 1000000000\nto which file? as in .save query.lrq, or .save answer.lrp\n"
-        "which file? as in .open bus.lrp\nthere is no command .sing; .help lists them\n"
+        "which file? as in .open bus.lrp\n'.sing' is no command. .help lists them, and a query begins with '{'\n"
     )
     assert all(name in piped(bus, ".help\n")[0] for name in (".next", ".window A B", ".draw FILE", ".quit"))
 
 
-def test_carets_count_letters_and_not_bytes() -> None:
-    line = "refused: query Syntax at 1:12"
-    assert told(line, '{ | r("ÄÖ" }'.encode()).splitlines()[:2] == ['  { | r("ÄÖ" }', "           ^"]
+def test_carets_count_letters_and_not_bytes(bus: Path) -> None:
+    out, _ = piped(bus, '{ | bus(5, "ÄÖ" }\n\n')
+    assert '  { | bus(5, "ÄÖ" }\n                  ^\n' in out
 
 
 def test_wide_letters_keep_their_columns() -> None:
@@ -200,7 +278,13 @@ def test_a_terminal_has_colours_several_lines_and_a_history(bus: Path) -> None:
         assert "scan" in end.read_until("head")
         end.read_until("fizhedul>")
         end.type(b"{ t: time | bus(t) }\r")
-        assert "\x1b[31m" in end.read_until("another number of columns")
+        assert "\x1b[31m" in end.read_until("has 2 columns, but 1 term is given")
+        end.read_until("fizhedul>")
+        # What Tab has written is run by the next Enter.
+        end.type(b".he")
+        end.read_until(".help")
+        end.type(b"\t\r")
+        end.read_until("from A to B")
         end.read_until("fizhedul>")
         end.type(b"{ t: time, l: li\t")
         end.read_until("line")

@@ -45,10 +45,10 @@ def test_its_refusals_have_a_sentence_and_a_place(bus: Path) -> None:
     )
     assert status == 4
     for lines in (
-        "  + tram (1);\n    ^\nrefused: edits UnknownRelation at 2:3: the database has no relation of this name\n",
-        "  + bus (0, 1);\n        ^\nrefused: edits Arity at 1:7: this row has another number of values than its",
-        "refused: read of edits: the file of the edits could not be read\n",
-        "refused: more than 59 cells at edit 1: with edit 1 some rows meet in more than 59 cells; .cap N allows more\n",
-        "refused: query not kept: watched queries have relations and tests alone, and each variable in a relation\n",
+        "refused: edits UnknownRelation at 2:3\ntram.lre:2:3\n  + tram (1);\n    ^~~~\nThe database has no",
+        "refused: edits Arity at 1:7\ntwo.lre:1:7\n  + bus (0, 1);\n        ^\nThe relation 'bus' has 1 column",
+        "refused: read of edits\nThe file that 'edits=' names can't be read: none.lre: No such file or directory.\n",
+        "refused: more than 59 cells at edit 1\nWith this edit, some rows of the query's",
+        "refused: query not kept\nThe query is not in kept form, which 'watch' needs",
     ):
         assert lines in out, out

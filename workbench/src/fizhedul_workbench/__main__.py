@@ -9,6 +9,7 @@ from .words import FAILED_WRITE, INTERRUPTED, MISSING, NO_MEMORY, Refused, usage
 
 PACKAGES = {
     "dateutil": "python3-dateutil",
+    "distributed": "python3-distributed",
     "icalendar": "python3-icalendar",
     "prompt_toolkit": "python3-prompt-toolkit",
     "pygments": "python3-pygments",
@@ -39,11 +40,18 @@ def exports(words: Sequence[str]) -> None:
     export_tool(words)
 
 
+def spread(words: Sequence[str]) -> None:
+    from .spread.tool import spread_tool
+
+    spread_tool(words)
+
+
 TOOLS: dict[str, Callable[[Sequence[str]], None]] = {
     "shell": shell,
     "draw": draw,
     "import": imports,
     "export": exports,
+    "spread": spread,
 }
 
 
@@ -58,6 +66,7 @@ def main(words: Sequence[str]) -> int:
         TOOLS[words[0]](words[1:])
     except Refused as refused:
         print(f"refused: {refused.reason}", file=sys.stderr)
+        print(refused.explained, end="", file=sys.stderr)
         return refused.status
     except ModuleNotFoundError as fault:
         package = PACKAGES.get((fault.name or "").split(".")[0])

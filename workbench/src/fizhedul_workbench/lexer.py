@@ -24,7 +24,7 @@ class LrpLexer(RegexLexer):  # type: ignore[misc]
             (r"\d+", Number),
             (r"\b(?:" + "|".join(KEYWORDS) + r")\b", Keyword),
             (r"\b(?:" + "|".join(SORTS) + r")\b", Keyword.Type),
-            # Of an operator a name comes next, and a bracket behind it.
+            # Of an operator a name comes next, and a bracket after it.
             (r"\b(?:" + "|".join(OPERATORS) + r")(?=\s+[A-Za-z_][A-Za-z0-9_]*\s*\()", Keyword),
             (r"[A-Za-z_][A-Za-z0-9_]*(?=\s*\()", Name.Function),
             (r"[A-Za-z_][A-Za-z0-9_]*", Name),

@@ -97,7 +97,7 @@ def written_row(row: Row, written: Callable[[Value], str] = written_value) -> st
 
 
 def distance(later: str, earlier: str, minutes: int) -> str:
-    """The bound that one column lies so many minutes behind another."""
+    """The bound that one column lies so many steps after another."""
     if minutes == 0:
         return f"{later} = {earlier}"
     sign = "+" if minutes > 0 else "-"

@@ -5,6 +5,7 @@ import os
 import re
 import signal
 import subprocess
+import sys
 from collections.abc import Iterator, Sequence
 from dataclasses import dataclass
 from pathlib import Path
@@ -12,6 +13,9 @@ from pathlib import Path
 from .civil import window_end
 from .words import MISSING, Refused
 
+WIDTH = 100
+# The commands that make a plan of a query, by either way.
+PLANNED = ("ask", "decide", "list", "explain")
 LAST_STEP = re.compile(r"\[period (\d+), reach \d+\]\s*\Z")
 
 # The times of an answer are numbers, or with civil times dates.
@@ -20,10 +24,11 @@ Answer = list[int | str]
 
 @dataclass(frozen=True)
 class Output:
-    """What the program wrote, and its status."""
+    """What the program wrote for some words, and its status."""
 
     status: int
     text: str
+    words: tuple[str, ...] = ()
 
     @property
     def refusal(self) -> str | None:
@@ -42,7 +47,7 @@ class Page:
 @dataclass(frozen=True)
 class Question:
     """A query over a database, by their files, in a window of time; with or without civil times, which have dates,
-    temporal operators, and whole answers in their one form."""
+    temporal operators, and whole answers in their one form; planned under guards, or as it is written."""
 
     database: str
     query: str
@@ -52,12 +57,14 @@ class Question:
     is_civil: bool = False
     is_tense: bool = False
     is_canon: bool = False
+    is_guarded: bool = True
 
     def words(self, command: str) -> list[str]:
         """The words of a command without a window."""
         cap = [f"cap={self.cap}"] if self.cap and command != "explain" else []
         canon = ["canon=yes"] if self.is_canon and command == "ask" else []
-        keys = ["tense=yes"] * self.is_tense + canon + ["civil=yes"] * self.is_civil
+        plan = ["plan=guarded"] if self.is_guarded and command in PLANNED else []
+        keys = plan + ["tense=yes"] * self.is_tense + canon + ["civil=yes"] * self.is_civil
         return [command, f"db={self.database}", f"query={self.query}", *cap, *keys]
 
     def listing(self, limit: int, after: str | None) -> list[str]:
@@ -84,8 +91,10 @@ def run_program(words: Sequence[str]) -> Output:
             stdout=subprocess.PIPE,
             # In a group of its own, so that an interrupt ends all that it started.
             process_group=0,
-            # The tools explain refusals themselves.
-            env={**os.environ, "FIZHEDUL_EXPLAIN": "never"},
+            # A word may name an open file of this process, as query=/dev/fd/11.
+            close_fds=False,
+            # The tools explain refusals themselves, and a window is warned of once.
+            env={**os.environ, "FIZHEDUL_EXPLAIN": "never", "FIZHEDUL_WARN": "never"},
         )
     except OSError as fault:
         raise Refused(f"{program_path()}: {fault.strerror}", MISSING) from fault
@@ -95,7 +104,21 @@ def run_program(words: Sequence[str]) -> Output:
         os.killpg(process.pid, signal.SIGKILL)
         process.communicate()
         raise
-    return Output(process.returncode, written.decode())
+    return Output(process.returncode, written.decode(), tuple(words))
+
+
+def is_watched() -> bool:
+    """Whether refusals are to be explained: to a terminal, or as the variable FIZHEDUL_EXPLAIN says."""
+    return {"always": True, "never": False}.get(os.environ.get("FIZHEDUL_EXPLAIN", ""), sys.stderr.isatty())
+
+
+def explanation_of(output: Output, line: str) -> str:
+    """What the launcher says of a refusal's line; nothing where nobody watches."""
+    if not is_watched():
+        return ""
+    from explain import explain, given_files
+
+    return explain(program_path(), list(output.words), line, WIDTH, given_files())
 
 
 def answered(words: Sequence[str]) -> str:
@@ -103,7 +126,7 @@ def answered(words: Sequence[str]) -> str:
     output = run_program(words)
     if output.status:
         line = output.text.strip() or f"the program ended with status {output.status}"
-        raise Refused(line.removeprefix("refused: "), abs(output.status))
+        raise Refused(line.removeprefix("refused: "), abs(output.status), explanation_of(output, line))
     return output.text
 
 

@@ -12,12 +12,13 @@ INTERRUPTED = 130
 
 
 class Refused(Exception):
-    """What a tool will not do: one sentence, and the status with which the tool ends."""
+    """What a tool will not do: one sentence, the status with which the tool ends, and what explains it to a reader."""
 
-    def __init__(self, reason: str, status: int = BAD_INPUT) -> None:
+    def __init__(self, reason: str, status: int = BAD_INPUT, explained: str = "") -> None:
         super().__init__(reason)
         self.reason = reason
         self.status = status
+        self.explained = explained
 
 
 def refused_at(file: str, line: int, reason: str) -> Refused:
@@ -71,6 +72,11 @@ def choice(found: Mapping[str, str], key: str, default: str, choices: Iterable[s
     if value not in allowed:
         raise usage(f"{key}={value} is none of {', '.join(allowed)}")
     return value
+
+
+def is_guarded(found: Mapping[str, str]) -> bool:
+    """Whether a query is planned under guards, as it is where no key says otherwise."""
+    return choice(found, "plan", "guarded", ["guarded", "written"]) == "guarded"
 
 
 def several(found: Mapping[str, str], key: str) -> list[str]:

@@ -67,7 +67,7 @@ def zone_of(name: str) -> Zone | None:
 
 
 def zone_in(name: str, content: bytes) -> Zone | None:
-    """The zone that a file's bytes hold: the second block, whose numbers have 64 bits, and the rule behind it."""
+    """The zone that a file's bytes hold: the second block, whose numbers have 64 bits, and the rule after it."""
     if len(content) < HEADER.size or content[:4] != b"TZif" or content[4:5] < b"2":
         return None
     _, _, utc, std, leap, times, types, letters = HEADER.unpack_from(content)

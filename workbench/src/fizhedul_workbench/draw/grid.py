@@ -4,16 +4,20 @@ from datetime import datetime, timedelta
 
 EPOCH = datetime(1970, 1, 1)
 MICROSECONDS = 3_600_000_000
-MOST_LINES = {False: 12, True: 8}
+# Days of two weeks have a line each.
+MOST_LINES = {False: 14, True: 8}
 # The distances in months that are tried where weeks are too short.
 MONTHS = [1, 3, 6, 12, 24, 60, 120, 300, 600, 1200, 6000]
 DAYS_OF_MONTH = 28
 
 
-def steps(hour: int) -> list[int]:
-    """The distances between lines that are tried: parts of an hour, hours, days, weeks, and tens of weeks."""
+def steps(hour: int, with_dates: bool) -> list[int]:
+    """The distances between lines that are tried: parts of an hour, hours, days, weeks, and tens of weeks.
+
+    Numbers, of which more find room, go from days to weeks.
+    """
     parts = [hour // part for part in (60, 12, 4, 2) if hour % part == 0]
-    hours = [hour * count for count in (1, 2, 4, 6, 12, 24, 48, 96, 168)]
+    hours = [hour * count for count in (1, 2, 4, 6, 12, 24, *([48, 96] if with_dates else []), 168)]
     found = sorted({1, *parts, *hours})
     while found[-1] < 2**64:
         found.append(found[-1] * (4 if len(found) % 2 else 5))
@@ -22,7 +26,7 @@ def steps(hour: int) -> list[int]:
 
 def step_for(span: int, hour: int, with_dates: bool) -> int:
     """The least distance that gives few lines; dates need more room than numbers."""
-    return next(step for step in steps(hour) if span <= step * MOST_LINES[with_dates])
+    return next(step for step in steps(hour, with_dates) if span <= step * MOST_LINES[with_dates])
 
 
 def lines(first: int, last: int, step: int) -> list[int]:

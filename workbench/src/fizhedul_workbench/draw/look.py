@@ -1,6 +1,11 @@
 """How a picture is to look."""
 
+import os
 from dataclasses import dataclass
+
+from ..words import usage
+
+FORMS = {".html": "html", ".htm": "html", ".svg": "svg", ".png": "png"}
 
 
 @dataclass(frozen=True)
@@ -11,3 +16,16 @@ class Look:
     most: int = 10_000
     hour: int = 60
     with_dates: bool = False
+
+
+def form_of(file: str | None, form: str | None) -> str:
+    """The form that is asked for, else that of the file's ending; the two have to agree."""
+    if file is None:
+        return form or "html"
+    ending = os.path.splitext(file)[1]
+    by_ending = FORMS.get(ending.lower())
+    if by_ending is None and form is None:
+        raise usage(f"'{file}' does not end in .html, .svg or .png; format=html|svg|png says what it is to be")
+    if by_ending and form and by_ending != form:
+        raise usage(f"'{file}' is to be {by_ending} by its ending, and {form} by its format")
+    return form or by_ending or "html"

@@ -41,7 +41,7 @@ def facts(picture: Picture, look: Look) -> str:
         "lines": MOST_LINES[look.with_dates],
         "months": MONTHS,
         "month": DAYS_OF_MONTH * 24 * look.hour,
-        "steps": [step for step in steps(look.hour) if step < 2**53],
+        "steps": [step for step in steps(look.hour, look.with_dates) if step < 2**53],
     }
     return json.dumps(found)
 

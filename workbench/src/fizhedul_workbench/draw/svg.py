@@ -44,7 +44,7 @@ def gutter(picture: Picture) -> int:
 
 
 def lane_tops(picture: Picture) -> list[int]:
-    """The upper edge of each lane, and behind them the lower edge of the last."""
+    """The upper edge of each lane, and after them the lower edge of the last."""
     tops = [TOP]
     for levels in picture.levels:
         tops.append(tops[-1] + levels * LEVEL + PAD)
@@ -57,7 +57,7 @@ def place(picture: Picture, time: int, room: int) -> float:
 
 
 def mark_shape(picture: Picture, mark: Mark, top: int, room: int) -> str:
-    """A tick for one time, a bar from the first to the second for two; further times are ticks behind the bar."""
+    """A tick for one time, a bar from the first to the second for two; further times are ticks after the bar."""
     if not mark.times:
         return ""
     y = top + PAD // 2 + mark.level * LEVEL

@@ -7,8 +7,8 @@ from collections.abc import Sequence
 from ..civil import is_chosen, read_window
 from ..lrp import put_file
 from ..program import Question
-from ..words import choice, keyed, usage, whole
-from .look import Look
+from ..words import choice, is_guarded, keyed, usage, whole
+from .look import Look, form_of
 from .marks import picture_of
 from .page import asset, page_of
 from .svg import svg_of
@@ -35,10 +35,11 @@ def drawing(question: Question, look: Look) -> bytes:
 
 def draw_tool(words: Sequence[str]) -> None:
     """Draws a window of a query's answers, to a file or to standard output."""
-    found = keyed(words, [*KEYS, "format", "marks", "hour", "grid", "out", "cap", "civil", "tense"], KEYS)
+    found = keyed(words, [*KEYS, "format", "marks", "hour", "grid", "out", "cap", "civil", "tense", "plan"], KEYS)
     is_civil = is_chosen(found, "civil")
+    form = choice(found, "format", "html", ["html", "svg", "png"]) if "format" in found else None
     look = Look(
-        choice(found, "format", "html", ["html", "svg", "png"]),
+        form_of(found.get("out"), form),
         whole(found, "marks", 10_000, 1, MOST_MARKS),
         whole(found, "hour", 60, 1, 3_600_000),
         choice(found, "grid", "dates" if is_civil else "numbers", ["numbers", "dates"]) == "dates",
@@ -47,7 +48,8 @@ def draw_tool(words: Sequence[str]) -> None:
         raise usage("with civil=yes an hour has 60 steps of time")
     first, last = read_window(found, 0, 0, is_civil)
     cap = whole(found, "cap", 1_000_000, 1, 1_000_000_000)
-    question = Question(found["db"], found["query"], first, last, cap, is_civil, is_chosen(found, "tense"))
+    keys = is_civil, is_chosen(found, "tense"), False, is_guarded(found)
+    question = Question(found["db"], found["query"], first, last, cap, *keys)
     content = drawing(question, look)
     if "out" in found:
         put_file(found["out"], content)

@@ -1,20 +1,18 @@
-"""The trips of a feed: where each one stops, at which minutes behind the start of its service day."""
+"""The trips of a feed: where each one stops, at which minutes or seconds after the start of its service day."""
 
-import re
 from collections.abc import Iterable
 from dataclasses import dataclass, replace
 
 from ..lrp import fault_of_text
 from ..words import refused_at
 from .gtfs_feed import Feed
+from .gtfs_wanted import Clock, Wanted, seconds_of
 from .tables import Record
-
-TIME = re.compile(r"(\d{1,3}):([0-5]\d):([0-5]\d)", re.ASCII)
 
 
 @dataclass(frozen=True)
 class Halt:
-    """A stop of a trip; minutes count from the start of the service day and may pass 1440."""
+    """A stop of a trip; times count from the start of the service day and may pass its end."""
 
     stop: str
     arrival: int
@@ -31,18 +29,6 @@ class Trip:
     halts: tuple[Halt, ...]
 
 
-def minute_of(record: Record, column: str) -> int:
-    """The minute of a time HH:MM:SS. A time with seconds is refused, since times here are whole minutes."""
-    text = record.need(column)
-    found = TIME.fullmatch(text)
-    if found is None:
-        raise refused_at(record.file, record.line, f"the {column} {text[:40]!r} is no time")
-    hours, minutes, seconds = (int(part) for part in found.groups())
-    if seconds:
-        raise refused_at(record.file, record.line, f"the {column} {text} is no whole minute")
-    return 60 * hours + minutes
-
-
 def known(feed: Feed, file: str, column: str) -> set[str]:
     """The names of a file's records, each of which has one of its own."""
     names: set[str] = set()
@@ -54,7 +40,7 @@ def known(feed: Feed, file: str, column: str) -> set[str]:
     return names
 
 
-def chosen_trips(feed: Feed, services: Iterable[str], wanted: tuple[set[str], set[str]]) -> dict[str, Trip]:
+def chosen_trips(feed: Feed, services: Iterable[str], wanted: Wanted) -> dict[str, Trip]:
     """The trips of the wanted lines and services (of all, where none is named), still without halts."""
     lines = known(feed, "routes.txt", "route_id")
     known_services = set(services)
@@ -66,12 +52,13 @@ def chosen_trips(feed: Feed, services: Iterable[str], wanted: tuple[set[str], se
             raise refused_at(record.file, record.line, f"there is no route {trip.line!r}")
         if trip.service not in known_services:
             raise refused_at(record.file, record.line, f"there is no service {trip.service!r}")
-        if all(not names or name in names for names, name in zip(wanted, (trip.line, trip.service))):
+        chosen = (wanted.lines, trip.line), (wanted.services, trip.service)
+        if trip.name not in wanted.skipped and all(not names or name in names for names, name in chosen):
             trips[trip.name] = trip
     return trips
 
 
-def halts_of(feed: Feed, records: list[Record], stops: set[str]) -> tuple[Halt, ...]:
+def halts_of(records: list[Record], stops: set[str], clock: Clock) -> tuple[Halt, ...]:
     """The halts of one trip in order. A stop without times is passed over, and told as such by the caller."""
     records.sort(key=lambda record: record.number("stop_sequence"))
     halts: list[Halt] = []
@@ -83,14 +70,14 @@ def halts_of(feed: Feed, records: list[Record], stops: set[str]) -> tuple[Halt, 
             raise refused_at(record.file, record.line, f"there is no stop {stop!r}")
         if not record.get("arrival_time") and not record.get("departure_time"):
             continue
-        halt = Halt(stop, minute_of(record, "arrival_time"), minute_of(record, "departure_time"))
+        halt = Halt(stop, clock.step_of(record, "arrival_time"), clock.step_of(record, "departure_time"))
         if halt.departure < halt.arrival or (halts and halt.arrival < halts[-1].departure):
             raise refused_at(record.file, record.line, "the times go back")
         halts.append(halt)
     return tuple(halts)
 
 
-def with_halts(feed: Feed, trips: dict[str, Trip]) -> dict[str, Trip]:
+def with_halts(feed: Feed, trips: dict[str, Trip], clock: Clock) -> dict[str, Trip]:
     """The trips with the halts of stop_times.txt."""
     stops = known(feed, "stops.txt", "stop_id")
     every_trip = {record.get("trip_id") for record in feed.table("trips.txt").records}
@@ -104,7 +91,7 @@ def with_halts(feed: Feed, trips: dict[str, Trip]) -> dict[str, Trip]:
     found = {}
     untimed = 0
     for name, records in by_trip.items():
-        halts = halts_of(feed, records, stops)
+        halts = halts_of(records, stops, clock)
         untimed += len(records) - len(halts)
         found[name] = replace(trips[name], halts=halts)
     if untimed:
@@ -112,25 +99,32 @@ def with_halts(feed: Feed, trips: dict[str, Trip]) -> dict[str, Trip]:
     return found
 
 
-def shifted(trip: Trip, start: int) -> Trip:
-    """The trip that leaves its first stop at this minute, named by the trip and the time."""
+def shifted(trip: Trip, start: int, clock: Clock) -> Trip:
+    """The trip that leaves its first stop at this time, named by the trip and the time."""
     shift = start - trip.halts[0].departure
     halts = tuple(Halt(h.stop, h.arrival + shift, h.departure + shift) for h in trip.halts)
-    return replace(trip, name=f"{trip.name} {start // 60:02}:{start % 60:02}", halts=halts)
+    return replace(trip, name=f"{trip.name} {clock.shown(start)}", halts=halts)
 
 
-def repeated(record: Record, trip: Trip, every_trip: set[str]) -> list[Trip]:
-    """The trips that one line of frequencies.txt makes of a trip, where it says that their times are exact."""
-    if record.get("exact_times") != "1":
-        reason = f"the trip {trip.name!r} runs by a headway and not by exact times"
+def departures(record: Record, trip: Trip, wanted: Wanted) -> list[int]:
+    """The departures that one line of frequencies.txt makes of a trip, where it says that its times are exact."""
+    if record.get("exact_times") != "1" and not wanted.headway_is_exact:
+        choices = f"headway=as-exact takes its times as exact, and skip={trip.name} leaves it out"
+        reason = f"the trip {trip.name!r} runs by a headway and not by exact times; {choices}"
         raise refused_at(record.file, record.line, reason)
     headway = record.number("headway_secs")
-    if headway == 0 or headway % 60:
-        raise refused_at(record.file, record.line, f"the headway of {headway} s is no whole minutes")
-    if not trip.halts:
-        return []
-    begin, end = minute_of(record, "start_time"), minute_of(record, "end_time")
-    copies = [shifted(trip, start) for start in range(begin, end, headway // 60)]
+    if headway == 0 or (headway % wanted.clock.seconds and not wanted.clock.rounds_down):
+        choices = "unit=second counts seconds, and round=down takes the minute of each departure"
+        raise refused_at(record.file, record.line, f"the headway of {headway} s is no whole minutes; {choices}")
+    begin, end = seconds_of(record, "start_time"), seconds_of(record, "end_time")
+    what = f"a departure of the trip {trip.name!r}"
+    return [wanted.clock.step(record, second, what) for second in range(begin, end, headway)]
+
+
+def repeated(record: Record, trip: Trip, every_trip: set[str], wanted: Wanted) -> list[Trip]:
+    """The trips that one line of frequencies.txt makes of a trip."""
+    starts = departures(record, trip, wanted)
+    copies = [shifted(trip, start, wanted.clock) for start in dict.fromkeys(starts)] if trip.halts else []
     for copy in copies:
         fault = fault_of_text(copy.name)
         if copy.name in every_trip:
@@ -143,15 +137,23 @@ def repeated(record: Record, trip: Trip, every_trip: set[str]) -> list[Trip]:
     return copies
 
 
-def feed_trips(feed: Feed, services: Iterable[str], wanted: tuple[set[str], set[str]]) -> list[Trip]:
+def feed_trips(feed: Feed, services: Iterable[str], wanted: Wanted) -> list[Trip]:
     """All trips; one of frequencies.txt is a trip for each of its departures."""
-    trips = with_halts(feed, chosen_trips(feed, services, wanted))
+    trips = with_halts(feed, chosen_trips(feed, services, wanted), wanted.clock)
     every_trip = {record.get("trip_id") for record in feed.table("trips.txt").records}
     copies: dict[str, list[Trip]] = {}
+    inexact = set()
     for record in feed.table("frequencies.txt").records:
         name = record.text("trip_id")
         if name not in every_trip:
             raise refused_at(record.file, record.line, f"there is no trip {name!r}")
         if name in trips:
-            copies.setdefault(name, []).extend(repeated(record, trips[name], every_trip))
+            copies.setdefault(name, []).extend(repeated(record, trips[name], every_trip, wanted))
+            inexact.update([name] if record.get("exact_times") != "1" else [])
+    if inexact:
+        feed.leave(f"that the times of {len(inexact)} trips of frequencies.txt are not exact")
+    if wanted.clock.rounded:
+        feed.leave(f"the seconds of {wanted.clock.rounded} times, which are those of their minutes")
+    if wanted.skipped:
+        feed.leave("the trips " + ", ".join(sorted(wanted.skipped)))
     return [copy for name, trip in trips.items() for copy in copies.get(name, [trip])]

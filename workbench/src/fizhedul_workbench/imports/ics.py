@@ -6,6 +6,7 @@ from dataclasses import dataclass, replace
 
 from icalendar.windows_to_olson import WINDOWS_TO_OLSON
 
+from ..civil import dated
 from ..lrp import MOST_BYTES, Point, Relation, Row, Value, distance, shown, written_row
 from ..words import FAILED_READ, Refused
 from ..zones import Zone, zone_of
@@ -26,6 +27,8 @@ class Wanted:
     uids: frozenset[str] = frozenset()
     zone: str | None = None
     local: bool = False
+    first: int | None = None
+    last: int | None = None
 
 
 def fixed_zone(calendar: Component, name: str) -> Zone | None:
@@ -178,12 +181,17 @@ def read_ics(path: str, wanted: Wanted) -> Imported:
     for event in events:
         if event.is_cancelled:
             continue
-        found = starts_of(event, replacing.get(event.uid, []), zones)
+        everywhere = starts_of(event, replacing.get(event.uid, []), zones)
+        inside = ((start.within(wanted.first, wanted.last), length) for start, length in everywhere)
+        found = [(start, length) for start, length in inside if start is not None]
         starts += found
         rows += [row_of(start, length, event) for start, length in found]
     clock = refuse_changes(events, starts, zones, wanted)
     size = sum(len(written_row(row).encode()) for row in rows)
     if size > MOST_BYTES - 65_536:
         raise Refused(f"the database would have about {size} bytes, and {MOST_BYTES} are allowed; choose by uid=..")
+    if wanted.first is not None or wanted.last is not None:
+        ends = [dated(end) if end is not None else "" for end in (wanted.first, wanted.last)]
+        left.append("starts that are not" + " from " * bool(ends[0]) + ends[0] + " to " * bool(ends[1]) + ends[1])
     remarks = [f"Minutes since 1970-01-01 00:00 of {clock}."]
     return Imported(remarks, left, [Relation("event", COLUMNS, list(dict.fromkeys(rows)))])

@@ -60,6 +60,19 @@ class Progression:
             rest.append(Progression(begin, self.period, self.last))
         return rest
 
+    def within(self, begin: int | None, end: int | None) -> "Progression | None":
+        """What of it lies in a window, as one minute where that is all; none where nothing does."""
+        first, last = self.first, self.last if self.period else self.first
+        if begin is not None and first < begin:
+            if self.period == 0:
+                return None
+            first += -(-(begin - first) // self.period) * self.period
+        if end is not None and (last is None or end < last):
+            last = end
+        if last is None or first + self.period <= last and self.period:
+            return Progression(first, self.period, last)
+        return Progression(first, 0, None) if first <= last else None
+
 
 @dataclass(frozen=True)
 class Rule:

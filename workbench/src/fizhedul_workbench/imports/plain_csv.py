@@ -5,6 +5,7 @@ import io
 import os
 import re
 from collections.abc import Iterator
+from typing import Any
 
 from ..civil import minute_of
 from ..lrp import LIMIT, MOST_COLUMNS, Point, Relation, Row, Value, fault_of_text, is_name
@@ -114,12 +115,19 @@ def read_csv(path: str, name: str | None) -> Imported:
     return Imported([], [], [Relation(relation, columns, rows)])
 
 
-def csv_pieces(question: Question) -> Iterator[str]:
-    """The answers of a window as lines of comma-separated values, behind a line of columns, page by page."""
+def writer_of(piece: io.StringIO, kind: str) -> Any:
+    """What writes lines of a kind; no text has a tab in it, so that between tabs no quotes are needed."""
+    if kind == "tsv":
+        return csv.writer(piece, delimiter="\t", quoting=csv.QUOTE_NONE, quotechar=None, lineterminator="\n")
+    return csv.writer(piece, lineterminator="\n")
+
+
+def pieces_of(question: Question, kind: str) -> Iterator[str]:
+    """The answers of a window as lines of values, after a line of columns, page by page."""
     head: list[tuple[str, str]] | None = None
     for page in pages(question, PAGE):
         piece = io.StringIO(newline="")
-        writer = csv.writer(piece, lineterminator="\n")
+        writer = writer_of(piece, kind)
         if head is None:
             with open(question.query, encoding="utf-8") as file:
                 head = head_of(file.read())

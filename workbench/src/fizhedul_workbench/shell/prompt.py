@@ -6,7 +6,7 @@ from collections.abc import Callable, Iterable, Iterator
 from pathlib import Path
 
 from prompt_toolkit import PromptSession
-from prompt_toolkit.completion import CompleteEvent, Completer, Completion
+from prompt_toolkit.completion import CompleteEvent, Completer, Completion, PathCompleter
 from prompt_toolkit.document import Document
 from prompt_toolkit.history import FileHistory, History, InMemoryHistory
 from prompt_toolkit.key_binding import KeyBindings, KeyPressEvent
@@ -16,6 +16,8 @@ from ..lexer import KEYWORDS, OPERATORS, SORTS, LrpLexer
 from ..queries import variables
 from .session import Session
 
+# The commands that take a file, with the ending of the files that they read.
+FILES = {".open": ".lrp", ".read": ".lrq", ".watch": ".lre", ".save": "", ".draw": ""}
 WORD = re.compile(r"\.?[A-Za-z0-9_]*$")
 
 
@@ -32,7 +34,7 @@ def history() -> History:
 
 
 class Words(Completer):
-    """Completes commands at the start of a line, and else relations, variables, sorts and keywords."""
+    """Completes commands at the start of a line, the files of commands, and else relations, variables and words."""
 
     def __init__(self, session: Session, commands: list[str]) -> None:
         self.session = session
@@ -42,6 +44,10 @@ class Words(Completer):
         text = document.text_before_cursor
         begun = WORD.search(text)
         word = begun.group(0) if begun else ""
+        command, blank, rest = text.lstrip().partition(" ")
+        if blank and command in FILES:
+            yield from files_like(rest.lstrip(), FILES[command], complete_event)
+            return
         if text.lstrip().startswith("."):
             choices = self.commands if word.startswith(".") else []
         else:
@@ -53,6 +59,12 @@ class Words(Completer):
                 yield Completion(choice, start_position=-len(word))
 
 
+def files_like(begun: str, ending: str, event: CompleteEvent) -> Iterable[Completion]:
+    """The folders, and the files with an ending, whose names begin so."""
+    wanted = PathCompleter(expanduser=True, file_filter=lambda path: os.path.isdir(path) or path.endswith(ending))
+    return wanted.get_completions(Document(begun), event)
+
+
 def keys(is_whole: Callable[[str], bool]) -> KeyBindings:
     """Enter ends an entry, or begins another line of it while a bracket is open."""
     bindings = KeyBindings()
@@ -60,9 +72,9 @@ def keys(is_whole: Callable[[str], bool]) -> KeyBindings:
     @bindings.add("enter")
     def _(event: KeyPressEvent) -> None:
         buffer = event.current_buffer
-        if buffer.complete_state is not None and buffer.complete_state.current_completion is not None:
-            buffer.complete_state = None
-        elif is_whole(buffer.text):
+        # What was chosen by Tab stands in the line already.
+        buffer.complete_state = None
+        if is_whole(buffer.text):
             buffer.validate_and_handle()
         else:
             buffer.insert_text("\n")

@@ -4,14 +4,17 @@ import json
 from dataclasses import dataclass, field
 from pathlib import Path
 
-from ..civil import dated, has_date, minute_of
+from ..civil import dated
+from ..days import MINUTES, WEEK
 from ..lexer import coloured
-from ..lrp import LIMIT, put_file, written_value
+from ..lrp import put_file, written_value
 from ..program import Output, Page, Question, page_of, run_program
 from ..queries import head_of
 from ..words import Refused
 from .refusals import told
 from .table import names_in, relations, table
+
+FIRST_WEEK = (0, WEEK * MINUTES - 1)
 
 
 @dataclass
@@ -20,13 +23,14 @@ class Session:
 
     database: str
     folder: Path
-    first: int = 0
-    last: int = 10_079
+    first: int = FIRST_WEEK[0]
+    last: int = FIRST_WEEK[1]
     limit: int = 20
     cap: int = 1_000_000
     is_civil: bool = False
     is_tense: bool = False
     is_canon: bool = False
+    is_guarded: bool = True
     is_colourful: bool = False
     query: str = ""
     more: str | None = None
@@ -36,7 +40,7 @@ class Session:
 
     def question(self) -> Question:
         query = str(self.folder / "query.lrq")
-        keys = self.is_civil, self.is_tense, self.is_canon
+        keys = self.is_civil, self.is_tense, self.is_canon, self.is_guarded
         return Question(self.database, query, self.first, self.last, self.cap, *keys)
 
     def check_words(self) -> list[str]:
@@ -59,24 +63,12 @@ def say_code(session: Session, text: str) -> None:
     say(coloured(text) if session.is_colourful else text.rstrip("\n"))
 
 
-def say_refusal(session: Session, output: Output, edits: str = "") -> None:
-    """A refusal, in its place in the query, in the database or in the file of edits."""
-    line = output.refusal or ""
+def say_refusal(session: Session, output: Output) -> None:
+    """A refusal, with its place in the query, in the database or in the file of edits, and what it means."""
     session.status = abs(output.status)
-    text = session.query.encode()
-    for what, file in (("database", session.database), ("edits", edits)):
-        if line.startswith(f"refused: {what}"):
-            text = bytes_of(file)
-    told_text = told(line, text) if line else f"the program ended with status {output.status}"
-    say(f"\x1b[31m{told_text}\x1b[0m" if session.is_colourful else told_text)
-
-
-def bytes_of(file: str) -> bytes:
-    """The bytes of a file; none where it can't be read."""
-    try:
-        return Path(file).read_bytes()
-    except OSError:
-        return b""
+    line, _, explained = told(output, session.question().query).partition("\n")
+    shown = f"\x1b[31m{line}\x1b[0m" if session.is_colourful else line
+    say(f"{shown}\n{explained}" if explained else shown)
 
 
 def need_query(session: Session) -> bool:
@@ -85,19 +77,20 @@ def need_query(session: Session) -> bool:
     return bool(session.query)
 
 
-def show_page(session: Session, after: str | None) -> None:
-    """The next page of the query as a table."""
+def show_page(session: Session, after: str | None) -> Output:
+    """The next page of the query as a table; what the program wrote."""
     output = run_program(session.question().listing(session.limit, after))
     session.more = None
     if output.status:
         say_refusal(session, output)
-        return
+        return output
     found = page_of(output.text)
     session.more = found.more
     if found.answers:
         say_answers(session, found)
     else:
         say_nearest(session)
+    return output
 
 
 def say_answers(session: Session, found: Page) -> None:
@@ -133,10 +126,16 @@ def shown_line(session: Session, line: str) -> str:
 
 
 def ask(session: Session, text: str) -> None:
-    """A new query: its first page."""
+    """A new query: its first page. After one that is none, or does not fit the database, the one before it stays."""
+    before = session.query
+    set_query(session, text)
+    if (show_page(session, None).refusal or "").startswith("refused: query"):
+        set_query(session, before)
+
+
+def set_query(session: Session, text: str) -> None:
     session.query = text
     (session.folder / "query.lrq").write_bytes(text.encode())
-    show_page(session, None)
 
 
 def next_page(session: Session, _: str) -> None:
@@ -168,66 +167,18 @@ def watch(session: Session, rest: str) -> None:
     elif need_query(session):
         output = run_program([*session.question().words("watch"), f"edits={rest}"])
         if output.status:
-            say_refusal(session, output, rest)
+            say_refusal(session, output)
         else:
             say_code(session, output.text)
 
 
-def set_window(session: Session, rest: str) -> None:
-    try:
-        first, last = (end_of(session, word) for word in rest.split())
-    except ValueError:
-        dates = "two dates, as in .window 2024-02-26T00:00 2024-02-26T23:59"
-        say("a window is " + (dates if session.is_civil else "two whole numbers, as in .window 0 1439"))
-        return
-    session.first, session.last, session.more = first, last, None
-    if session.query:
-        show_page(session, None)
-
-
-def end_of(session: Session, word: str) -> int:
-    """An end of a window: a number, or with civil times a date."""
-    end = minute_of(word) if session.is_civil else int(word)
-    if end is None or abs(end) > LIMIT:
-        raise ValueError
-    return end
-
-
-def set_civil(session: Session, rest: str) -> None:
-    """Civil times, or numbers: how the database is read, and how times are shown."""
-    if rest not in ("on", "off"):
-        say(f"civil times are {'on' if session.is_civil else 'off'}; .civil on and .civil off change that")
-    elif rest == "on" and not (has_date(session.first) and has_date(session.last)):
-        say("the window is not within the years 1 to 9999; .window A B gives another one")
+def show_schema(session: Session, _: str) -> None:
+    """The relations with the names and sorts of their columns."""
+    output = run_program(session.check_words())
+    if output.status:
+        say_refusal(session, output)
     else:
-        session.is_civil, session.more = rest == "on", None
-        if read_names(session) and session.query:
-            show_page(session, None)
-
-
-def set_tense(session: Session, rest: str) -> None:
-    """Whether queries may have temporal operators."""
-    if rest in ("on", "off"):
-        session.is_tense, session.more = rest == "on", None
-    else:
-        now = "on" if session.is_tense else "off"
-        say(f"temporal operators are {now}; .tense on and .tense off change that")
-
-
-def set_canon(session: Session, rest: str) -> None:
-    """Whether whole answers are written in their one form."""
-    if rest in ("on", "off"):
-        session.is_canon = rest == "on"
-    else:
-        now = "on" if session.is_canon else "off"
-        say(f"canonical answers are {now}; .canon on and .canon off change that")
-
-
-def set_cap(session: Session, rest: str) -> None:
-    if rest.isascii() and rest.isdigit() and 1 <= int(rest) <= 1_000_000_000:
-        session.cap = int(rest)
-    else:
-        say("a cap is a number from 1 to 1000000000")
+        say_code(session, "\n".join(f"{name}({columns})" for name, columns, *_ in relations(output.text)))
 
 
 def read_names(session: Session) -> bool:
@@ -274,12 +225,12 @@ def save(session: Session, rest: str) -> None:
 
 def draw(session: Session, rest: str) -> None:
     if need_query(session):
-        from ..draw.look import Look
+        from ..draw.look import Look, form_of
         from ..draw.tool import drawing
 
         file = rest or "drawing.html"
-        form = "svg" if file.endswith(".svg") else "html"
-        put_file(file, drawing(session.question(), Look(form=form, with_dates=session.is_civil)))
+        look = Look(form=form_of(file, None), with_dates=session.is_civil)
+        put_file(file, drawing(session.question(), look))
         say(f"drawn: {file}")
 
 

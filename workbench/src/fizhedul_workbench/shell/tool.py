@@ -2,13 +2,15 @@
 
 import sys
 import tempfile
-from collections.abc import Callable, Iterator, Sequence
+from collections.abc import Callable, Iterable, Iterator, Sequence
+from difflib import get_close_matches
 from pathlib import Path
 
 from ..civil import is_chosen, read_window
-from ..queries import open_brackets
-from ..words import Refused, keyed, whole
+from ..queries import open_brackets, pieces
+from ..words import FAILED_READ, Refused, is_guarded, keyed, whole
 from . import session as acts
+from . import settings
 from .session import Session, say
 
 HELP = """A line is a query, as { t: time | bus(t) }; it goes on while a bracket is open.
@@ -16,31 +18,39 @@ HELP = """A line is a query, as { t: time | bus(t) }; it goes on while a bracket
 .window A B     the times that are shown, from A to B
 .tense on|off   whether queries may have temporal operators
 .canon on|off   whether whole answers are written in their one form
+.plan guarded|written
+                whether each table is made under what stands beside it
 .civil on|off   whether times are minutes since 1970 and shown as dates
 .decide         the least answer of all, or Empty
 .ask            the whole answer, as a relation
 .explain        the plan of the query
 .watch FILE     the least answer, and after each edit of FILE the one then
-.cap N          the most cells of a step
-.tables         the relations of the database
+.cap N          the most cells of a step; each may take 750 bytes and 10 µs
+.limit N        the most answers of a page
+.tables         the relations of the database, with their rows and periods
+.schema         the relations of the database, with their columns
+.read FILE      what FILE has, as if it were typed
 .open FILE      another database
 .save FILE      the query; the whole answer where FILE ends in .lrp
-.draw FILE      a picture of the window, as .html or .svg
+.draw FILE      a picture of the window, as .html, .svg or .png
 .help           this
 .quit           the end"""
 
 Act = Callable[[Session, str], None]
 COMMANDS: dict[str, Act] = {
     ".next": acts.next_page,
-    ".window": acts.set_window,
+    ".window": settings.set_window,
     ".decide": lambda session, _: acts.write_output(session, "decide"),
     ".ask": lambda session, _: acts.write_output(session, "ask"),
     ".explain": lambda session, _: acts.write_output(session, "explain"),
     ".watch": acts.watch,
-    ".civil": acts.set_civil,
-    ".tense": acts.set_tense,
-    ".canon": acts.set_canon,
-    ".cap": acts.set_cap,
+    ".civil": settings.set_civil,
+    ".tense": settings.set_tense,
+    ".canon": settings.set_canon,
+    ".plan": settings.set_plan,
+    ".cap": settings.set_cap,
+    ".limit": settings.set_limit,
+    ".schema": acts.show_schema,
     ".tables": acts.show_tables,
     ".open": acts.open_database,
     ".save": acts.save,
@@ -49,21 +59,53 @@ COMMANDS: dict[str, Act] = {
 }
 
 
+# What other shells call some of these.
+OTHER_NAMES = {"exit": ".quit", "bye": ".quit", "q": ".quit", "?": ".help", "h": ".help", "man": ".help"}
+
+
 def is_whole(text: str) -> bool:
     """Whether a line ends here: a command, or a query without open brackets."""
     return text.lstrip().startswith(".") or open_brackets(text) <= 0
 
 
-def piped_entries() -> Iterator[str]:
-    """The entries of standard input; one that is open at the end is an entry too."""
+def entries_of(lines: Iterable[str]) -> Iterator[str]:
+    """The entries of a text, with comments and blank lines between them; one that is open at the end is one too."""
     pending = ""
-    for line in sys.stdin:
+    for line in lines:
+        if not pending and not pieces(line):
+            continue
         pending += line
         if is_whole(pending):
             yield pending
             pending = ""
     if pending:
         yield pending
+
+
+def read_file(session: Session, file: str) -> bool:
+    """Does what the entries of a file say; false where one says to quit."""
+    if not file:
+        say("which file? as in .read queries.lrq")
+        return True
+    try:
+        text = Path(file).read_text(encoding="utf-8", errors="replace")
+    except OSError as fault:
+        raise Refused(f"{file}: {fault.strerror}", FAILED_READ) from fault
+    for entry in entries_of(text.splitlines(keepends=True)):
+        if entry.split()[0] == ".read":
+            say("a file that is read can't read another one")
+        elif not act(session, entry):
+            return False
+    return True
+
+
+def pointer(word: str) -> str:
+    """The command that a word is nearly, or all of them."""
+    names = [*COMMANDS, ".quit", ".read"]
+    name = "." + word.lower().lstrip(".")
+    close = get_close_matches(OTHER_NAMES.get(name[1:], name), names, 1, 0.6)
+    nearest = f"'{word}' is no command; '{close[0]}' is. " if close else f"'{word}' is no command. "
+    return nearest + ".help lists them, and a query begins with '{'"
 
 
 def act(session: Session, entry: str) -> bool:
@@ -73,11 +115,13 @@ def act(session: Session, entry: str) -> bool:
     try:
         if word == ".quit":
             return False
+        if word == ".read":
+            return read_file(session, rest.strip())
         if word in COMMANDS:
             COMMANDS[word](session, rest.strip())
-        elif word.startswith("."):
-            say(f"there is no command {word}; .help lists them")
-        elif text:
+        elif word.startswith(".") or (len(pieces(text)) == 1 and word != "{"):
+            say(pointer(word))
+        elif pieces(text):
             acts.ask(session, text)
     except KeyboardInterrupt:
         say("interrupted")
@@ -98,11 +142,13 @@ def loop(session: Session, entries: Iterator[str]) -> None:
 
 def shell_tool(words: Sequence[str]) -> None:
     """A session over one database; piped input is read without prompts and colours."""
-    found = keyed(words, ["db", "from", "to", "limit", "cap", "civil", "tense", "canon"], ["db"])
+    found = keyed(words, ["db", "from", "to", "limit", "cap", "civil", "tense", "canon", "plan"], ["db"])
     with tempfile.TemporaryDirectory(prefix="fizhedul-") as folder:
         session = Session(found["db"], Path(folder))
         session.is_civil, session.is_tense = is_chosen(found, "civil"), is_chosen(found, "tense")
-        session.is_canon = is_chosen(found, "canon")
+        session.is_canon, session.is_guarded = is_chosen(found, "canon"), is_guarded(found)
+        if session.is_civil and not {"from", "to"} & set(found):
+            session.first, session.last = settings.this_week()
         session.first, session.last = read_window(found, session.first, session.last, session.is_civil)
         session.limit = whole(found, "limit", session.limit, 1, 1_000_000)
         session.cap = whole(found, "cap", session.cap, 1, 1_000_000_000)
@@ -112,8 +158,8 @@ def shell_tool(words: Sequence[str]) -> None:
             from .prompt import prompted_entries
 
             say("Fizhedul: a line is a query; .help lists the commands.")
-            loop(session, prompted_entries(session, list(COMMANDS) + [".quit"], is_whole))
+            loop(session, prompted_entries(session, [*COMMANDS, ".read", ".quit"], is_whole))
         else:
-            loop(session, piped_entries())
+            loop(session, entries_of(sys.stdin))
     if session.status and not is_terminal:
         sys.exit(session.status)
