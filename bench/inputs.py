@@ -312,6 +312,90 @@ def join_on_nothing(size):
     return Case(listed(0, WEEK - 1), database, text, units=len(pairs), output=whole_page(found))
 
 
+# Joins by windows
+
+
+def spread_out(size, first, by):
+    """Numbers spread over four times the size, in no order, each twice at most."""
+    return [(first + by * i) % (4 * size) for i in range(size)]
+
+
+@family("instants met", "one", (625, 2500, 10000), "N instants and N others of one column, spread over 4 N: those of both")
+def instants_met(size):
+    first, second = spread_out(size, 1, 7), spread_out(size, 5, 9)
+    rows = lambda these: ["(%d)" % at for at in these]
+    database = relation("a", times("t"), rows(first)) + relation("b", times("t"), rows(second))
+    found = sorted((at,) for at in set(first) & set(second))
+    return Case(
+        listed(0, LIMIT), database, query(times("t"), "(a(t) and b(t))"), units=size, unit="rows", output=whole_page(found)
+    )
+
+
+@family("intervals met", "one", (125, 500, 2000), "N intervals of period 2 in both residues and N others, in order: what both have")
+def intervals_met(size):
+    first = [(20 * i, 20 * i + 12) for i in range(size)]
+    second = [(20 * i + 8, 20 * i + 18) for i in range(size)]
+    rows = lambda these: ["(%d+2n) where t >= %d, t <= %d" % (low % 2 ^ odd, low, high) for low, high in these for odd in (0, 1)]
+    database = relation("a", times("t"), rows(first)) + relation("b", times("t"), rows(second))
+    found = [(at,) for low, high in first for at in range(low + 8, high + 1)]
+    return Case(
+        listed(0, LIMIT), database, query(times("t"), "(a(t) and b(t))"), units=size, unit="rows", output=whole_page(found)
+    )
+
+
+@family("bookings", "one", (625, 2500, 10000), "N dated bookings of 20 rooms: those that overlap in one room")
+def bookings(size):
+    booked = [(37 * i % (4 * size), 37 * i % (4 * size) + 10 + i % 30, "r%d" % (i * i % 20), "g%d" % i) for i in range(size)]
+    database = relation("booking", times("s", "e") + ["room: data", "guest: data"], ['(%d, %d, "%s", "%s")' % b for b in booked])
+    text = query(
+        times("s", "u") + ["g: data", "h: data"],
+        "exists e: time exists v: time exists r: data (booking(s, e, r, g) and booking(u, v, r, h) and s < u and u < e)",
+    )
+    rooms = {}
+    for start, end, room, guest in booked:
+        rooms.setdefault(room, []).append((start, end, guest))
+    found = sorted(
+        (s, u, g, h) for these in rooms.values() for s, e, g in these for u, v, h in these if s < u < e
+    ) if size <= 2500 else None
+    return Case(listed(0, LIMIT), database, text, units=size, unit="rows", output=found and whole_page(found))
+
+
+@family("passes", "one", (14, 28, 94), "passes of three satellites of periods N, N + 3 and N + 7: those that overlap", by_units=True)
+def passes(size):
+    periods = (size, size + 3, size + 7)
+    rows = ['(%d+%dn, %d+%dn, "s%d") where u = t + 9' % (3 * i, p, (3 * i + 9) % p, p, i) for i, p in enumerate(periods)]
+    database = relation("pass", times("t", "u") + ["d: data"], rows)
+    text = query(times("t", "v") + ["d: data", "e: data"], "exists u: time exists w: time (pass(t, u, d) and pass(v, w, e) and t < v and v < u)")
+    return Case(["decide"], database, text, units=sum(math.lcm(*periods) // p for p in periods))
+
+
+@family("minutes apart", "one", (500, 2000, 8000), "N and N rows of period 100,000: pairs one or two minutes apart")
+def minutes_apart(size):
+    first, second = [12 * i % 100000 for i in range(size)], [(12 * i + i % 7) % 100000 for i in range(size)]
+    rows = lambda these: ["(%d+100000n)" % at for at in these]
+    database = relation("a", times("t"), rows(first)) + relation("b", times("t"), rows(second))
+    text = query(times("t", "u"), "(a(t) and b(u) and u >= t + 1 and u <= t + 2)")
+    held = set(second)
+    found = [(t, t + late) for t in sorted(first) for late in (1, 2) if t + late in held]
+    return Case(listed(0, 99997), database, text, units=size, unit="rows", output=whole_page(found))
+
+
+@family("boxes met", "one", (250, 1000, 4000), "N boxes of two columns in one cell joined with N others")
+def boxes_met(size):
+    boxes = lambda a, b: [((a * i) % size, (b * i) % size) for i in range(size)]
+    rows = lambda these: ["(0+1n, 0+1n) where t >= %d, t <= %d, u >= %d, u <= %d" % (10 * x, 10 * x + 9, 10 * y, 10 * y + 9) for x, y in these]
+    database = relation("a", times("t", "u"), rows(boxes(7, 11))) + relation("b", times("t", "u"), rows(boxes(3, 13)))
+    return Case(["decide"], database, query(times("t", "u"), "(a(t, u) and b(t, u))"), units=size, unit="rows")
+
+
+@family("windows in a row", "one", (125, 500, 1000), "three relations of N rows of period 10,080, linked by windows")
+def windows_in_a_row(size):
+    rows = lambda by: ["(%d+10080n)" % (by * i % WEEK) for i in range(size)]
+    database = "".join(relation(name, times("t"), rows(by)) for name, by in (("a", 11), ("b", 13), ("c", 17)))
+    text = query(times("t", "u", "v"), "(a(t) and b(u) and c(v) and u >= t and u <= t + 5 and v >= u and v <= u + 5)")
+    return Case(["decide"], database, text, units=size, unit="rows")
+
+
 # Steps of eight columns with one cell
 
 EIGHT = tuple("abcdefgh")
@@ -817,3 +901,72 @@ def cap_told(size):
 @family("start", "two", (1,), "the empty database, and a query without an answer")
 def start(size):
     return Case(["decide"], "", query([], "0 < 0"), units=1, output="Empty\n")
+
+
+# Differences whose sides meet in windows
+
+
+def spread_over(size, span, start):
+    """Different numbers below span, one after another far apart."""
+    step = next(step for step in range(7919, span + 7920) if math.gcd(step, span) == 1)
+    return [(start + step * i) % span for i in range(size)]
+
+
+def apart_case(left, right, names, words):
+    database = relation("a", times(*names), left) + relation("b", times(*names), right)
+    atoms = ", ".join(names)
+    return words, database, query(times(*names), "(a(%s) and not b(%s))" % (atoms, atoms))
+
+
+def instants_less(size, words):
+    """N instants and N others, spread over 4 N numbers."""
+    all_of = spread_over(2 * size, 4 * size, 0)
+    left, right = all_of[:size], all_of[size // 2 : size // 2 + size]
+    words, database, text = apart_case(["(%d)" % t for t in left], ["(%d)" % t for t in right], ["t"], words)
+    return words, database, text, [(t,) for t in set(left) - set(right)]
+
+
+@family("instants less others", "two", (1000, 4000, 10000), "N instants spread over 4 N, less N of which half are among them")
+def instants_less_others(size):
+    words, database, text, found = instants_less(size, ["decide"])
+    return Case(words, database, text, units=size, output="Nonempty\n%d\n" % min(found))
+
+
+@family("instants less others, listed", "two", (1000, 4000, 10000), "the same, each that is left listed")
+def instants_less_others_listed(size):
+    words, database, text, found = instants_less(size, listed(0, 4 * size))
+    return Case(words, database, text, units=size, unit="rows", output=whole_page(found))
+
+
+@family("rides less cancelled ones", "two", (1000, 4000, 10000), "N dated rides of which each tenth is cancelled, the others listed")
+def rides_less_cancelled(size):
+    rides = [(30 * t, 30 * t + 25 + t % 3) for t in spread_over(size, 2 * size + 1, 0)]
+    rows = lambda these: ["(%d, %d)" % ride for ride in these]
+    words, database, text = apart_case(rows(rides), rows(rides[::10]), ["t", "u"], listed(0, 100 * size))
+    found = set(rides) - set(rides[::10])
+    return Case(words, database, text, units=size, unit="rows", output=whole_page(found))
+
+
+@family("boxes less boxes", "two", (250, 1000, 4000), "N boxes of two columns in one cell, less N that overlap corners of them")
+def boxes_less_boxes(size):
+    wide = math.isqrt(size - 1) + 1
+    at = [(100 * (i % wide), 100 * (i // wide)) for i in range(size)]
+    box = lambda t, u: "(0+1n, 0+1n) where t >= %d, t <= %d, u >= %d, u <= %d" % (t, t + 50, u, u + 50)
+    left = [box(t, u) for t, u in at]
+    right = [box(t + 25, u + 25) for t, u in at]
+    words, database, text = apart_case(left, right, ["t", "u"], ["decide"])
+    return Case(words, database, text, units=size, output="Nonempty\n0, 0\n")
+
+
+@family("shifts", "two", (3, 6, 12), "minutes that none of N shifts of eight hours covers, in cycles of 5, 6, 7 and 8 days")
+def shifts(size):
+    days = (5, 6, 7, 8)
+    rows = [(1440 * (i % days[i % 4]) + 480 * (i // 4), 1440 * days[i % 4]) for i in range(size)]
+    database = relation(
+        "shift",
+        times("begin", "till"),
+        ["(%d+%dn, %d+%dn) where till = begin + 480" % (begin, every, (begin + 480) % every, every) for begin, every in rows],
+    )
+    text = query(times("t"), "not exists b: time exists e: time (shift(b, e) and b <= t and t < e)")
+    free = lambda t: all((t - begin) % every >= 480 for begin, every in rows)
+    return Case(["decide"], database, text, units=size, output=nearest(1, free))
