@@ -74,18 +74,6 @@ def test_a_drawing_is_written(bus: Path) -> None:
     assert "<!DOCTYPE html>" in (bus / "drawing.html").read_text()
 
 
-def test_queries_are_planned_under_guards_or_as_they_are_written() -> None:
-    guide = Path(__file__).parents[2] / "examples/guide"
-    costly = (guide / "costly.lrq").read_text()
-    text = f"{costly}.cap 10000\n.plan written\n.decide\n.plan\n.plan guarded\n.decide\n"
-    out, status = shell(guide, text, "db=line.lrp", "from=0", "to=1439")
-    page, refused, rest = out.partition("refused: more than 10000 cells at step 8\n")
-    assert page == "   d     a\n----  ----\n1205  1230\n(1 answer; the last from 0 to 1439)\n"
-    assert status == 5 and refused and "\nSay '.plan guarded'; see the steps by '.explain'; " in rest
-    end = "queries are planned as they are written; .plan guarded and .plan written change that\nNonempty\n-235, -210\n"
-    assert rest.endswith(end)
-
-
 def test_refusals_are_shown_in_place(bus: Path) -> None:
     out, status = piped(bus, "{ t: time |\n  tram(t) }\n.cap 1\n{ t: time, l: line | bus(t, l) }\n")
     assert status == 5 and out == (
