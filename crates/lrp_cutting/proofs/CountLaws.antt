@@ -18,11 +18,11 @@ use Rattle.lrp_zone.specs.Zones.{ZoneView, IsZone, IsMember, columns_of}
 use Rattle.lrp_zone.specs.Pairs.{IsWithin, HaveNoCommon}
 use Rattle.lrp_cutting.specs.declared.pairs.NodePair.{NodePair}
 use Rattle.lrp_cutting.specs.Cutting.{IsPairOf, lower_side}
-use Rattle.lrp_cutting.specs.Differences.{AreOfCell}
+use Rattle.lrp_cutting.specs.Differences.{AreOfCell, IsDifference}
 use Rattle.lrp_cutting.specs.Halves.{IsWithinBound}
-use Rattle.lrp_cutting.specs.Leaving.{IsUndivided, LieAlike}
+use Rattle.lrp_cutting.specs.Leaving.{AreLeftOf, IsUndivided, LieAlike}
 use Rattle.lrp_cutting.specs.Thresholds.{all_thresholds, stored_bounds, parts_along, most_parts, most_pieces, pairs_below}
-use Rattle.lrp_cutting.proofs.Lists.{below_or, from_map, head_in, in_cons, in_map, in_none, in_range, later}
+use Rattle.lrp_cutting.proofs.Lists.{below_or, from_map, head_in, in_cons, in_map, in_none, in_range, in_this, later, this_has}
 use Rattle.lrp_cutting.proofs.PairLists.{in_pairs}
 use Rattle.lrp_cutting.proofs.ThresholdLaws.{counted, in_distinct}
 
@@ -191,3 +191,18 @@ module _ (z : ZoneView) (cutters : List ZoneView) (cells : AreOfCell z cutters) 
       let zj : IsMember z (get_or p.0 j d) = (within _ lj).each _ mj in
       (apart i j z il jl_in).none (get_or p.0 j d) ((whole _ li).each _ _ mi zj (alike _ _ e)) mj) in
       omega arith
+
+-- ---- what is left of a zone
+-- it is a difference
+pub difference_of : (z : ZoneView) (cutters : List ZoneView) (h : ℕ) (made : List ZoneView) → AreLeftOf z (z ∷ []) cutters h made → IsDifference z cutters made
+difference_of z cutters h made left = record {
+  zones = left.zones;
+  disjoint = left.disjoint;
+  to = λ xs s. (this_has z xs (left.to xs s).0, (left.to xs s).1);
+  from = λ xs m out. left.from xs (in_this z xs m) out;
+}
+
+-- in few pieces
+pub few_left : (z : ZoneView) (cutters : List ZoneView) (h : ℕ) (made : List ZoneView) → AreOfCell z cutters → AreLeftOf z (z ∷ []) cutters h made → length made ≤ most_pieces z cutters
+few_left z cutters h made cells left = few_pieces z cutters cells made (λ w l. (left.zones w l).0)
+    (λ w l. record { each = λ xs m. this_has z xs (left.to xs (record { zone = w; listed = l; inside = m })).0 }) left.disjoint left.undivided

@@ -1,6 +1,6 @@
 -- A cutter is taken away from a zone, bound after bound, and cutters are taken away one after another.
-use Rattle.std.proofs.Common.{◌≡◌, ℕ, ◌+◌, ◌<◌, ◌≤◌, ◌⊎◌, ◌^◌, inl, inr, List, [], ◌∷◌, ◌++◌, Option, Some, None, length, get_or, arith, refl, sym, subst, ◌∙◌, ap, max, append_assoc, length-append, to_z, of_z, w64}
-use Rattle.std.specs.Prelude.{ℤ, pos, nat_abs, neg_ℤ, ◌-ℤ◌, Contains}
+use Rattle.std.proofs.Common.{◌≡◌, ℕ, ◌+◌, ◌<◌, ◌≤◌, ◌⊎◌, ◌^◌, inl, inr, List, [], ◌∷◌, ◌++◌, Option, Some, None, length, get_or, take, arith, refl, sym, subst, ◌∙◌, ap, max, append_assoc, length-append, to_z, of_z, w64}
+use Rattle.std.specs.Prelude.{ℤ, pos, nat_abs, neg_ℤ, ◌-ℤ◌, AllPairs, Contains}
 use Rattle.std.proofs.lemmas.Int.{ints}
 use Rattle.std.proofs.lemmas.List.{append-nil}
 use Rattle.std.proofs.lemmas.List.Elements.{Contains-get_or, Contains-append_cases, Contains-append_left, Contains-append_right}
@@ -8,16 +8,16 @@ use Rattle.lrp_theory.specs.Bounds.{Within}
 use Rattle.lrp_theory.specs.Entries.{entry, node, AtMost}
 use Rattle.lrp_model.specs.declared.relations.Bound.{Bound}
 use Rattle.lrp_zone.specs.Zones.{ZoneView, IsZone, IsMember, IsTight, columns_of, reach_of}
-use Rattle.lrp_zone.specs.Pairs.{IsOfCell, IsWithin}
+use Rattle.lrp_zone.specs.Pairs.{HaveNoCommon, IsOfCell, IsWithin}
 use Rattle.lrp_store.specs.Settled.{InSome}
 use Rattle.lrp_cutting.specs.Cutting.{HaveCommon, side_reach}
 use Rattle.lrp_cutting.specs.Differences.{AreOfCell, greatest_reach}
 use Rattle.lrp_cutting.specs.Halves.{IsWithinBound, CanBeStored, IsHalf, HasNoHalf, other_side}
-use Rattle.lrp_cutting.specs.Leaving.{IsStoredBound, AreBoundsOf, AreFromRow, HasGap, AreLeftOf, AppendsLeft, AreMeeting}
+use Rattle.lrp_cutting.specs.Leaving.{IsStoredBound, AreBoundsOf, AreFromRow, HasGap, AreLeftOf, AppendsLeft, AreMeeting, IsUndivided}
 use Rattle.lrp_cutting.proofs.CutLaws.{cells_moved}
-use Rattle.lrp_cutting.proofs.Lists.{below_or, greatest_below, in_either, in_left, in_none, in_nothing, in_one, in_right, in_this, one_in, reach_below, this_has}
-use Rattle.lrp_cutting.proofs.SplitLaws.{either_side}
+use Rattle.lrp_cutting.proofs.Lists.{before, below_or, greatest_below, in_either, in_left, in_none, in_nothing, in_one, in_right, in_this, one_in, pairs_append, pairs_none, pairs_one, reach_below, this_has}
 use Rattle.lrp_cutting.proofs.ThresholdLaws.{own_stored}
+use Rattle.lrp_cutting.proofs.UndividedLaws.{either_side, half_undivided, not_both, part_of_part, same_inner, same_outer, undivided_more, whole_undivided}
 
 -- ---- the stored bounds of a zone
 none_some : (a : ℤ) → None ≡ Some a → ⊥
@@ -107,10 +107,6 @@ at_bound z c items bs i same of cell valid room l =
 pub met_by : (c : ZoneView) (b : Bound) (xs : List ℤ) → IsStoredBound c b → IsMember c xs → IsWithinBound b xs
 met_by c b xs is m = subst (λ e. Within (node xs b.left -ℤ node xs b.right) e) is.is (m.meets b.left b.right is.left is.right)
 
--- no tuple meets a bound and its other side
-not_both : (k : ℕ) (b : Bound) (xs : List ℤ) → 0 < k → IsWithinBound b xs → IsWithinBound (other_side k b) xs → ⊥
-not_both k b xs low h g = absurd (omega (arith, ints))
-
 -- the sides that break one of the first bounds of c, and the rest, which meets them all
 pub record IsLeaving (z c : ZoneView) (done : List Bound) (h : ℕ) (sides : List ZoneView) (rest : ZoneView) : Type 0 where
   pub zones : (w : ZoneView) → Contains sides w → IsZone w × IsOfCell z w
@@ -121,6 +117,10 @@ pub record IsLeaving (z c : ZoneView) (done : List Bound) (h : ℕ) (sides : Lis
   pub inside : IsWithin rest z
   pub small : reach_of rest ≤ h
   pub met : (b : Bound) → Contains done b → (xs : List ℤ) → IsMember rest xs → IsWithinBound b xs
+  pub disjoint : AllPairs HaveNoCommon sides
+  pub apart : (w : ZoneView) → Contains sides w → HaveNoCommon w rest
+  pub undivided : (w : ZoneView) → Contains sides w → IsUndivided z (c ∷ []) w
+  pub rest_undivided : IsUndivided z (c ∷ []) rest
   pub whole : (xs : List ℤ) → IsMember z xs → InSome sides xs ⊎ IsMember rest xs
 
 pub leaving_none : (z c : ZoneView) (h : ℕ) → IsZone z → reach_of z ≤ h → IsLeaving z c [] h [] z
@@ -133,10 +133,14 @@ leaving_none z c h valid small = record {
   inside = record { each = λ xs m. m };
   small = small;
   met = λ b l. absurd (in_none b l);
+  disjoint = pairs_none HaveNoCommon;
+  apart = λ w l. absurd (in_none w l);
+  undivided = λ w l. absurd (in_none w l);
+  rest_undivided = whole_undivided z (c ∷ []);
   whole = λ xs m. inr m;
 }
 
-module _ (z c : ZoneView) (done : List Bound) (h : ℕ) (sides : List ZoneView) (rest : ZoneView) (zone : IsZone z) (s : IsLeaving z c done h sides rest) (b : Bound) (is : IsStoredBound c b) (both : HasBothSides z h b) where
+module _ (z c : ZoneView) (done : List Bound) (h : ℕ) (sides : List ZoneView) (rest : ZoneView) (zone : IsZone z) (of_cell : IsOfCell z c) (valid : IsZone c) (s : IsLeaving z c done h sides rest) (b : Bound) (is : IsStoredBound c b) (both : HasBothSides z h b) where
   rest_side : (xs : List ℤ) → IsMember rest xs → IsWithinBound b xs ⊎ IsWithinBound (other_side z.period b) xs
   rest_side xs m = either_side z b xs zone both.inner (s.inside.each xs m)
 
@@ -161,6 +165,10 @@ module _ (z c : ZoneView) (done : List Bound) (h : ℕ) (sides : List ZoneView) 
           | inl i ↦ i
           | inr o ↦ absurd (stop.none xs m o)
         ]) a l;
+    disjoint = s.disjoint;
+    apart = s.apart;
+    undivided = s.undivided;
+    rest_undivided = s.rest_undivided;
     whole = s.whole;
   }
 
@@ -199,6 +207,16 @@ module _ (z c : ZoneView) (done : List Bound) (h : ℕ) (sides : List ZoneView) 
       ]
     ]
 
+    more_disjoint : AllPairs HaveNoCommon (sides ++ side ∷ [])
+    more_disjoint = pairs_append HaveNoCommon sides (side ∷ []) s.disjoint (pairs_one HaveNoCommon side)
+        (λ u w ul wl. record { none = λ xs i k. (s.apart u ul).none xs i (half.to xs (subst (λ y. IsMember y xs) (sym (in_one side w wl)) k)).0 })
+
+    more_undivided : (w : ZoneView) → Contains (sides ++ side ∷ []) w → IsUndivided z (c ∷ []) w
+    more_undivided w l = elim (Contains-append_cases sides (side ∷ []) w l) [
+      | inl a ↦ s.undivided w a
+      | inr a ↦ subst (IsUndivided z (c ∷ [])) (in_one side w a) (half_undivided z rest side (c ∷ []) (other_side z.period b) s.inside.each s.rest_undivided half (same_outer z c b zone of_cell valid is both.inner))
+    ]
+
     -- and the rest meets it
     pub leaving_more : (inner : ZoneView) → IsHalf rest b inner → IsLeaving z c (done ++ b ∷ []) h (sides ++ side ∷ []) inner
     leaving_more inner in_half = record {
@@ -210,6 +228,15 @@ module _ (z c : ZoneView) (done : List Bound) (h : ℕ) (sides : List ZoneView) 
       inside = record { each = λ xs m. s.inside.each xs (in_half.to xs m).0 };
       small = (let r : reach_of inner ≤ max (reach_of rest) (nat_abs b.most) = in_half.reach in let q : nat_abs b.most ≤ h = both.inner_small in let e : reach_of rest ≤ h = s.small in omega arith);
       met = λ a l xs m. one_more xs (λ y k. s.met y k xs (in_half.to xs m).0) (in_half.to xs m).1 a l;
+      disjoint = more_disjoint;
+      apart = λ w l. record {
+        none = λ xs i k. elim (Contains-append_cases sides (side ∷ []) w l) [
+          | inl a ↦ (s.apart w a).none xs i (in_half.to xs k).0
+          | inr a ↦ not_both z.period b xs zone.shape.period_low (in_half.to xs k).1 (half.to xs (subst (λ y. IsMember y xs) (sym (in_one side w a)) i)).1
+        ];
+      };
+      undivided = more_undivided;
+      rest_undivided = half_undivided z rest inner (c ∷ []) b s.inside.each s.rest_undivided in_half (same_inner z c b zone of_cell valid is both.inner);
       whole = λ xs m. elim (more_whole xs m) [
         | inl a ↦ inl a
         | inr a ↦ inr (in_half.from xs a.0 a.1)
@@ -220,6 +247,8 @@ module _ (z c : ZoneView) (done : List Bound) (h : ℕ) (sides : List ZoneView) 
     pub leaving_early : HasNoHalf rest b → AreLeftOf z (z ∷ []) (c ∷ []) h (sides ++ side ∷ [])
     leaving_early stop = record {
       zones = more_zones;
+      disjoint = more_disjoint;
+      undivided = more_undivided;
       to = λ xs t. (in_this z xs (more_to xs t).0, λ k. (more_to xs t).1 (this_has c xs k));
       from = λ xs t out. elim (more_whole xs (this_has z xs t)) [
         | inl a ↦ a
@@ -232,6 +261,8 @@ module _ (z c : ZoneView) (done : List Bound) (h : ℕ) (sides : List ZoneView) 
 pub leaving_late : (z c : ZoneView) (bs : List Bound) (h : ℕ) (sides : List ZoneView) (rest : ZoneView) → IsOfCell z c → AreBoundsOf c bs → IsLeaving z c bs h sides rest → AreLeftOf z (z ∷ []) (c ∷ []) h sides
 leaving_late z c bs h sides rest cell of s = record {
   zones = s.zones;
+  disjoint = s.disjoint;
+  undivided = s.undivided;
   to = λ xs t. (in_this z xs (s.to xs t).0, λ k. (s.to xs t).1 (this_has c xs k));
   from = λ xs t out. elim (s.whole xs (this_has z xs t)) [
     | inl a ↦ a
@@ -345,6 +376,8 @@ left_whole z cutters h old valid none small = record {
   appended = refl;
   left = record {
     zones = λ w l. subst (λ y. IsZone y × IsOfCell z y) (in_one z w l) (valid, record { period = refl; residues = refl });
+    disjoint = pairs_one HaveNoCommon z;
+    undivided = λ w l. subst (IsUndivided z cutters) (in_one z w l) (whole_undivided z cutters);
     to = λ xs s. (s, λ k. let l : k.listed.0 < length cutters = k.listed.1 in absurd (omega arith));
     from = λ xs s out. s;
     reach = λ w l. subst (λ y. reach_of y ≤ h) (in_one z w l) small;
@@ -357,6 +390,8 @@ left_start z cutters h old = record {
   appended = sym (append-nil old);
   left = record {
     zones = λ w l. absurd (in_none w l);
+    disjoint = pairs_none HaveNoCommon;
+    undivided = λ w l. absurd (in_none w l);
     to = λ xs s. absurd (in_nothing xs s);
     from = λ xs s out. s;
     reach = λ w l. absurd (in_none w l);
@@ -364,14 +399,20 @@ left_start z cutters h old = record {
 }
 
 -- what is left of one side more, where it is known among the cutters that it meets
-pub left_more : (z w : ZoneView) (ps cutters met : List ZoneView) (h : ℕ) (old mid new : List ZoneView) → IsOfCell z w → AreMeeting w cutters met → AppendsLeft z ps cutters h old mid → AppendsLeft w (w ∷ []) met h mid new → AppendsLeft z (ps ++ w ∷ []) cutters h old new
-left_more z w ps cutters met h old mid new cell m a b = record {
+pub left_more : (z w : ZoneView) (ps cutters met : List ZoneView) (h : ℕ) (old mid new : List ZoneView) → IsOfCell z w → IsUndivided z cutters w → ((xs : List ℤ) → InSome ps xs → IsMember w xs → ⊥) → AreMeeting w cutters met → AppendsLeft z ps cutters h old mid → AppendsLeft w (w ∷ []) met h mid new → AppendsLeft z (ps ++ w ∷ []) cutters h old new
+left_more z w ps cutters met h old mid new cell whole apart m a b = record {
   pieces = a.pieces ++ b.pieces;
   appended = b.appended ∙ ap (λ l. l ++ b.pieces) a.appended ∙ append_assoc old a.pieces b.pieces;
   left = record {
     zones = λ v l. elim (Contains-append_cases a.pieces b.pieces v l) [
       | inl k ↦ a.left.zones v k
       | inr k ↦ ((b.left.zones v k).0, record { period = (b.left.zones v k).1.period ∙ cell.period; residues = (b.left.zones v k).1.residues ∙ cell.residues })
+    ];
+    disjoint = pairs_append HaveNoCommon a.pieces b.pieces a.left.disjoint b.left.disjoint
+        (λ u v ul vl. record { none = λ xs i k. apart xs (a.left.to xs (record { zone = u; listed = ul; inside = i })).0 (this_has w xs (b.left.to xs (record { zone = v; listed = vl; inside = k })).0) });
+    undivided = λ v l. elim (Contains-append_cases a.pieces b.pieces v l) [
+      | inl k ↦ a.left.undivided v k
+      | inr k ↦ part_of_part z w cutters met v cell m.listed (λ xs i. this_has w xs (b.left.to xs (record { zone = v; listed = k; inside = i })).0) whole (b.left.undivided v k)
     ];
     to = λ xs s. elim (in_either a.pieces b.pieces xs s) [
       | inl k ↦ (in_left ps (w ∷ []) xs (a.left.to xs k).0, (a.left.to xs k).1)
@@ -395,6 +436,8 @@ left_all z c g h sides cutters old new here side a = record {
   appended = a.appended;
   left = record {
     zones = a.left.zones;
+    disjoint = a.left.disjoint;
+    undivided = a.left.undivided;
     to = λ xs s. ((side.to xs (a.left.to xs s).0).0, (a.left.to xs s).1);
     from = λ xs s out. a.left.from xs (side.from xs s (λ k. out (record { zone = c; listed = here; inside = this_has c xs k }))) out;
     reach = a.left.reach;
@@ -404,3 +447,11 @@ left_all z c g h sides cutters old new here side a = record {
 -- what is appended to nothing is all that is left
 pub left_alone : (z : ZoneView) (parts cutters : List ZoneView) (h : ℕ) (old new : List ZoneView) → old ≡ [] → AppendsLeft z parts cutters h old new → AreLeftOf z parts cutters h new
 left_alone z parts cutters h old new none a = subst (λ l. AreLeftOf z parts cutters h l) (sym (a.appended ∙ ap (λ l. l ++ a.pieces) none)) a.left
+
+-- a side is apart from those before it
+pub side_apart : (sides : List ZoneView) (i : ℕ) (w : ZoneView) → AllPairs HaveNoCommon sides → i < length sides → w ≡ get_or sides i w → (xs : List ℤ) → InSome (take i sides) xs → IsMember w xs → ⊥
+side_apart sides i w disjoint l e xs s m = (before HaveNoCommon sides i w disjoint l e s.zone s.listed).none xs s.inside m
+
+-- and no threshold of the cutters divides it, since none of its own cutter does
+pub side_undivided : (z c : ZoneView) (g : ℕ) (sides cutters : List ZoneView) (w : ZoneView) → Contains cutters c → AreLeftOf z (z ∷ []) (c ∷ []) g sides → Contains sides w → IsUndivided z cutters w
+side_undivided z c g sides cutters w here left l = undivided_more z cutters (c ∷ []) w (λ v k. subst (Contains cutters) (in_one c v k) here) (left.undivided w l)

@@ -19,9 +19,9 @@ pub mod PairLists
 pub mod SettledLaws
 pub mod SettlingLaws
 pub mod SpanLaws
-pub mod SplitLaws
 pub mod SweepLaws
 pub mod ThresholdLaws
 pub mod TurnLaws
+pub mod UndividedLaws
 pub mod WidestLaws
 pub mod WindowLaws

@@ -66,7 +66,7 @@ module _ (z : ZoneView) (one : columns_of z ≡ 1) (zones : List ZoneView) (cell
   zone_is w l = All-contains IsZone zones w valid l
 
   -- each interval is that of a zone
-  span_in : (v : Interval) → Contains vs v → (w : ZoneView) × Contains zones w × (span_of w ≡ v)
+  pub span_in : (v : Interval) → Contains vs v → (w : ZoneView) × Contains zones w × (span_of w ≡ v)
   span_in v l = from_map span_of zones v (Contains-permutation _ _ v (IsPermutation-sym _ _ moved) l)
 
   in_span : (w : ZoneView) → Contains zones w → Contains vs (span_of w)

@@ -12,6 +12,7 @@ use Rattle.lrp_cutting.specs.Differences.{AreOfCell, greatest_reach}
 use Rattle.lrp_cutting.specs.Leaving.{AreLeftOf}
 use Rattle.lrp_cutting.specs.Windows.{IsLineOf, IsWindowIn, AreNearCutters as AreNear, AreNearIn, AreLinesFor, AreThoseMet, HaveLines}
 use Rattle.lrp_cutting.proofs.Lists.{greatest_below, in_cons, in_none, in_one, one_in, later, head_in, reach_below, some_in}
+use Rattle.lrp_cutting.proofs.UndividedLaws.{undivided_more}
 
 -- what is read at a place
 same_read : {X : Type 0} (xs : List X) (i : ℕ) (x y : X) → slice_get xs i ≡ Some x → slice_get xs i ≡ Some y → x ≡ y
@@ -123,6 +124,8 @@ module _ (z : ZoneView) (cutters met : List ZoneView) (a : AreThoseMet z cutters
   pub left_among : (low high : ℕ) (pieces : List ZoneView) → low ≤ high → AreLeftOf z (z ∷ []) met low pieces → AreLeftOf z (z ∷ []) cutters high pieces
   left_among low high pieces le p = record {
     zones = p.zones;
+    disjoint = p.disjoint;
+    undivided = λ w l. undivided_more z cutters met w a.listed (p.undivided w l);
     to = λ xs s. (let t = p.to xs s in (t.0, λ c. t.1 (a.whole xs (own xs t.0) c)));
     from = λ xs s out. p.from xs s (λ c. out (record { zone = c.zone; listed = a.listed c.zone c.listed; inside = c.inside }));
     reach = λ w l. (let r : reach_of w ≤ low = p.reach w l in omega arith);

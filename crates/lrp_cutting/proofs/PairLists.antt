@@ -1,5 +1,5 @@
 -- The lists of pairs, one pair and one row after another.
-use Rattle.std.proofs.Common.{◌≡◌, ℕ, suc, ◌+◌, ◌-◌, ◌<◌, ◌≤◌, List, [], ◌∷◌, ◌++◌, length, arith, refl, sym, subst, inl, ap, ◌∙◌, add-one, zero-add}
+use Rattle.std.proofs.Common.{◌≡◌, ℕ, suc, ◌+◌, ◌-◌, ◌<◌, ◌≤◌, [], ◌∷◌, ◌++◌, length, arith, refl, sym, subst, ap, ◌∙◌, add-one, zero-add}
 use Rattle.std.specs.Prelude.{map, flat_map, Contains}
 use Rattle.std.specs.List.{range_with_len}
 use Rattle.std.proofs.lemmas.List.{append-nil}
@@ -7,8 +7,6 @@ use Rattle.std.proofs.lemmas.List.FromFn.{map-range_with_len_more, length-map-ra
 use Rattle.std.proofs.lemmas.Grind.{flat_map-append}
 use Rattle.lrp_cutting.specs.declared.pairs.NodePair.{NodePair}
 use Rattle.lrp_cutting.specs.Thresholds.{row_of_pairs, pairs_below}
-use Rattle.lrp_cutting.specs.Cutting.{AreLeft}
-use Rattle.lrp_zone.specs.Zones.{ZoneView, columns_of}
 use Rattle.lrp_cutting.proofs.Lists.{range_more, in_flat, in_range, from_flat}
 
 -- the pair of two numbers
@@ -50,10 +48,3 @@ from_row n i p h =
 
 pub from_pairs : (n : ℕ) (p : NodePair) → Contains (pairs_below n) p → (p.left < p.right) × (p.right < n)
 from_pairs n p h = let r : (i : ℕ) × Contains (range_with_len 0 n) i × Contains (row_of_pairs n i) p = from_flat (row_of_pairs n) (range_with_len 0 n) p h in from_row n r.0 p r.2
-
--- at first all pairs of columns are left
-pub all_left : (z : ZoneView) (cutters : List ZoneView) (ps : List NodePair) → ps ≡ pairs_below (columns_of z + 1) → AreLeft z cutters ps
-all_left z cutters ps e = rw e (record {
-  pair = λ p h. record { rising = (from_pairs (columns_of z + 1) p h).0; high = (let l : p.right < columns_of z + 1 = (from_pairs (columns_of z + 1) p h).1 in omega arith) };
-  each = λ p is. inl (in_pairs (columns_of z + 1) p is.rising (let l : p.right ≤ columns_of z = is.high in omega arith));
-})

@@ -25,11 +25,11 @@ use Rattle.lrp_cutting.proofs.Lists.{in_none, in_one, one_in}
 use Rattle.lrp_matrix.proofs.RangeLemmas.{AtMost-negation}
 
 -- ---- the interval of a zone
-low_to : (x : ℤ) (e : Option ℤ) → Within (pos 0 -ℤ x) e → Above x (negation e)
+pub low_to : (x : ℤ) (e : Option ℤ) → Within (pos 0 -ℤ x) e → Above x (negation e)
 low_to x None h = tt
 low_to x (Some a) h = omega (arith, ints)
 
-low_from : (x : ℤ) (e : Option ℤ) → Above x (negation e) → Within (pos 0 -ℤ x) e
+pub low_from : (x : ℤ) (e : Option ℤ) → Above x (negation e) → Within (pos 0 -ℤ x) e
 low_from x None h = tt
 low_from x (Some a) h = omega (arith, ints)
 

@@ -1,8 +1,8 @@
 -- What of an interval is in none of others.
-use Rattle.std.specs.Prelude.{◌≡◌, ◌⊎◌, ℕ, ℤ, ◌+◌, ◌≤◌, ◌<ℤ◌, ◌≤ℤ◌, List, [], ◌∷◌, ◌++◌, Option, Some, None, Contains}
+use Rattle.std.specs.Prelude.{◌≡◌, ◌⊎◌, ◌↔◌, ℕ, ℤ, ◌+◌, ◌≤◌, ◌<ℤ◌, ◌≤ℤ◌, List, [], ◌∷◌, ◌++◌, Option, Some, None, AllPairs, Contains}
 use Rattle.lrp_theory.specs.Bounds.{Within}
 use Rattle.lrp_matrix.specs.Ranges.{Above}
-use Rattle.lrp_zone.specs.Zones.{ZoneView, IsZone, reach_of}
+use Rattle.lrp_zone.specs.Zones.{ZoneView, IsZone, IsMember, reach_of}
 use Rattle.lrp_zone.specs.Pairs.{IsOfCell}
 use Rattle.lrp_store.specs.Settled.{InSome}
 use Rattle.lrp_cutting.specs.declared.intervals.Interval.{Interval}
@@ -47,9 +47,24 @@ IsPartAbove z v w part = IsIntervalPart z v w (λ x. Within x w.most → ⊥) pa
 pub record AppendsSpan (z : ZoneView) (part : Option Interval) (old new : List ZoneView) : Type 0 where
   pub is : ((part ≡ None) × (new ≡ old)) ⊎ ((u : Interval) × (part ≡ Some u) × ((w : ZoneView) × IsIntervalZone z u w × (new ≡ old ++ w ∷ [])))
 
--- the zones hold the numbers of v that are in none of the intervals
+-- the numbers lie on the same side of each end of the intervals
+pub record LieOnOneSide (cuts : List Interval) (x y : ℤ) : Type 0 where
+  pub low : (u : Interval) → Contains cuts u → Above x u.least ↔ Above y u.least
+  pub high : (u : Interval) → Contains cuts u → Within x u.most ↔ Within y u.most
+
+-- no end of the intervals divides the numbers P of v: with each of them they have those of v on the same side of each end
+abbrev pub HasNoEndWithin : ZoneView → Interval → List Interval → (ℤ → Type 0) → Type 0
+HasNoEndWithin z v cuts P = (x y : ℤ) → P x → IsNumber z v y → LieOnOneSide cuts x y → P y
+
+-- no number is in both zones
+abbrev pub HaveNoNumber : ZoneView → ZoneView → Type 0
+HaveNoNumber u w = (x : ℤ) → IsMember u (x ∷ []) → IsMember w (x ∷ []) → ⊥
+
+-- the zones are disjoint, no end divides one, and they hold the numbers of v that are in none of the intervals
 pub record AreGaps (z : ZoneView) (v : Interval) (cuts : List Interval) (zones : List ZoneView) : Type 0 where
   pub valid : (w : ZoneView) → Contains zones w → IsZone w × IsOfCell z w
+  pub disjoint : AllPairs HaveNoNumber zones
+  pub undivided : (w : ZoneView) → Contains zones w → HasNoEndWithin z v cuts (λ x. IsMember w (x ∷ []))
   pub to : (x : ℤ) → InSome zones (x ∷ []) → IsNumber z v x × (InInterval z cuts x → ⊥)
   pub from : (x : ℤ) → IsNumber z v x → (InInterval z cuts x → ⊥) → InSome zones (x ∷ [])
   pub reach : (g h : ℕ) → h + z.period ≤ g → HasSmallEnds g v → ((u : Interval) → Contains cuts u → HasSmallEnds h u) → (w : ZoneView) → Contains zones w → reach_of w ≤ g

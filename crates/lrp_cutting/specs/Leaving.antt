@@ -1,5 +1,5 @@
 -- What of zones is left where cutters are taken away one after another.
-use Rattle.std.specs.Prelude.{◌≡◌, ℕ, ℤ, ◌+◌, ◌<◌, ◌≤◌, ◌⊎◌, ◌++◌, ◌↔◌, List, [], ◌∷◌, Contains, Some, length, max}
+use Rattle.std.specs.Prelude.{◌≡◌, ℕ, ℤ, ◌+◌, ◌<◌, ◌≤◌, ◌⊎◌, ◌++◌, ◌↔◌, List, [], ◌∷◌, AllPairs, Contains, Some, length, max}
 use Rattle.lrp_theory.specs.Entries.{entry}
 use Rattle.lrp_model.specs.declared.relations.Bound.{Bound}
 use Rattle.lrp_zone.specs.Zones.{ZoneView, IsZone, IsMember, columns_of, reach_of}
@@ -41,9 +41,11 @@ pub record HasGap (z : ZoneView) (cutters : List ZoneView) : Type 0 where
   pub inside : IsMember z tuple
   pub none : InSome cutters tuple → ⊥
 
--- the pieces are zones of the cell of z, of a reach of at most h, and hold just the tuples of the parts that are in no cutter
+-- the pieces are disjoint zones of the cell of z, of a reach of at most h, which no threshold divides in z, and hold just the tuples of the parts that are in no cutter
 pub record AreLeftOf (z : ZoneView) (parts cutters : List ZoneView) (h : ℕ) (pieces : List ZoneView) : Type 0 where
   pub zones : (w : ZoneView) → Contains pieces w → IsZone w × IsOfCell z w
+  pub disjoint : AllPairs HaveNoCommon pieces
+  pub undivided : (w : ZoneView) → Contains pieces w → IsUndivided z cutters w
   pub to : (xs : List ℤ) → InSome pieces xs → InSome parts xs × (InSome cutters xs → ⊥)
   pub from : (xs : List ℤ) → InSome parts xs → (InSome cutters xs → ⊥) → InSome pieces xs
   pub reach : (w : ZoneView) → Contains pieces w → reach_of w ≤ h

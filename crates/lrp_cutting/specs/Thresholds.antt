@@ -1,8 +1,6 @@
 -- The thresholds of cutters along a pair of columns, and how many pieces they allow.
-use Rattle.std.specs.Prelude.{ℕ, ℤ, ◌+◌, ◌*◌, ◌-◌, List, [], ◌∷◌, ◌++◌, map, flat_map, Option, Some, None, Contains, pos, neg_ℤ, ◌-ℤ◌}
+use Rattle.std.specs.Prelude.{ℕ, ℤ, ◌+◌, ◌*◌, ◌-◌, List, [], ◌∷◌, ◌++◌, map, flat_map, Option, Some, None, pos, neg_ℤ, ◌-ℤ◌}
 use Rattle.std.specs.List.{range_with_len}
-use Rattle.std.specs.List.Sorted.{IsStrictlySortedBy}
-use Rattle.std.specs.Ordering.{int_cmp}
 use Rattle.lrp_theory.specs.Entries.{entry}
 use Rattle.lrp_model.specs.declared.relations.Bound.{Bound}
 use Rattle.lrp_model.specs.Cuts.{cuts}
@@ -51,9 +49,3 @@ thresholds_of k p z = bound_list (entry z.bounds p.left p.right) ++ map (λ b. n
 -- those of all cutters
 abbrev pub all_thresholds : ℕ → NodePair → List ZoneView → List ℤ
 all_thresholds k p cutters = flat_map (thresholds_of k p) cutters
-
--- the thresholds of the cutters along the pair, each once, ascending
-pub record AreThresholds (k : ℕ) (p : NodePair) (cutters : List ZoneView) (ts : List ℤ) : Type 0 where
-  pub ascending : IsStrictlySortedBy int_cmp ts
-  pub whole : (t : ℤ) → Contains (all_thresholds k p cutters) t → Contains ts t
-  pub only : (t : ℤ) → Contains ts t → Contains (all_thresholds k p cutters) t

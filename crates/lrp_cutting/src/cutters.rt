@@ -3,6 +3,7 @@ ghost use Rattle.std.specs.Prelude.{◌≡◌, ◌+◌, ◌<◌, ◌≤◌, ◌^
 ghost use Rattle.lrp_zone.specs.Zones.{ZoneView};
 ghost use Rattle.lrp_cutting.specs.Differences.{AreOfCell, greatest_reach};
 ghost use Rattle.lrp_cutting.specs.Leaving.{AreLeftOf};
+ghost use Rattle.lrp_cutting.specs.Thresholds.{most_pieces};
 ghost use Rattle.lrp_cutting.specs.Windows.{AreLinesFor, AreNearIn, AreThoseMet, HaveLines};
 
 use crate::leaving::left_over;
@@ -63,12 +64,13 @@ impl Cutters {
         self.zones.len()
     }
 
-    /// Zones that hold the tuples of a zone that are in no cutter.
-    pub fn left_over(&self, alloc: Global, zone: &Zone) -> Result<List<Zone>, Memory>
+    /// Disjoint zones that hold the tuples of a zone that are in no cutter.
+    pub fn pieces(&self, alloc: Global, zone: &Zone) -> Result<List<Zone>, Memory>
         requires cell { AreOfCell zone.now self.now }
         requires reach { greatest_reach (zone.now ∷ self.now) + zone.now.period ≤ 2 ^ 62 }
-        ensures { IfOk result (λ made. AreLeftOf zone.now (zone.now ∷ []) self.now
+        ensures left { IfOk result (λ made. AreLeftOf zone.now (zone.now ∷ []) self.now
             (greatest_reach (zone.now ∷ self.now) + zone.now.period) made) }
+        ensures count { IfOk result (λ made. length made ≤ most_pieces zone.now self.now) }
     {
         let Some((first, rest)) = self.lines.split_first() else {
             return left_over(alloc, zone, &self.zones);

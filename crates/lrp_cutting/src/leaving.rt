@@ -3,8 +3,9 @@ ghost use Rattle.std.specs.Prelude.{◌≡◌, ◌+◌, ◌<◌, ◌≤◌, ◌^
 ghost use Rattle.lrp_zone.specs.Pairs.{IsOfCell};
 ghost use Rattle.lrp_zone.specs.Zones.{IsZone, reach_of};
 ghost use Rattle.lrp_cutting.specs.Cutting.{side_reach};
-ghost use Rattle.lrp_cutting.specs.Differences.{AreOfCell, greatest_reach};
+ghost use Rattle.lrp_cutting.specs.Differences.{AreOfCell, IsDifference, greatest_reach};
 ghost use Rattle.lrp_cutting.specs.Leaving.{AppendsLeft, AreLeftOf, AreMeeting, AreOutsideOne, HasGap};
+ghost use Rattle.lrp_cutting.specs.Thresholds.{most_pieces};
 
 use crate::gaps::gaps;
 use crate::half::{half, turned};
@@ -94,8 +95,27 @@ pub(crate) fn has_gap(alloc: Global, part: &Zone, cutters: &[Zone]) -> Result<bo
     Ok(false)
 }
 
-/// Zones that hold the tuples of the zone that are in no cutter.
-pub fn left_over(alloc: Global, zone: &Zone, cutters: &List<Zone>) -> Result<List<Zone>, Memory>
+/// Disjoint zones that hold the tuples of the zone that are in no cutter.
+///
+/// A cutter from the middle of the list is taken away, bound after bound, and then from each side that is left those cutters
+/// that the side meets. A zone with one column is swept along its cutters in order.
+pub fn pieces(alloc: Global, zone: &Zone, cutters: &List<Zone>) -> Result<List<Zone>, Memory>
+    requires cell { AreOfCell zone.now cutters.now }
+    requires reach { greatest_reach (zone.now ∷ cutters.now) + zone.now.period ≤ 2 ^ 62 }
+    ensures difference { IfOk result (λ made. IsDifference zone.now cutters.now made) }
+    ensures reach { IfOk result (λ made. greatest_reach made
+        ≤ greatest_reach (zone.now ∷ cutters.now) + zone.now.period) }
+    ensures count { IfOk result (λ made. length made ≤ most_pieces zone.now cutters.now) }
+{
+    left_over(alloc, zone, cutters)
+}
+
+/// The same, as what is left of a part.
+pub(crate) fn left_over(
+    alloc: Global,
+    zone: &Zone,
+    cutters: &List<Zone>,
+) -> Result<List<Zone>, Memory>
     requires cell { AreOfCell zone.now cutters.now }
     requires reach { greatest_reach (zone.now ∷ cutters.now) + zone.now.period ≤ 2 ^ 62 }
     ensures { IfOk result (λ made. AreLeftOf zone.now (zone.now ∷ []) cutters.now

@@ -3,7 +3,6 @@
 
 mod bounded;
 mod cutters;
-mod cutting;
 mod gaps;
 mod half;
 mod hull;
@@ -13,15 +12,12 @@ mod line;
 mod pairs;
 mod settled;
 mod settling;
-mod split;
 mod standing;
 mod stored;
-mod thresholds;
 mod windows;
 
 pub use cutters::Cutters;
-pub use cutting::pieces;
-pub use leaving::left_over;
+pub use leaving::pieces;
 pub use line::settle_line;
 pub use settled::is_settled;
 pub use settling::settle;

@@ -35,7 +35,7 @@ pub(crate) fn add_left(
     if cutters.len() == 0 {
         return store.add_new(cell, zone, cap);
     }
-    let left = cutters.left_over(store.alloc(), zone)?;
+    let left = cutters.pieces(store.alloc(), zone)?;
     for piece in left.as_slice() {
         store.add_new(cell, piece, cap)?;
     }

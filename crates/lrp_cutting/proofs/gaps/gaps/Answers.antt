@@ -36,6 +36,6 @@ pub returns : goal.returns
 returns c =
     let p : IsPermutation (map span_of c.args.cutters.now) c.sort_unstable.new.self.items = subst (λ l. IsPermutation l c.sort_unstable.new.self.items) c.in_ok-cuts.ensures.intervals c.sort_unstable.ensures.permutation in
     if_ok (AreGaps c.args.zone.now c.interval_of.result c.deref.result.now) _ c.swept.result
-    (λ made g. gaps_left c.args.zone.now c.requires.column c.interval_of.ensures.valid c.args.cutters.now c.requires.cell c.in_ok-cuts.ensures.valid c.sort_unstable.new.self.items p made
+    (λ made g. gaps_left c.args.zone.now c.requires.column c.interval_of.ensures.valid c.args.cutters.now c.requires.cell c.in_ok-cuts.ensures.valid c.sort_unstable.new.self.items p made c.requires.reach
     (subst (λ v. AreGaps c.args.zone.now v c.sort_unstable.new.self.items made) c.interval_of.ensures.interval (subst (λ l. AreGaps c.args.zone.now c.interval_of.result l made) c.deref.ensures.value g)))
     c.swept.ensures

@@ -39,7 +39,7 @@ returns-in-None c =
     let is : IsInterval c.args.cell.now (cut_at c.args.cuts.now c.loop-cut.cut-index) = c.requires.cuts c.loop-cut.cut-index (record { least = None; most = None }) c.loop-cut-test.true in
     let lp : IsPartBelow c.args.cell.now c.loop-cut.rest (cut_at c.args.cuts.now c.loop-cut.cut-index) c.below.result = c.below.ensures c.args.cell.now (passed c.args.cell.now.period c.period.result c.period.ensures c.requires.zone.shape.period_high) c.requires.zone.shape.period_low c.loop-cut.invariant.interval is in
     let ap : IsPartAbove c.args.cell.now c.loop-cut.rest (cut_at c.args.cuts.now c.loop-cut.cut-index) c.above.result = c.above.ensures c.args.cell.now (passed c.args.cell.now.period c.period-in-loop-cut.result c.period-in-loop-cut.ensures c.requires.zone.shape.period_high) c.requires.zone.shape.period_low c.loop-cut.invariant.interval is in
-    all_swept c.args.cell.now c.args.whole c.args.cuts.now c.loop-cut.cut-index c.requires.order c.loop-cut-test.true c.loop-cut.made c.loop-cut.rest (record { least = None; most = None }) c.loop-cut.invariant
+    all_swept c.args.cell.now c.args.whole c.args.cuts.now c.loop-cut.cut-index c.requires.order c.loop-cut-test.true c.loop-cut.made c.loop-cut.rest (record { least = None; most = None }) c.loop-cut.invariant is
     (before_it c.args.cuts.now c.loop-cut.cut-index c.requires.order c.loop-cut-test.true) c.below.result lp c.push_span.new.made c.in_ok-push_span.ensures c.above.result ap c.in-None.is
 
 pub loop-cut-preserved : goal.loop-cut-preserved
@@ -48,7 +48,7 @@ loop-cut-preserved c =
     let lp : IsPartBelow c.args.cell.now c.loop-cut.rest (cut_at c.args.cuts.now c.loop-cut.cut-index) c.below.result = c.below.ensures c.args.cell.now (passed c.args.cell.now.period c.period.result c.period.ensures c.requires.zone.shape.period_high) c.requires.zone.shape.period_low c.loop-cut.invariant.interval is in
     let ap : IsPartAbove c.args.cell.now c.loop-cut.rest (cut_at c.args.cuts.now c.loop-cut.cut-index) c.above.result = c.above.ensures c.args.cell.now (passed c.args.cell.now.period c.period-in-loop-cut.result c.period-in-loop-cut.ensures c.requires.zone.shape.period_high) c.requires.zone.shape.period_low c.loop-cut.invariant.interval is in
     subst (λ l. AreSweeping c.args.cell.now c.args.whole l c.push_span.new.made c.in-Some.left) (sym (take_more c.args.cuts.now c.loop-cut.cut-index (record { least = None; most = None }) c.loop-cut-test.true))
-    (sweeping_more c.args.cell.now c.args.whole (take c.loop-cut.cut-index c.args.cuts.now) c.loop-cut.made c.loop-cut.rest (cut_at c.args.cuts.now c.loop-cut.cut-index) c.loop-cut.invariant
+    (sweeping_more c.args.cell.now c.args.whole (take c.loop-cut.cut-index c.args.cuts.now) c.loop-cut.made c.loop-cut.rest (cut_at c.args.cuts.now c.loop-cut.cut-index) c.loop-cut.invariant is
     (before_it c.args.cuts.now c.loop-cut.cut-index c.requires.order c.loop-cut-test.true) c.below.result lp c.push_span.new.made c.in_ok-push_span.ensures c.above.result c.in-Some.left ap c.in-Some.is)
 
 pub zone_of-requires-clause-interval : goal.zone_of-requires-clause-interval

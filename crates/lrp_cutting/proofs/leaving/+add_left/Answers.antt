@@ -1,15 +1,16 @@
 -- What is left of one more side is appended.
 use Rattle.std.proofs.Common.{◌≡◌, ◌+◌, ◌<◌, ◌≤◌, ◌++◌, ◌∷◌, [], length, take, max, arith, ap, sym, subst, ◌∙◌}
-use Rattle.std.specs.Prelude.{Contains}
+use Rattle.std.specs.Prelude.{AllPairs, Contains}
 use Rattle.std.proofs.Math.Seq.{take-length}
 use Rattle.std.proofs.lemmas.Bool.{eqb-true}
 use Rattle.lrp_zone.specs.Zones.{reach_of}
+use Rattle.lrp_zone.specs.Pairs.{HaveNoCommon}
 use Rattle.lrp_cutting.specs.Cutting.{side_reach}
 use Rattle.lrp_cutting.specs.Differences.{greatest_reach}
 use Rattle.lrp_cutting.specs.Leaving.{AppendsLeft}
 use Rattle.lrp_cutting.proofs.CutLaws.{cells_moved}
 use Rattle.lrp_cutting.proofs.Lists.{front_more, on_ok, reach_below, read}
-use Rattle.lrp_cutting.proofs.LeavingLaws.{goes_on, left_all, left_more, left_start, left_whole, reach_met}
+use Rattle.lrp_cutting.proofs.LeavingLaws.{goes_on, left_all, left_more, left_start, left_whole, reach_met, side_apart, side_undivided}
 use Rattle.lrp_cutting.proofs.leaving.+add_left.Goals as goal
 
 pub returns-then-is_empty : goal.returns-then-is_empty
@@ -44,7 +45,10 @@ loop-side-preserved t c = λ h small high.
     let top : greatest_reach c.args.cutters.now + c.args.part.now.period ≤ h = high in
     let part : reach_of c.args.part.now ≤ h = small in
     subst (λ x. AppendsLeft c.args.part.now x c.args.cutters.now h c.args.made.now c.add_left.new.made) (sym more)
-    (left_more c.args.part.now c.side-item.result _ c.args.cutters.now c.in_ok-met.met h c.args.made.now c.loop-side.made c.add_left.new.made (c.in_ok-sides.ensures.left.zones c.side-item.result l).1 c.in_ok-met.ensures (c.loop-side.invariant h small high)
+    (left_more c.args.part.now c.side-item.result _ c.args.cutters.now c.in_ok-met.met h c.args.made.now c.loop-side.made c.add_left.new.made (c.in_ok-sides.ensures.left.zones c.side-item.result l).1
+    (side_undivided c.args.part.now c.in_ok-sides.ensures.cutter _ c.in_ok-sides.sides c.args.cutters.now c.side-item.result c.in_ok-sides.ensures.listed c.in_ok-sides.ensures.left l)
+    (side_apart c.as_slice-side-items.result.now c.loop-side.side-index c.side-item.result (subst (AllPairs HaveNoCommon) (sym c.as_slice-side-items.ensures) c.in_ok-sides.ensures.left.disjoint) c.loop-side-test.true c.side-item.is)
+    c.in_ok-met.ensures (c.loop-side.invariant h small high)
     (subst (λ x. AppendsLeft c.side-item.result (c.side-item.result ∷ []) x h c.loop-side.made c.add_left.new.made) c.as_slice.ensures
     (c.in_ok-add_left.ensures h (omega (arith, low, side, top, part)) (subst (λ x. side_reach c.side-item.result.period x ≤ h) (sym c.as_slice.ensures) (omega (arith, less, period, top))))))
 

@@ -32,7 +32,7 @@ loop-bound-preserved-in_default c =
     let at : AtBound c.args.zone.now c.args.cutter.now (get_or c.deref-bound-items.result.now c.loop-bound.bound-index nought) =
     at_bound c.args.zone.now c.args.cutter.now c.deref-bound-items.result.now _ c.loop-bound.bound-index c.deref-bound-items.ensures.value c.in_ok-bounds.ensures.bounds c.requires.cell c.in_ok-bounds.ensures.valid c.requires.reach c.loop-bound-test.true in
     subst (λ l. IsLeaving c.args.zone.now c.args.cutter.now l (max (reach_of c.args.zone.now) (reach_of c.args.cutter.now + c.args.zone.now.period)) c.loop-bound.sides c.loop-bound.rest) (sym (take_more c.deref-bound-items.result.now c.loop-bound.bound-index nought c.loop-bound-test.true))
-    (leaving_same c.args.zone.now c.args.cutter.now _ _ c.loop-bound.sides c.loop-bound.rest c.requires.zone c.loop-bound.invariant _ at.is at.both
+    (leaving_same c.args.zone.now c.args.cutter.now _ _ c.loop-bound.sides c.loop-bound.rest c.requires.zone c.requires.cell c.in_ok-bounds.ensures.valid c.loop-bound.invariant _ at.is at.both
     (subst (λ x. HasNoHalf c.loop-bound.rest x) c.turned.ensures c.in_default.ensures.none))
 
 pub half-requires-in-loop-bound : goal.half-requires-in-loop-bound
@@ -45,7 +45,7 @@ returns-in-None c =
     let at : AtBound c.args.zone.now c.args.cutter.now (get_or c.deref-bound-items.result.now c.loop-bound.bound-index nought) =
     at_bound c.args.zone.now c.args.cutter.now c.deref-bound-items.result.now _ c.loop-bound.bound-index c.deref-bound-items.ensures.value c.in_ok-bounds.ensures.bounds c.requires.cell c.in_ok-bounds.ensures.valid c.requires.reach c.loop-bound-test.true in
     subst (λ l. AreLeftOf c.args.zone.now (c.args.zone.now ∷ []) (c.args.cutter.now ∷ []) (max (reach_of c.args.zone.now) (reach_of c.args.cutter.now + c.args.zone.now.period)) l) (sym c.in_ok-push.ensures.ok)
-    (leaving_early c.args.zone.now c.args.cutter.now _ _ c.loop-bound.sides c.loop-bound.rest c.requires.zone c.loop-bound.invariant _ at.is at.both c.in-Some.side
+    (leaving_early c.args.zone.now c.args.cutter.now _ _ c.loop-bound.sides c.loop-bound.rest c.requires.zone c.requires.cell c.in_ok-bounds.ensures.valid c.loop-bound.invariant _ at.is at.both c.in-Some.side
     (subst (λ x. IsHalf c.loop-bound.rest x c.in-Some.side) c.turned.ensures c.in-Some.ensures.some) c.in-None.ensures.none)
 
 pub loop-bound-preserved : goal.loop-bound-preserved
@@ -54,7 +54,7 @@ loop-bound-preserved c =
     at_bound c.args.zone.now c.args.cutter.now c.deref-bound-items.result.now _ c.loop-bound.bound-index c.deref-bound-items.ensures.value c.in_ok-bounds.ensures.bounds c.requires.cell c.in_ok-bounds.ensures.valid c.requires.reach c.loop-bound-test.true in
     subst (λ l. IsLeaving c.args.zone.now c.args.cutter.now l (max (reach_of c.args.zone.now) (reach_of c.args.cutter.now + c.args.zone.now.period)) c.push.new.self c.in-Some-half.inner) (sym (take_more c.deref-bound-items.result.now c.loop-bound.bound-index nought c.loop-bound-test.true))
     (subst (λ l. IsLeaving c.args.zone.now c.args.cutter.now (take c.loop-bound.bound-index c.deref-bound-items.result.now ++ get_or c.deref-bound-items.result.now c.loop-bound.bound-index nought ∷ []) (max (reach_of c.args.zone.now) (reach_of c.args.cutter.now + c.args.zone.now.period)) l c.in-Some-half.inner) (sym c.in_ok-push.ensures.ok)
-    (leaving_more c.args.zone.now c.args.cutter.now _ _ c.loop-bound.sides c.loop-bound.rest c.requires.zone c.loop-bound.invariant _ at.is at.both c.in-Some.side
+    (leaving_more c.args.zone.now c.args.cutter.now _ _ c.loop-bound.sides c.loop-bound.rest c.requires.zone c.requires.cell c.in_ok-bounds.ensures.valid c.loop-bound.invariant _ at.is at.both c.in-Some.side
     (subst (λ x. IsHalf c.loop-bound.rest x c.in-Some.side) c.turned.ensures c.in-Some.ensures.some) c.in-Some-half.inner c.in-Some-half.ensures.some))
 
 pub returns : goal.returns

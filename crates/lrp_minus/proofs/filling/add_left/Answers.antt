@@ -13,34 +13,34 @@ loop-piece-init c = filled_none c.args.zone.now c.args.cutters.now _ c.args.cap 
 
 pub add_new-requires-in-loop-piece-clause-period : goal.add_new-requires-in-loop-piece-clause-period
 add_new-requires-in-loop-piece-clause-period c = piece_period c.args.zone.now c.args.cutters.now (take c.args.store.now.shape.texts c.args.cell.now.texts) c.args.cap (greatest_reach (c.args.zone.now ∷ c.args.cutters.now) + c.args.zone.now.period) c.args.store.now
-    c.in_ok-left.left c.in_ok-left.ensures c.requires.place.period c.args.cell.now c.requires.place.residues c.requires.place.texts c.requires.place.times refl c.loop-piece.store _ c.loop-piece.invariant c.piece-item.result
+    c.in_ok-left.left c.in_ok-left.ensures.left c.requires.place.period c.args.cell.now c.requires.place.residues c.requires.place.texts c.requires.place.times refl c.loop-piece.store _ c.loop-piece.invariant c.piece-item.result
     (subst (λ l. Contains l c.piece-item.result) c.as_slice-piece-items.ensures (read _ _ _ c.loop-piece-test.true c.piece-item.is))
 
 pub add_new-requires-in-loop-piece-clause-residues : goal.add_new-requires-in-loop-piece-clause-residues
 add_new-requires-in-loop-piece-clause-residues c = piece_residues c.args.zone.now c.args.cutters.now (take c.args.store.now.shape.texts c.args.cell.now.texts) c.args.cap (greatest_reach (c.args.zone.now ∷ c.args.cutters.now) + c.args.zone.now.period) c.args.store.now
-    c.in_ok-left.left c.in_ok-left.ensures c.requires.place.period c.args.cell.now c.requires.place.residues c.requires.place.texts c.requires.place.times refl c.loop-piece.store _ c.loop-piece.invariant c.piece-item.result
+    c.in_ok-left.left c.in_ok-left.ensures.left c.requires.place.period c.args.cell.now c.requires.place.residues c.requires.place.texts c.requires.place.times refl c.loop-piece.store _ c.loop-piece.invariant c.piece-item.result
     (subst (λ l. Contains l c.piece-item.result) c.as_slice-piece-items.ensures (read _ _ _ c.loop-piece-test.true c.piece-item.is))
 
 pub add_new-requires-in-loop-piece-clause-texts : goal.add_new-requires-in-loop-piece-clause-texts
 add_new-requires-in-loop-piece-clause-texts c = piece_texts c.args.zone.now c.args.cutters.now (take c.args.store.now.shape.texts c.args.cell.now.texts) c.args.cap (greatest_reach (c.args.zone.now ∷ c.args.cutters.now) + c.args.zone.now.period) c.args.store.now
-    c.in_ok-left.left c.in_ok-left.ensures c.requires.place.period c.args.cell.now c.requires.place.residues c.requires.place.texts c.requires.place.times refl c.loop-piece.store _ c.loop-piece.invariant c.piece-item.result
+    c.in_ok-left.left c.in_ok-left.ensures.left c.requires.place.period c.args.cell.now c.requires.place.residues c.requires.place.texts c.requires.place.times refl c.loop-piece.store _ c.loop-piece.invariant c.piece-item.result
     (subst (λ l. Contains l c.piece-item.result) c.as_slice-piece-items.ensures (read _ _ _ c.loop-piece-test.true c.piece-item.is))
 
 pub add_new-requires-in-loop-piece-clause-times : goal.add_new-requires-in-loop-piece-clause-times
 add_new-requires-in-loop-piece-clause-times c = piece_times c.args.zone.now c.args.cutters.now (take c.args.store.now.shape.texts c.args.cell.now.texts) c.args.cap (greatest_reach (c.args.zone.now ∷ c.args.cutters.now) + c.args.zone.now.period) c.args.store.now
-    c.in_ok-left.left c.in_ok-left.ensures c.requires.place.period c.args.cell.now c.requires.place.residues c.requires.place.texts c.requires.place.times refl c.loop-piece.store _ c.loop-piece.invariant c.piece-item.result
+    c.in_ok-left.left c.in_ok-left.ensures.left c.requires.place.period c.args.cell.now c.requires.place.residues c.requires.place.texts c.requires.place.times refl c.loop-piece.store _ c.loop-piece.invariant c.piece-item.result
     (subst (λ l. Contains l c.piece-item.result) c.as_slice-piece-items.ensures (read _ _ _ c.loop-piece-test.true c.piece-item.is))
 
 pub returns-in_err-add_new-clause-refused : goal.returns-in_err-add_new-clause-refused
 returns-in_err-add_new-clause-refused c = λ e. let p = err_from_is_err_and c.from_residual-in_err-add_new.result c.from_residual-in_err-add_new.ensures.1 in filled_refused c.args.zone.now c.args.cutters.now (take c.args.store.now.shape.texts c.args.cell.now.texts) c.args.cap (greatest_reach (c.args.zone.now ∷ c.args.cutters.now) + c.args.zone.now.period) c.args.store.now
-    c.in_ok-left.left c.in_ok-left.ensures c.requires.place.period c.args.cell.now c.requires.place.residues c.requires.place.texts c.requires.place.times refl c.loop-piece.store _ c.loop-piece.invariant c.piece-item.result
+    c.in_ok-left.left c.in_ok-left.ensures.left c.requires.place.period c.args.cell.now c.requires.place.residues c.requires.place.texts c.requires.place.times refl c.loop-piece.store _ c.loop-piece.invariant c.piece-item.result
     (subst (λ l. Contains l c.piece-item.result) c.as_slice-piece-items.ensures (read _ _ _ c.loop-piece-test.true c.piece-item.is))
     c.add_new-in-loop-piece.new.self (c.add_new-in-loop-piece.ensures.too_many (cc (e, c.in_err-add_new.was, p.1, p.2)))
 
 pub loop-piece-preserved : goal.loop-piece-preserved
 loop-piece-preserved c = rw (front_more _ _ _ c.loop-piece-test.true c.piece-item.is)
     (filled_more c.args.zone.now c.args.cutters.now (take c.args.store.now.shape.texts c.args.cell.now.texts) c.args.cap (greatest_reach (c.args.zone.now ∷ c.args.cutters.now) + c.args.zone.now.period) c.args.store.now
-    c.in_ok-left.left c.in_ok-left.ensures c.requires.place.period c.args.cell.now c.requires.place.residues c.requires.place.texts c.requires.place.times refl c.loop-piece.store _ c.loop-piece.invariant c.piece-item.result
+    c.in_ok-left.left c.in_ok-left.ensures.left c.requires.place.period c.args.cell.now c.requires.place.residues c.requires.place.texts c.requires.place.times refl c.loop-piece.store _ c.loop-piece.invariant c.piece-item.result
     (subst (λ l. Contains l c.piece-item.result) c.as_slice-piece-items.ensures (read _ _ _ c.loop-piece-test.true c.piece-item.is))
     c.add_new-in-loop-piece.new.self c.in_ok-add_new.ensures.ok)
 
@@ -48,7 +48,7 @@ pub returns-clause-ok : goal.returns-clause-ok
 returns-clause-ok c =
     let all : c.loop-piece.piece-index ≡ length c.as_slice-piece-items.result.now = omega (arith, c.loop-piece.auto.piece-index-end, c.loop-piece-test.false) in
     let done : take c.loop-piece.piece-index c.as_slice-piece-items.result.now ≡ c.in_ok-left.left = ap (λ n. take n c.as_slice-piece-items.result.now) all ∙ take-length c.as_slice-piece-items.result.now ∙ c.as_slice-piece-items.ensures in
-    filled_all c.args.zone.now c.args.cutters.now _ c.args.cap _ c.args.store.now c.in_ok-left.left c.in_ok-left.ensures c.loop-piece.store
+    filled_all c.args.zone.now c.args.cutters.now _ c.args.cap _ c.args.store.now c.in_ok-left.left c.in_ok-left.ensures.left c.loop-piece.store
     (subst (λ l. AreFilled c.args.zone.now c.args.cutters.now (take c.args.store.now.shape.texts c.args.cell.now.texts) c.args.cap (greatest_reach (c.args.zone.now ∷ c.args.cutters.now) + c.args.zone.now.period) c.args.store.now c.loop-piece.store l) done c.loop-piece.invariant)
 
 pub returns-then-len-eq0-clause-ok : goal.returns-then-len-eq0-clause-ok
