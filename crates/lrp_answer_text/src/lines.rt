@@ -43,11 +43,7 @@ pub fn write_line<S: Sink>(
         → spot_tuple answer.now.head.columns answer.now.store.shape answer.now.domain spot.now
         ≡ tuple }
 {
-    let spelling = Spelling {
-        times: &Decimal,
-        texts: form.texts(),
-    };
-    write_spot(out, answer, spot, form.is_json(), &spelling)
+    write_line_in(out, answer, spot, form, &Decimal)
 }
 
 /// Writes the values of a spot as `write_line` does, but each time in another notation. After a failure a front of the
@@ -56,20 +52,24 @@ pub fn write_line_in<S: Sink, T: Notation<Item = i64>>(
     out: &mut S,
     answer: &Answer,
     spot: &Spot,
-    json: bool,
+    form: &Form,
     times: &T,
 ) -> Result<(), Failed>
     requires known { IsOfTexts answer.now spot.now.texts }
+    requires form { IsFormOf answer.now.domain form.now }
     requires times { AllByRecursion (T.spells times.now)
         (take answer.now.store.shape.times spot.now.times) }
     ensures text { IsWritten (S.written out.old) (S.written out.new)
-        (tuple_line (T.bytes times.now) json
+        (tuple_line (T.bytes times.now) (is_json form.now)
         (spot_tuple answer.now.head.columns answer.now.store.shape answer.now.domain spot.now))
         result }
     ensures cause { HasCause (S.faults out.old) (S.faults out.new) result }
 {
-    let spelling = Spelling { times, texts: None };
-    write_spot(out, answer, spot, json, &spelling)
+    let spelling = Spelling {
+        times,
+        texts: form.texts(),
+    };
+    write_spot(out, answer, spot, form.is_json(), &spelling)
 }
 
 // Times in decimal.

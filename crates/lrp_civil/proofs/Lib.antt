@@ -8,6 +8,7 @@ pub mod MinuteLemmas
 pub mod Weekdays
 pub mod ValueLemmas
 pub mod Spelled
+pub mod TimeLemmas
 pub mod TokenLemmas
 pub mod PlainLemmas
 pub mod PlainSizes

@@ -9,3 +9,4 @@ pub mod Tokens
 pub mod PlainText
 pub mod Minutes
 pub mod CivilLines
+pub mod Dated

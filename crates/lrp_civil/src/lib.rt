@@ -7,9 +7,11 @@ mod minutes;
 mod moments;
 mod parts;
 mod plain;
+mod times;
 mod tokens;
 mod values;
 
 pub use lines::write_civil_line;
 pub use minutes::minute_of;
 pub use plain::plain_text;
+pub use times::{write_civil_time, write_dated_line};

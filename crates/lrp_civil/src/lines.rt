@@ -7,7 +7,7 @@ ghost use Rattle.lrp_model.specs.Rows.{Tuple};
 ghost use Rattle.lrp_model.specs.Satisfaction.{HasShape};
 ghost use Rattle.lrp_store.specs.Least.{StandsFor};
 ghost use Rattle.lrp_answers.specs.Spots.{spot_tuple};
-ghost use Rattle.lrp_answer_text.specs.Lines.{is_json};
+ghost use Rattle.lrp_answer_text.specs.Lines.{IsFormOf, is_json};
 ghost use Rattle.lrp_civil.specs.CivilLines.{civil_line, civil_time_bytes};
 ghost use Rattle.lrp_civil.specs.Dates.{IsDateOf, date_of};
 ghost use Rattle.lrp_civil.specs.Moments.{IsCivilMinute, day_of};
@@ -29,6 +29,7 @@ pub fn write_civil_line<S: Sink>(
 ) -> Result<(), Failed>
     requires known { AllByRecursion (λ n. n < length answer.now.domain)
         (take answer.now.store.shape.texts spot.now.texts) }
+    requires form { IsFormOf answer.now.domain form.now }
     requires times { AllByRecursion IsCivilMinute
         (take answer.now.store.shape.times spot.now.times) }
     ensures text { IsWritten (S.written out.old) (S.written out.new)
@@ -44,13 +45,13 @@ pub fn write_civil_line<S: Sink>(
     ensures dates { (x : ℤ) → IsCivilMinute x → IsDateOf (day_of x) (date_of (day_of x)) }
 {
     let json = form.is_json();
-    write_line_in(out, answer, spot, json, &Moments { json })
+    write_line_in(out, answer, spot, form, &Moments { json })
 }
 
 // Times as dates and times of day, in quotes where the line is JSON.
 #[derive(Clone, Copy)]
-struct Moments {
-    json: bool,
+pub(crate) struct Moments {
+    pub json: bool,
 }
 
 impl Notation for Moments {
