@@ -24,14 +24,14 @@ use Rattle.lrp_cutting.proofs.Lists.{in_map}
 
 -- ---- relations of which one has other rows
 
-name_still : (rows : List Row) (name : Identifier) (r : Relation) → (with_rows rows name r).name ≡ r.name
+pub name_still : (rows : List Row) (name : Identifier) (r : Relation) → (with_rows rows name r).name ≡ r.name
 name_still rows name r = by (bytes_eq r.name name)
   where
     by : (b : Bool) → (cond b (record { name = r.name; columns = r.columns; rows = rows }) r).name ≡ r.name
     by true = refl
     by false = refl
 
-columns_still : (rows : List Row) (name : Identifier) (r : Relation) → (with_rows rows name r).columns ≡ r.columns
+pub columns_still : (rows : List Row) (name : Identifier) (r : Relation) → (with_rows rows name r).columns ≡ r.columns
 columns_still rows name r = by (bytes_eq r.name name)
   where
     by : (b : Bool) → (cond b (record { name = r.name; columns = r.columns; rows = rows }) r).columns ≡ r.columns

@@ -7,3 +7,8 @@ mod Openings
 mod Goings
 mod Passings
 mod Tellings
+mod Headings
+mod Replacing
+mod Decisions
+mod Renewals
+mod TellingAnew

@@ -62,10 +62,10 @@ module _ (k : KeepView) (a : Answer) (is : IsOverHead k.query k.domain a) where
   known_of (l ∷ ks) [] h = absurd h
   known_of (l ∷ ks) (s ∷ spots) h = (h.0.known, known_of ks spots h.1)
 
-  known_told : (ks : List KeepView) (spots : List (Option Spot)) → AreLeasts ks spots → AllByRecursion (IsKnownLeast a) spots
+  pub known_told : (ks : List KeepView) (spots : List (Option Spot)) → AreLeasts ks spots → AllByRecursion (IsKnownLeast a) spots
   known_told ks spots h = back (λ cs s d. AreKnown s d spots) (known_of ks spots h)
 
-lines_of : (f : Option Spot → Option Tuple) (spots : List (Option Spot)) → flat_map (λ least. first_line (f least)) spots ≡ flat_map first_line (map f spots)
+pub lines_of : (f : Option Spot → Option Tuple) (spots : List (Option Spot)) → flat_map (λ least. first_line (f least)) spots ≡ flat_map first_line (map f spots)
 lines_of f [] = refl
 lines_of f (s ∷ spots) = ap (λ bytes. first_line (f s) ++ bytes) (lines_of f spots)
 

@@ -3,6 +3,10 @@
 -- What the contract of `run` reaches.
 pub mod Edits
 pub mod Watching
+pub mod Edited
+pub mod Anew
 -- What contracts of single functions need beside.
 pub mod Faults
 pub mod Leasts
+pub mod Changes
+pub mod Decided

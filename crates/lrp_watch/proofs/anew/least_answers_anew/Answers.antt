@@ -1,0 +1,12 @@
+-- The lines of the least answers are told.
+use Rattle.lrp_watch.proofs.TellingAnew.{few_columns_of, known_anew, told_anew}
+use Rattle.lrp_watch.proofs.anew.least_answers_anew.Goals as goal
+
+pub no_answers-requires : goal.no_answers-requires
+no_answers-requires c = few_columns_of c.args.database.now c.args.query.now c.requires.query
+
+pub invariant_of-result : goal.invariant_of-result
+invariant_of-result c = record { known = known_anew c.args.query.now c.in_ok-domain.domain c.in_ok-answer.answer c.in_ok-answer.ensures c.args.anew.planning c.args.anew.cap c.args.edits.now c.args.database.now c.in_ok-spots.spots c.in_ok-spots.ensures.done }
+
+pub returns-clause-told : goal.returns-clause-told
+returns-clause-told c = told_anew c.args.query.now c.in_ok-domain.domain c.in_ok-answer.answer c.in_ok-answer.ensures c.args.anew.planning c.args.anew.cap c.args.edits.now c.args.database.now c.in_ok-spots.spots c.in_ok-spots.ensures.done

@@ -1,0 +1,34 @@
+-- What a query is decided anew by, the program's own values.
+use Rattle.std.specs.Prelude.{◌≡◌, ◌≤ℤ◌, ◌<◌, ℕ, pos, List, ◌∷◌, length, take, Option}
+use Rattle.std.specs.List.{AllByRecursion, AllZip}
+use Rattle.lrp_model.specs.Formulas.{Question}
+use Rattle.lrp_model.specs.TestPoints.{points}
+use Rattle.lrp_model.specs.Texts.{Text}
+use Rattle.lrp_model.specs.Tuples.{texts_at}
+use Rattle.lrp_model.specs.declared.plans.Planning.{Planning}
+use Rattle.lrp_model.specs.declared.relations.Relation.{Relation}
+use Rattle.lrp_model.specs.declared.tuples.Spot.{Spot}
+use Rattle.lrp_answers.specs.declared.answer.Answer.{Answer}
+use Rattle.lrp_edits.specs.declared.edits.Edit.{Edit}
+use Rattle.lrp_keep.specs.Keeps.{IsSortedQuery}
+use Rattle.lrp_watch.specs.Anew.{IsWithinPlan}
+use Rattle.lrp_watch.specs.Edited.{AreEdited}
+use Rattle.lrp_watch.specs.Leasts.{IsLeastOver}
+
+-- a well-sorted query, whose points have periods of at least 1
+pub record CanBeDecided (db : List Relation) (q : Question) : Type 0 where
+  pub query : IsSortedQuery db q
+  pub points : AllByRecursion (λ at. pos 1 ≤ℤ at.period) (points q.body)
+
+-- the spots are the least answers over the relations and over those after each edit, none of which passes a limit
+pub record AreDecided (way : Planning) (q : Question) (cap : ℕ) (domain : List Text) (edits : List Edit) (db : List Relation) (spots : List (Option Spot)) : Type 0 where
+  pub later : List (List Relation)
+  pub edited : AreEdited edits db later
+  pub within : AllByRecursion (IsWithinPlan way q cap) (db ∷ later)
+  pub leasts : AllZip (λ held least. IsLeastOver q domain held least) (db ∷ later) spots
+
+-- the spot of an answer with the numbers that its texts have in another domain
+pub record IsRenumbered (a : Answer) (domain : List Text) (old new : Spot) : Type 0 where
+  pub times : new.times ≡ old.times
+  pub texts : texts_at domain (take a.store.shape.texts new.texts) ≡ texts_at a.domain (take a.store.shape.texts old.texts)
+  pub known : AllByRecursion (λ n. n < length domain) (take a.store.shape.texts new.texts)
