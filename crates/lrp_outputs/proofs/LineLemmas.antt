@@ -8,6 +8,7 @@ use Rattle.lrp_io.specs.Bytes.{appended, AppendsFront}
 use Rattle.lrp_model.specs.declared.tokens.Place.{Place}
 use Rattle.lrp_print.proofs.Lines.{item_front}
 use Rattle.lrp_outputs.specs.Outcomes.{cells_line, edit_line, fault_line, rows_line}
+use Rattle.lrp_outputs.specs.RangeLines.{count_line}
 
 -- the seven pieces of the line of a fault
 pub fault_pieces : (whose kind : List ℕ) (place : Place) (a b c d e g h : List ℕ) → a ≡ whose → b ≡ kind → c ≡ codes " at " → d ≡ decimal place.line → e ≡ codes ":" → g ≡ decimal place.column → h ≡ codes "\n"
@@ -25,6 +26,10 @@ edit_pieces limit edit a b c p q r = rw (p, q, r) refl
 -- the three pieces of the line of a canonical answer with too many rows
 pub rows_pieces : (cap : ℕ) (a b c : List ℕ) → a ≡ codes "refused: more than " → b ≡ decimal cap → c ≡ codes " canonical rows\n" → a ++ (b ++ (c ++ [])) ≡ rows_line cap
 rows_pieces cap a b c p q r = rw (p, q, r) refl
+
+-- the two pieces of the line of a number of answers
+pub number_pieces : (number : ℕ) (a b : List ℕ) → a ≡ decimal number → b ≡ codes "\n" → a ++ (b ++ []) ≡ count_line number
+number_pieces number a b p q = rw (p, q) refl
 
 -- an element is there, whatever stands for one that is not
 pub there : {A : Type 0} (xs : List A) (i : ℕ) (d : A) → i < length xs → get_or xs i d ≡ get_or xs i (get_or xs i d)

@@ -23,6 +23,8 @@ use Rattle.lrp_civil.specs.Moments.{IsCivilMinute}
 use Rattle.lrp_print.specs.Writable.{TestHasPeriod, KindHasPeriods, StepHasPeriods}
 use Rattle.lrp_outputs.specs.Spots.{IsKnownLeast}
 use Rattle.lrp_outputs.specs.Known.{IsKnownSpot, HasCivilTimes, HaveCivilTimes}
+use Rattle.lrp_count.specs.declared.windows.Range.{Range}
+use Rattle.lrp_outputs.specs.RangeLines.{HasEndsAs, IsDatedWhere, range_ends}
 use Rattle.lrp_outputs.specs.Rooms.{HasSmallBounds, IsRoomy, greatest_in}
 
 -- ---- spots
@@ -54,6 +56,13 @@ minutes_prop a spot = AllByRecursion-prop IsCivilMinute (λ x. ×_prop (Prim.hle
 pub civil_prop : (civil : Bool) (a : Answer) (spots : List Spot) → IsProp (HaveCivilTimes civil a spots)
 civil_prop false a spots = Unit-prop
 civil_prop true a spots = AllByRecursion-prop (HasCivilTimes a) (minutes_prop a) spots
+
+dated_prop : (civil : Bool) (end : ℤ) → IsProp (IsDatedWhere civil end)
+dated_prop false end = Unit-prop
+dated_prop true end = ×_prop (Prim.hlevel (T_prop)) (Prim.hlevel (T_prop))
+
+pub ends_prop : (civil : Bool) (ranges : List Range) → IsProp (AllByRecursion (HasEndsAs civil) ranges)
+ends_prop civil = AllByRecursion-prop (HasEndsAs civil) (λ range. AllByRecursion-prop (IsDatedWhere civil) (dated_prop civil) (range_ends range))
 
 -- ---- texts
 

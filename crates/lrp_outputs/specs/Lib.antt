@@ -3,6 +3,7 @@
 -- What the contract of `run` reaches.
 pub mod Outcomes
 pub mod PageLines
+pub mod RangeLines
 pub mod First
 pub mod SampleLines
 -- What contracts of public calls say.

@@ -6,7 +6,9 @@ use Rattle.lrp_model.specs.declared.tokens.Place.{Place}
 use Rattle.lrp_outputs.specs.declared.status.Status.{Status}
 use Rattle.lrp_outputs.specs.declared.status.Status.TheVariants as status
 use Rattle.lrp_outputs.specs.declared.refusal.Refusal.{Refusal}
-use Rattle.lrp_outputs.specs.declared.refusal.Refusal.TheVariants.{Usage, ReadDatabase, LongDatabase, Database, ReadQuery, LongQuery, Query, PeriodLimit, BoundLimit, TokenForm, TokenShape, TokenStale, Cells, CanonHead, CanonRows, Watch, Memory}
+use Rattle.lrp_outputs.specs.declared.refusal.Refusal.TheVariants.{Usage, ReadDatabase, LongDatabase, Database, ReadQuery, LongQuery, Query, PeriodLimit, BoundLimit, TokenForm, TokenShape, TokenStale, Cells, Head, CanonRows, Watch, Memory}
+use Rattle.lrp_outputs.specs.declared.head.HeadNeed.{HeadNeed}
+use Rattle.lrp_outputs.specs.declared.head.HeadNeed.TheVariants as needs
 use Rattle.lrp_outputs.specs.declared.watch_refusal.WatchRefusal.{WatchRefusal}
 use Rattle.lrp_outputs.specs.declared.watch_refusal.WatchRefusal.TheVariants as watch
 
@@ -25,6 +27,12 @@ edit_line limit edit = limit ++ (decimal edit ++ codes "\n")
 -- the line of a canonical answer that has more than cap rows
 abbrev pub rows_line : ℕ → List ℕ
 rows_line cap = codes "refused: more than " ++ (decimal cap ++ codes " canonical rows\n")
+
+-- the line of a head with which something is not told
+abbrev pub head_line : HeadNeed → List ℕ
+head_line needs.Canon = codes "refused: canon needs one time column\n"
+head_line needs.Count = codes "refused: count needs at most one time column\n"
+head_line needs.Ranges = codes "refused: ranges needs one time column\n"
 
 -- the line of a refusal of a watch
 abbrev pub watch_line : WatchRefusal → List ℕ
@@ -51,7 +59,7 @@ line_of TokenForm = codes "refused: token form\n"
 line_of TokenShape = codes "refused: token shape\n"
 line_of TokenStale = codes "refused: token stale\n"
 line_of (Cells cap step) = cells_line cap (codes " cells at step ") step
-line_of CanonHead = codes "refused: canon needs one time column\n"
+line_of (Head need) = head_line need
 line_of (CanonRows cap) = rows_line cap
 line_of (Watch refusal) = watch_line refusal
 line_of Memory = codes "refused: memory\n"
@@ -81,7 +89,7 @@ refused_with TokenForm = status.Query
 refused_with TokenShape = status.Query
 refused_with TokenStale = status.Query
 refused_with (Cells cap step) = status.Limit
-refused_with CanonHead = status.Query
+refused_with (Head need) = status.Query
 refused_with (CanonRows cap) = status.Limit
 refused_with (Watch refusal) = watch_refused_with refusal
 refused_with Memory = status.Memory

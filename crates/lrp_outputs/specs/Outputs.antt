@@ -1,33 +1,34 @@
 -- The bytes of the program's outputs.
-use Rattle.std.specs.Prelude.{ℕ, List, ◌++◌, flat_map, map, option_map, Option, Some, None, Result, Ok, Err, codes}
+use Rattle.std.specs.Prelude.{ℕ, Bool, List, ◌++◌, flat_map, map, option_map, Option, Some, None, Result, Ok, Err, codes}
 use Rattle.lrp_model.specs.Printed.{database_bytes}
-use Rattle.lrp_model.specs.PrintedPages.{plain_line}
 use Rattle.lrp_model.specs.PrintedPlans.{plan_bytes}
 use Rattle.lrp_model.specs.Rows.{Tuple}
 use Rattle.lrp_model.specs.declared.tuples.Spot.{Spot}
 use Rattle.lrp_answers.specs.declared.answer.Answer.{Answer}
 use Rattle.lrp_answer_text.specs.AnswerText.{answer_text}
 use Rattle.lrp_answer_text.specs.Lines.{is_json}
-use Rattle.lrp_outputs.specs.First.{first_line}
+use Rattle.lrp_outputs.specs.First.{first_line, least_line}
 use Rattle.lrp_outputs.specs.Spots.{answer_tuple}
 use Rattle.lrp_outputs.specs.Outcomes.{Outcome}
 use Rattle.lrp_outputs.specs.SampleLines.{sample_lines}
 use Rattle.lrp_outputs.specs.PageLines.{listed_bytes}
+use Rattle.lrp_outputs.specs.RangeLines.{count_line, ranges_bytes}
 use Rattle.lrp_outputs.specs.declared.output.Output.{Output}
 use Rattle.lrp_outputs.specs.declared.output.Output.TheVariants as output
 use Rattle.lrp_outputs.specs.declared.refusal.Refusal.{Refusal}
 use Rattle.lrp_outputs.specs.declared.leasts.Leasts.{Leasts}
 use Rattle.lrp_outputs.specs.declared.page.Page.{Page}
+use Rattle.lrp_outputs.specs.declared.ranges.RangeLines.{RangeLines}
 use Rattle.lrp_outputs.specs.declared.report.Report.{Report}
 use Rattle.lrp_outputs.specs.declared.witness.Witness.{Witness}
 
--- `Nonempty` and the line of a spot, or `Empty` without one
-abbrev pub spot_text : Answer → Option Spot → List ℕ
-spot_text a None = codes "Empty\n"
-spot_text a (Some spot) = codes "Nonempty\n" ++ plain_line (answer_tuple a spot)
+-- `Nonempty` and the line of a spot, or `Empty` without one; the flag says whether times are shown as dates
+abbrev pub spot_text : Bool → Answer → Option Spot → List ℕ
+spot_text dates a None = codes "Empty\n"
+spot_text dates a (Some spot) = codes "Nonempty\n" ++ least_line dates (answer_tuple a spot)
 
 abbrev pub witness_text : Witness → List ℕ
-witness_text w = spot_text w.answer w.least
+witness_text w = spot_text w.dates w.answer w.least
 
 -- the tuple of the least answer
 abbrev pub least_of : Witness → Option Tuple
@@ -41,6 +42,10 @@ sample_text report = sample_lines report.rows report.cells (least_of report.firs
 abbrev pub page_text : Page → List ℕ
 page_text page = listed_bytes page.civil (is_json page.form) page.files (map (answer_tuple page.answer) page.spots) page.more
 
+-- the lines of the ranges, and the line behind them
+abbrev pub ranges_text : RangeLines → List ℕ
+ranges_text lines = ranges_bytes lines.civil lines.json lines.found.ranges lines.found.more
+
 -- the lines of the least answers
 abbrev pub leasts_text : Leasts → List ℕ
 leasts_text l = flat_map (λ least. first_line (option_map (answer_tuple l.answer) least)) l.spots
@@ -52,6 +57,8 @@ output_text (output.Plan p) = plan_bytes p.plan
 output_text (output.Answer whole) = answer_text whole.answer
 output_text (output.Witness w) = witness_text w
 output_text (output.Page page) = page_text page
+output_text (output.Count number) = count_line number
+output_text (output.Ranges lines) = ranges_text lines
 output_text (output.Leasts leasts) = leasts_text leasts
 output_text (output.Sample report) = sample_text report
 

@@ -5,12 +5,14 @@
 
 mod answer;
 mod first;
+mod head;
 mod laws;
 mod leasts;
 mod lines;
 mod output;
 mod page;
 mod plan;
+mod ranges;
 mod refusal;
 mod report;
 mod status;
@@ -19,11 +21,13 @@ mod witness;
 mod writing;
 
 pub use answer::WholeAnswer;
+pub use head::HeadNeed;
 pub use laws::{small_answers_have_room, spots_stand_for_tuples};
 pub use leasts::Leasts;
 pub use output::Output;
 pub use page::Page;
 pub use plan::WritablePlan;
+pub use ranges::RangeLines;
 pub use refusal::Refusal;
 pub use report::Report;
 pub use status::Status;

@@ -3,6 +3,7 @@ use crate::answer::WholeAnswer;
 use crate::leasts::Leasts;
 use crate::page::Page;
 use crate::plan::WritablePlan;
+use crate::ranges::RangeLines;
 use crate::report::Report;
 use crate::witness::Witness;
 use lrp_database::Database;
@@ -19,6 +20,10 @@ pub enum Output {
     Witness(Witness),
     /// A page of answers of a query.
     Page(Page),
+    /// How many answers of a query lie in a window.
+    Count(u128),
+    /// The answers of a query in a window, as ranges.
+    Ranges(RangeLines),
     /// The least answers of a query while rows are added and taken out.
     Leasts(Leasts),
     /// What is told of the sample.
@@ -34,6 +39,8 @@ impl Drop for Output {
             Output::Answer(answer) => drop(answer),
             Output::Witness(witness) => drop(witness),
             Output::Page(page) => drop(page),
+            Output::Count(_) => {}
+            Output::Ranges(lines) => drop(lines),
             Output::Leasts(leasts) => drop(leasts),
             Output::Sample(report) => drop(report),
         }

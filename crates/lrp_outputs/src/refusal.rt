@@ -4,6 +4,7 @@ ghost use Rattle.lrp_outputs.specs.Outcomes.{refused_with};
 ghost use Rattle.lrp_outputs.specs.Refusals.{refused_by, token_refused};
 ghost use Rattle.lrp_outputs.specs.declared.refusal.Refusal.TheVariants.{Memory as memory};
 
+use crate::head::HeadNeed;
 use crate::status::Status;
 use crate::watch_refusal::WatchRefusal;
 use lrp_model::{DbFault, LIMIT, Memory, QueryFault, QueryRead};
@@ -52,9 +53,9 @@ pub enum Refusal {
     /// A step has more than `cap` inhabited cells; the first such step, from 1.
     #[error("more than {cap} cells at step {step}")]
     Cells { cap: u32, step: u32 },
-    /// A canonical answer is asked for, and the head has another number of time columns than one.
-    #[error("canon needs one time column")]
-    CanonHead,
+    /// The head has columns with which what is asked for is not told.
+    #[error("{0}")]
+    Head(HeadNeed),
     /// The canonical answer has more than `cap` rows.
     #[error("more than {cap} canonical rows")]
     CanonRows { cap: u32 },
@@ -80,7 +81,7 @@ impl Refusal {
             | Refusal::TokenForm
             | Refusal::TokenShape
             | Refusal::TokenStale
-            | Refusal::CanonHead => Status::Query,
+            | Refusal::Head(_) => Status::Query,
             Refusal::PeriodLimit
             | Refusal::BoundLimit
             | Refusal::Cells { .. }

@@ -2,9 +2,11 @@
 ghost use Rattle.std.specs.List.{flat_map};
 ghost use Rattle.lrp_io.specs.Causes.{HasCause};
 ghost use Rattle.lrp_io.specs.Pieces.{IsWritten};
-ghost use Rattle.lrp_outputs.specs.Outcomes.{cells_line, edit_line, fault_line, line_of, rows_line, watch_line, written_of};
+ghost use Rattle.lrp_outputs.specs.Outcomes.{cells_line, edit_line, fault_line, head_line, line_of, rows_line, watch_line, written_of};
 ghost use Rattle.lrp_outputs.specs.Outputs.{told};
+ghost use Rattle.lrp_outputs.specs.RangeLines.{count_line};
 
+use crate::head::HeadNeed;
 use crate::output::Output;
 use crate::refusal::Refusal;
 use crate::watch_refusal::WatchRefusal;
@@ -27,6 +29,8 @@ pub fn write_outcome<S: Sink>(out: &mut S, outcome: &Result<Output, Refusal>) ->
         Ok(Output::Plan(plan)) => write_buffered(out, plan),
         Ok(Output::Witness(witness)) => write_buffered(out, witness),
         Ok(Output::Page(page)) => write_buffered(out, page),
+        Ok(Output::Count(number)) => write_number(out, *number),
+        Ok(Output::Ranges(lines)) => write_buffered(out, lines),
         Ok(Output::Leasts(leasts)) => write_buffered(out, leasts),
         Ok(Output::Sample(report)) => write_buffered(out, report),
         Err(refusal) => write_refusal(out, refusal),
@@ -76,11 +80,33 @@ fn write_refusal<S: Sink>(out: &mut S, refusal: &Refusal) -> Result<(), Failed>
         Refusal::Cells { cap, step } => {
             write_cells(out, *cap, b" cells at step ", u64::from(*step))
         }
-        Refusal::CanonHead => write_bytes(out, b"refused: canon needs one time column\n"),
+        Refusal::Head(need) => write_head(out, *need),
         Refusal::CanonRows { cap } => write_rows(out, *cap),
         Refusal::Watch(refusal) => write_watch_refusal(out, refusal),
         Refusal::Memory => write_bytes(out, b"refused: memory\n"),
     }
+}
+
+/// Writes the line of a head with which something is not told.
+fn write_head<S: Sink>(out: &mut S, need: HeadNeed) -> Result<(), Failed>
+    ensures text { IsWritten (S.written out.old) (S.written out.new) (head_line need) result }
+    ensures cause { HasCause (S.faults out.old) (S.faults out.new) result }
+{
+    match need {
+        HeadNeed::Canon => write_bytes(out, b"refused: canon needs one time column\n"),
+        HeadNeed::Count => write_bytes(out, b"refused: count needs at most one time column\n"),
+        HeadNeed::Ranges => write_bytes(out, b"refused: ranges needs one time column\n"),
+    }
+}
+
+/// Writes the line of a number of answers.
+fn write_number<S: Sink>(out: &mut S, number: u128) -> Result<(), Failed>
+    ensures text { IsWritten (S.written out.old) (S.written out.new) (count_line number) result }
+    ensures cause { HasCause (S.faults out.old) (S.faults out.new) result }
+{
+    let mut spelled = Buffer::new();
+    let pieces = [spelled.format(number).as_bytes(), b"\n".as_slice()];
+    write_pieces(out, &pieces)
 }
 
 /// Writes the line of a refusal of a watch.

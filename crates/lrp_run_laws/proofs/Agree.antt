@@ -1,5 +1,5 @@
 -- Two runs of one task over the same bytes come to one outcome: step by step.
-use Rattle.std.proofs.Common.{◌≡◌, ◌≢◌, ◌∷◌, ◌++◌, ◌+◌, ◌<◌, ◌≤◌, ◌^◌, ◌∙◌, ℕ, Bool, true, false, List, [], length, refl, sym, ap, ap₂, subst, Option, Some, None, Result, Ok, Err, arith}
+use Rattle.std.proofs.Common.{◌≡◌, ◌∷◌, ◌++◌, ◌+◌, ◌<◌, ◌≤◌, ◌^◌, ◌∙◌, ℕ, Bool, List, [], length, refl, sym, ap, ap₂, subst, Option, Some, None, Result, Ok, Err, arith}
 use Rattle.std.specs.List.{AllZip}
 use Rattle.lrp_model.specs.Caps.{IsFirstMany, ManyAt}
 use Rattle.lrp_model.specs.DatabaseReading.{IsDatabase, IsDatabaseFault}
@@ -7,7 +7,6 @@ use Rattle.lrp_model.specs.Formulas.{Question}
 use Rattle.lrp_model.specs.Rows.{Tuple}
 use Rattle.lrp_model.specs.Periods.{period}
 use Rattle.lrp_model.specs.Plans.{IsStep, scaled_reach, IsWithinLimits}
-use Rattle.lrp_model.specs.Sorts.{time_count}
 use Rattle.lrp_model.specs.PrintedPlans.{plan_bytes, step_line, step_lines}
 use Rattle.lrp_model.specs.Steps.{PlanStep}
 use Rattle.lrp_model.specs.Texts.{Identifier, Text}
@@ -22,15 +21,17 @@ use Rattle.lrp_model.specs.declared.relations.Column.{Column}
 use Rattle.lrp_model.specs.declared.relations.Relation.{Relation}
 use Rattle.lrp_token.specs.Reading.{IsNoToken, HasOtherCounts}
 use Rattle.lrp_top.specs.Canonical.{HasCanonicalRows}
-use Rattle.lrp_top.specs.Due.{IsDatabaseRead, IsDatabaseReadOf, IsQueryRead, IsQueryReadOf, IsHeadFit, IsPlanned, IsPlannedAs, IsCounted, AreRowsCounted, IsOutput}
+use Rattle.lrp_top.specs.Due.{IsDatabaseRead, IsDatabaseReadOf, IsQueryRead, IsQueryReadOf, IsPlanned, IsPlannedAs, IsCounted, AreRowsCounted, IsOutput}
+use Rattle.lrp_top.specs.Heads.{IsHeadFit, IsHeadFor, IsMetBy}
 use Rattle.lrp_outputs.specs.Outcomes.{Outcome}
 use Rattle.lrp_top.specs.Resuming.{IsResumed, IsStale, shape_of}
 use Rattle.lrp_top.specs.Seen.{ShelfSeen, AreBytesOf}
 use Rattle.lrp_top.specs.Sources.{Source}
 use Rattle.lrp_top.specs.Steps.{Then, Behind}
 use Rattle.lrp_top.specs.Written.{IsFaultyAs, IsSortedAs, plain_if}
+use Rattle.lrp_outputs.specs.declared.head.HeadNeed.{HeadNeed}
 use Rattle.lrp_outputs.specs.declared.refusal.Refusal.{Refusal}
-use Rattle.lrp_outputs.specs.declared.refusal.Refusal.TheVariants.{ReadDatabase, LongDatabase, Database, ReadQuery, LongQuery, Query, PeriodLimit, BoundLimit, TokenForm, TokenShape, TokenStale, Cells, CanonHead, CanonRows, Watch, Memory}
+use Rattle.lrp_outputs.specs.declared.refusal.Refusal.TheVariants.{ReadDatabase, LongDatabase, Database, ReadQuery, LongQuery, Query, PeriodLimit, BoundLimit, TokenForm, TokenShape, TokenStale, Cells, Head, CanonRows, Watch, Memory}
 use Rattle.lrp_outputs.specs.declared.watch_refusal.WatchRefusal.TheVariants as watch
 use Rattle.lrp_run_laws.proofs.Canonical.{OneRowCount}
 use Rattle.lrp_run_laws.proofs.Complete.{DatabaseTexts, QueryTexts, OneToken, no_longer, not_formless, not_other, not_stale}
@@ -263,31 +264,33 @@ cells_agree way db q cap = by_parts (IsCounted way db q cap) (IsCounted way db q
 
 -- ---- the head, and the rows of a canonical answer
 
-data HeadRefused (q : Question) : Refusal → Type 0 where
-  unfit : time_count q.head ≢ 1 → HeadRefused q CanonHead
+data HeadRefused (need : Option HeadNeed) (q : Question) : Refusal → Type 0 where
+  unfit : (unmet : HeadNeed) → need ≡ Some unmet → (IsMetBy unmet q.head → ⊥) → HeadRefused need q (Head unmet)
 
-head_refused : (q : Question) (e : Refusal) → IsHeadFit true q (Err e) → HeadRefused q e
-head_refused q CanonHead is = unfit is
-head_refused q _ is = absurd is
+head_refused : (need : Option HeadNeed) (q : Question) (e : Refusal) → IsHeadFit need q (Err e) → HeadRefused need q e
+head_refused need q (Head unmet) is = unfit unmet is.0 is.1
+head_refused need q _ is = absurd is
 
-head_stands : (q : Question) → time_count q.head ≡ 1 → (e : Refusal) → HeadRefused q e → ⊥
-head_stands q one _ (unfit other) = other one
+head_stands : (need : Option HeadNeed) (q : Question) → IsHeadFor need q.head → (e : Refusal) → HeadRefused need q e → ⊥
+head_stands need q fit _ (unfit unmet e other) = other (subst (λ n. IsHeadFor n q.head) e fit)
 
-head_refused_alike : (q : Question) (e f : Refusal) → HeadRefused q e → HeadRefused q f → e ≡ f
-head_refused_alike q _ _ (unfit a) (unfit b) = refl
+head_refused_alike : (need : Option HeadNeed) (q : Question) (e f : Refusal) → HeadRefused need q e → HeadRefused need q f → e ≡ f
+head_refused_alike need q _ _ (unfit one e a) (unfit other f b) = ap Head (same_need one other (sym e ∙ f))
+  where
+    same_need : (one other : HeadNeed) → Some one ≡ Some other → one ≡ other
+    same_need one other h = cc
 
-fit_agree : (canon : Bool) (q : Question) (r s : Result (Unit {0}) Refusal) → IsHeadFit canon q r → IsHeadFit canon q s → Lasting r → Lasting s → Agree Counted r s
-fit_agree false q r s i j l m = subst (λ x. Agree Counted x s) (sym i) (subst (λ y. Agree {A = Unit {0}} Counted (Ok tt) y) (sym j) tt)
-fit_agree true q r s i j l m =
-    by_parts (IsHeadFit true q) (IsHeadFit true q) Counted
+fit_agree : (need : Option HeadNeed) (q : Question) (r s : Result (Unit {0}) Refusal) → IsHeadFit need q r → IsHeadFit need q s → Lasting r → Lasting s → Agree Counted r s
+fit_agree need q =
+    by_parts (IsHeadFit need q) (IsHeadFit need q) Counted
     (λ a b i j. tt)
-    (λ a f i j l. head_stands q i f (head_refused q f j))
-    (λ e a i j l. head_stands q j e (head_refused q e i))
-    (λ e f i j l m. head_refused_alike q e f (head_refused q e i) (head_refused q f j)) r s i j l m
+    (λ a f i j l. head_stands need q i f (head_refused need q f j))
+    (λ e a i j l. head_stands need q j e (head_refused need q e i))
+    (λ e f i j l m. head_refused_alike need q e f (head_refused need q e i) (head_refused need q f j))
 
 -- the plan stands behind the head
-pub planned_agree : (way : Planning) (canon : Bool) (db : List Relation) (q : Question) (r s : Result Plan Refusal) → IsPlannedAs way canon db q r → IsPlannedAs way canon db q s → Lasting r → Lasting s → Agree SameText r s
-planned_agree way canon db q = then_agree (IsHeadFit canon q) (IsHeadFit canon q) (λ fit. IsPlanned way db q) (λ fit. IsPlanned way db q) Counted SameText (fit_agree canon q) (λ a b i j done. plan_agree way db q)
+pub planned_agree : (way : Planning) (need : Option HeadNeed) (db : List Relation) (q : Question) (r s : Result Plan Refusal) → IsPlannedAs way need db q r → IsPlannedAs way need db q s → Lasting r → Lasting s → Agree SameText r s
+planned_agree way need db q = then_agree (IsHeadFit need q) (IsHeadFit need q) (λ fit. IsPlanned way db q) (λ fit. IsPlanned way db q) Counted SameText (fit_agree need q) (λ a b i j done. plan_agree way db q)
 
 data RowsRefused (db : List Relation) (q : Question) (cap : ℕ) : Refusal → Type 0 where
   many_rows : (n : ℕ) → HasCanonicalRows db q n → cap < n → RowsRefused db q cap (CanonRows cap)

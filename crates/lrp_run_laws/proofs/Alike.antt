@@ -12,7 +12,6 @@ use Rattle.lrp_model.specs.Formulas.{Question}
 use Rattle.lrp_model.specs.Order.{rank_cmp, IsLeast}
 use Rattle.lrp_model.specs.Pages.{IsPage}
 use Rattle.lrp_model.specs.Plans.{plan}
-use Rattle.lrp_model.specs.PrintedPages.{plain_line}
 use Rattle.lrp_model.specs.Rows.{Datum, times_of, texts_of, Tuple}
 use Rattle.lrp_model.specs.Satisfaction.{HasShape, structure, IsAnswer}
 use Rattle.lrp_model.specs.Steps.{Steps}
@@ -21,12 +20,16 @@ use Rattle.lrp_model.specs.Tuples.{in_head_order}
 use Rattle.lrp_model.specs.declared.relations.Column.{Column}
 use Rattle.lrp_model.specs.declared.relations.Relation.{Relation}
 use Rattle.lrp_eval.specs.Counts.{HasAnswerCount, HasCells}
-use Rattle.lrp_outputs.specs.First.{IsFirst}
+use Rattle.lrp_outputs.specs.First.{IsFirst, least_line}
 use Rattle.lrp_top.specs.Sampled.{TellsSample}
 use Rattle.lrp_outputs.specs.SampleLines.{sample_lines}
 use Rattle.lrp_sample.specs.Texts.{sample_database, sample_query}
 use Rattle.lrp_top.specs.Written.{IsSorted}
-use Rattle.lrp_top.specs.Telling.{TellsPage, TellsWitness}
+use Rattle.lrp_top.specs.Telling.{TellsNumber, TellsPage, TellsRanges, TellsWitness}
+use Rattle.lrp_count.specs.Numbers.{HasSize}
+use Rattle.lrp_count.specs.Ranges.{AreRanges, InWindowOf, IsAnswerTime}
+use Rattle.lrp_count.specs.declared.windows.Range.{Range}
+use Rattle.lrp_outputs.specs.RangeLines.{count_line, ranges_bytes}
 use Rattle.lrp_outputs.specs.PageLines.{listed_bytes}
 use Rattle.lrp_run_laws.proofs.Complete.{DatabaseTexts, QueryTexts}
 use Rattle.lrp_model.proofs.Unique.{shape_of}
@@ -68,11 +71,11 @@ module _ (one_rank : OneRank) (whole : WholeTuples) (db : List Relation) (q : Qu
   one_least t u a b = one_ranked t u a.is b.is (beside (rank_cmp t u) (rank_cmp u t) (ranks_total.antisymm u t) (a.first u b.is) (b.first t a.is))
 
   -- and so is what is told of it
-  pub one_witness : (bytes other : List ℕ) → TellsWitness db q bytes → TellsWitness db q other → bytes ≡ other
-  one_witness bytes other (inl none) (inl empty) = none.spelled ∙ sym empty.spelled
-  one_witness bytes other (inl none) (inr some) = absurd (none.none some.tuple some.least.is)
-  one_witness bytes other (inr some) (inl none) = absurd (none.none some.tuple some.least.is)
-  one_witness bytes other (inr some) (inr more) = some.spelled ∙ ap (λ t. codes "Nonempty\n" ++ plain_line t) (one_least some.tuple more.tuple some.least more.least) ∙ sym more.spelled
+  pub one_witness : (dates : Bool) (bytes other : List ℕ) → TellsWitness dates db q bytes → TellsWitness dates db q other → bytes ≡ other
+  one_witness dates bytes other (inl none) (inl empty) = none.spelled ∙ sym empty.spelled
+  one_witness dates bytes other (inl none) (inr some) = absurd (none.none some.tuple some.least.is)
+  one_witness dates bytes other (inr some) (inl none) = absurd (none.none some.tuple some.least.is)
+  one_witness dates bytes other (inr some) (inr more) = some.spelled ∙ ap (λ t. codes "Nonempty\n" ++ least_line dates t) (one_least some.tuple more.tuple some.least more.least) ∙ sym more.spelled
 
   pub one_start : (t u : Option Tuple) → IsFirst db q t → IsFirst db q u → t ≡ u
   one_start None None a b = refl
@@ -125,3 +128,20 @@ module _ (texts : DatabaseTexts) (queries : QueryTexts false) (one_rank : OneRan
       let db : a.db ≡ b.db = texts.one (sample_database seed size) a.db b.db a.database b.database in
       let q : a.q ≡ b.q = queries.one a.db sample_query a.q b.q a.query (subst (λ d. IsSorted d sample_query b.q) (sym db) b.query) in
       one_told b.db b.q bytes other (subst (λ d. TellsOf bytes d b.q) db (subst (TellsOf bytes a.db) q (told_of bytes a))) (told_of other b)
+
+-- ---- numbers of answers and ranges are one
+
+abbrev pub OneSize : Type 0
+OneSize = (db : List Relation) (q : Question) (from to : ℤ) (size other : ℕ) → HasSize (InWindowOf (IsAnswer db q) from to) size → HasSize (InWindowOf (IsAnswer db q) from to) other → size ≡ other
+
+pub one_number : OneSize → (db : List Relation) (q : Question) (from to : ℤ) (bytes other : List ℕ) → TellsNumber db q from to bytes → TellsNumber db q from to other → bytes ≡ other
+one_number one db q from to bytes other a b = a.spelled ∙ ap count_line (one db q from to a.number b.number a.is b.is) ∙ sym b.spelled
+
+abbrev pub OneListOfRanges : Type 0
+OneListOfRanges = (db : List Relation) (q : Question) (from to : ℤ) (limit : ℕ) (ranges other : List Range) (more further : Bool)
+    → AreRanges (IsAnswerTime (IsAnswer db q)) from to limit ranges more → AreRanges (IsAnswerTime (IsAnswer db q)) from to limit other further → (ranges ≡ other) × (more ≡ further)
+
+pub one_ranges : OneListOfRanges → (db : List Relation) (q : Question) (from to : ℤ) (limit : ℕ) (civil json : Bool) (bytes other : List ℕ) → TellsRanges db q from to limit civil json bytes → TellsRanges db q from to limit civil json other → bytes ≡ other
+one_ranges one db q from to limit civil json bytes other a b =
+    let same = one db q from to limit a.ranges b.ranges a.more b.more a.are b.are in
+    a.spelled ∙ ap₂ (ranges_bytes civil json) same.0 same.1 ∙ sym b.spelled

@@ -1,5 +1,5 @@
 -- How a run can come to what is due for its task: each case with all that is known there.
-use Rattle.std.proofs.Common.{◌≡◌, ◌≢◌, ◌⊎◌, inl, inr, ◌<◌, ◌≤◌, ◌^◌, ℕ, ℤ, Bool, true, false, List, [], length, refl, sym, ap, subst, Option, Some, None, Result, Ok, Err}
+use Rattle.std.proofs.Common.{◌≡◌, ◌⊎◌, inl, inr, ◌<◌, ◌≤◌, ◌^◌, ℕ, ℤ, Bool, true, false, List, [], length, refl, sym, ap, subst, Option, Some, None, Result, Ok, Err}
 use Rattle.lrp_io.specs.Files.{content_of}
 use Rattle.lrp_io.specs.declared.shelf.File.{File}
 use Rattle.lrp_model.specs.AnswerTexts.{IsAnswerText}
@@ -9,7 +9,6 @@ use Rattle.lrp_model.specs.Formulas.{Question}
 use Rattle.lrp_model.specs.Rows.{Tuple}
 use Rattle.lrp_model.specs.Periods.{period}
 use Rattle.lrp_model.specs.Plans.{IsPlan, scaled_reach, IsWithinLimits}
-use Rattle.lrp_model.specs.Sorts.{time_count}
 use Rattle.lrp_model.specs.Texts.{Identifier, Text}
 use Rattle.lrp_model.specs.declared.faults.DbFault.{DbFault}
 use Rattle.lrp_model.specs.declared.faults.QueryFault.{QueryFault}
@@ -18,7 +17,9 @@ use Rattle.lrp_model.specs.declared.plans.Planning.{Planning}
 use Rattle.lrp_plan_laws.specs.GuardedPlans.{plan_by}
 use Rattle.lrp_model.specs.declared.relations.Relation.{Relation}
 use Rattle.lrp_token.specs.Reading.{IsNoToken, HasOtherCounts}
-use Rattle.lrp_top.specs.Due.{IsDatabaseReadOf, IsQueryRead, IsQueryReadOf, IsHeadFit, IsPlanned, IsPlannedAs, IsCounted, AreRowsCounted, IsOutput, IsExplained, IsAnswered, IsDecided, IsListed, IsPlannedFor}
+use Rattle.lrp_words.specs.Commands.{FilesAsked}
+use Rattle.lrp_top.specs.Due.{IsDatabaseReadOf, IsQueryRead, IsQueryReadOf, IsPlanned, IsPlannedAs, IsCounted, AreRowsCounted, IsOutput, IsExplained, IsAnswered, IsDecided, IsListed, IsNumberTold, IsPlannedFor, IsRanged}
+use Rattle.lrp_top.specs.Heads.{IsHeadFit, IsMetBy}
 use Rattle.lrp_run_laws.specs.Contents.{Contents, digest_of, SaysRelations, SaysQuestion, two_files}
 use Rattle.lrp_run_laws.specs.Tasks.{HasFewCells}
 use Rattle.lrp_top.specs.Canonical.{HasCanonicalRows, IsCanonicalText}
@@ -27,19 +28,17 @@ use Rattle.lrp_top.specs.Resuming.{IsResumed, IsStale, shape_of}
 use Rattle.lrp_top.specs.Seen.{ShelfSeen, AreBytesOf, HasFailed}
 use Rattle.lrp_top.specs.Sources.{Source}
 use Rattle.lrp_top.specs.Steps.{Then, Behind}
-use Rattle.lrp_top.specs.Telling.{TellsPage, TellsPlan, TellsWitness}
+use Rattle.lrp_top.specs.Telling.{TellsNumber, TellsPage, TellsPlan, TellsRanges, TellsWitness}
 use Rattle.lrp_top.specs.Written.{IsFaultyAs, plain_if}
+use Rattle.lrp_outputs.specs.declared.head.HeadNeed.{HeadNeed}
+use Rattle.lrp_outputs.specs.declared.head.HeadNeed.TheVariants.{Canon}
 use Rattle.lrp_outputs.specs.declared.refusal.Refusal.{Refusal}
-use Rattle.lrp_outputs.specs.declared.refusal.Refusal.TheVariants.{ReadDatabase, LongDatabase, Database, ReadQuery, LongQuery, Query, PeriodLimit, BoundLimit, TokenForm, TokenShape, TokenStale, Cells, CanonHead, CanonRows, Memory}
+use Rattle.lrp_outputs.specs.declared.refusal.Refusal.TheVariants.{ReadDatabase, LongDatabase, Database, ReadQuery, LongQuery, Query, PeriodLimit, BoundLimit, TokenForm, TokenShape, TokenStale, Cells, Head, CanonRows, Memory}
 
--- what a task asks of two files: how the query is planned, whether for a canonical answer, how they are written and their names, the token of a page and the cap, where it has them
+-- what a task asks of two files: the files, what the head needs, the token of a page and the cap, where it has them
 pub record Asked : Type 0 where
-  pub way : Planning
-  pub canon : Bool
-  pub tense : Bool
-  pub civil : Bool
-  pub database : Identifier
-  pub query : Identifier
+  pub of : FilesAsked
+  pub need : Option HeadNeed
   pub after : Option Text
   pub cap : Option ℕ
 
@@ -55,27 +54,27 @@ Telling = List ℕ → Plan → Option Tuple → List Relation → Question → 
 -- ---- behind the plan
 
 pub data Onward (digest : List ℕ) (a : Asked) (db : List Relation) (q : Question) (Tells : Option Tuple → List ℕ → Type 0) : Outcome → Type 0 where
-  output : (tuple : Option Tuple) → IsResumed digest q.head a.after (Ok tuple) → IsFew a.way a.cap db q → (bytes : List ℕ) → Tells tuple bytes → Onward digest a db q Tells (Ok bytes)
+  output : (tuple : Option Tuple) → IsResumed digest q.head a.after (Ok tuple) → IsFew a.of.way a.cap db q → (bytes : List ℕ) → Tells tuple bytes → Onward digest a db q Tells (Ok bytes)
   form : (text : Text) → a.after ≡ Some text → IsNoToken text → Onward digest a db q Tells (Err TokenForm)
   other : (text : Text) → a.after ≡ Some text → HasOtherCounts text (shape_of q.head) → Onward digest a db q Tells (Err TokenShape)
   stale : (text : Text) → a.after ≡ Some text → IsStale digest q.head text → Onward digest a db q Tells (Err TokenStale)
-  many : (cap step : ℕ) → a.cap ≡ Some cap → (tuple : Option Tuple) → IsResumed digest q.head a.after (Ok tuple) → IsFirstMany (plan_by a.way db q) db q cap step → Onward digest a db q Tells (Err (Cells cap step))
-  rows : (cap n : ℕ) → a.canon ≡ true → a.cap ≡ Some cap → HasCanonicalRows db q n → cap < n → Onward digest a db q Tells (Err (CanonRows cap))
+  many : (cap step : ℕ) → a.cap ≡ Some cap → (tuple : Option Tuple) → IsResumed digest q.head a.after (Ok tuple) → IsFirstMany (plan_by a.of.way db q) db q cap step → Onward digest a db q Tells (Err (Cells cap step))
+  rows : (cap n : ℕ) → a.need ≡ Some Canon → a.cap ≡ Some cap → HasCanonicalRows db q n → cap < n → Onward digest a db q Tells (Err (CanonRows cap))
   want : Onward digest a db q Tells (Err Memory)
 
 -- ---- the whole of it
 
 pub data Case (seen : ShelfSeen) (a : Asked) (files : Contents) (Tells : Telling) : Outcome → Type 0 where
-  unread_database : HasFailed seen a.database → Case seen a files Tells (Err ReadDatabase)
+  unread_database : HasFailed seen a.of.database → Case seen a files Tells (Err ReadDatabase)
   long_database : 16777216 < length files.database → Case seen a files Tells (Err LongDatabase)
-  no_database : (fault : DbFault) → length files.database ≤ 16777216 → IsDatabaseFault (plain_if a.civil files.database) fault → Case seen a files Tells (Err (Database fault))
-  unread_query : (db : List Relation) → SaysRelations a.civil files db → HasFailed seen a.query → Case seen a files Tells (Err ReadQuery)
-  long_query : (db : List Relation) → SaysRelations a.civil files db → 16777216 < length files.query → Case seen a files Tells (Err LongQuery)
-  no_query : (db : List Relation) → SaysRelations a.civil files db → (fault : QueryFault) → length files.query ≤ 16777216 → IsFaultyAs a.tense db files.query fault → Case seen a files Tells (Err (Query fault))
-  no_head : (db : List Relation) → SaysRelations a.civil files db → (q : Question) → SaysQuestion a.tense files db q → a.canon ≡ true → time_count q.head ≢ 1 → Case seen a files Tells (Err CanonHead)
-  above_period : (db : List Relation) → SaysRelations a.civil files db → (q : Question) → SaysQuestion a.tense files db q → 2 ^ 62 < period db q.body → Case seen a files Tells (Err PeriodLimit)
-  above_bound : (db : List Relation) → SaysRelations a.civil files db → (q : Question) → SaysQuestion a.tense files db q → period db q.body ≤ 2 ^ 62 → 2 ^ 62 < scaled_reach (plan_by a.way db q) q → Case seen a files Tells (Err BoundLimit)
-  planned : (db : List Relation) → SaysRelations a.civil files db → (q : Question) → SaysQuestion a.tense files db q → IsWithinLimits (plan_by a.way db q) db q → (p : Plan) → IsPlan p (plan_by a.way db q) db q → (outcome : Outcome) → Onward (digest_of files) a db q (λ tuple. Tells (digest_of files) p tuple db q) outcome → Case seen a files Tells outcome
+  no_database : (fault : DbFault) → length files.database ≤ 16777216 → IsDatabaseFault (plain_if a.of.civil files.database) fault → Case seen a files Tells (Err (Database fault))
+  unread_query : (db : List Relation) → SaysRelations a.of.civil files db → HasFailed seen a.of.query → Case seen a files Tells (Err ReadQuery)
+  long_query : (db : List Relation) → SaysRelations a.of.civil files db → 16777216 < length files.query → Case seen a files Tells (Err LongQuery)
+  no_query : (db : List Relation) → SaysRelations a.of.civil files db → (fault : QueryFault) → length files.query ≤ 16777216 → IsFaultyAs a.of.tense db files.query fault → Case seen a files Tells (Err (Query fault))
+  no_head : (db : List Relation) → SaysRelations a.of.civil files db → (q : Question) → SaysQuestion a.of.tense files db q → (unmet : HeadNeed) → a.need ≡ Some unmet → (IsMetBy unmet q.head → ⊥) → Case seen a files Tells (Err (Head unmet))
+  above_period : (db : List Relation) → SaysRelations a.of.civil files db → (q : Question) → SaysQuestion a.of.tense files db q → 2 ^ 62 < period db q.body → Case seen a files Tells (Err PeriodLimit)
+  above_bound : (db : List Relation) → SaysRelations a.of.civil files db → (q : Question) → SaysQuestion a.of.tense files db q → period db q.body ≤ 2 ^ 62 → 2 ^ 62 < scaled_reach (plan_by a.of.way db q) q → Case seen a files Tells (Err BoundLimit)
+  planned : (db : List Relation) → SaysRelations a.of.civil files db → (q : Question) → SaysQuestion a.of.tense files db q → IsWithinLimits (plan_by a.of.way db q) db q → (p : Plan) → IsPlan p (plan_by a.of.way db q) db q → (outcome : Outcome) → Onward (digest_of files) a db q (λ tuple. Tells (digest_of files) p tuple db q) outcome → Case seen a files Tells outcome
   wanted : Case seen a files Tells (Err Memory)
 
 -- ---- the bytes of files
@@ -94,15 +93,15 @@ some_bytes (Some files) name = (content_of files name, λ held e. ap (λ h. cont
 -- ---- each step
 
 -- the output is written, or memory is wanted
-written_as : (digest : List ℕ) (a : Asked) (db : List Relation) (q : Question) (Tells : Option Tuple → List ℕ → Type 0) (tuple : Option Tuple) → IsResumed digest q.head a.after (Ok tuple) → IsFew a.way a.cap db q → (outcome : Outcome) → IsOutput (Tells tuple) outcome → Onward digest a db q Tells outcome
+written_as : (digest : List ℕ) (a : Asked) (db : List Relation) (q : Question) (Tells : Option Tuple → List ℕ → Type 0) (tuple : Option Tuple) → IsResumed digest q.head a.after (Ok tuple) → IsFew a.of.way a.cap db q → (outcome : Outcome) → IsOutput (Tells tuple) outcome → Onward digest a db q Tells outcome
 written_as digest a db q Tells tuple resumed few (Ok bytes) told = output tuple resumed few bytes told
 written_as digest a db q Tells tuple resumed few (Err Memory) told = want
 written_as digest a db q Tells tuple resumed few (Err _) told = absurd told
 
 -- the cells are counted before
 counted_as : (digest : List ℕ) (a : Asked) (db : List Relation) (q : Question) (Tells : Option Tuple → List ℕ → Type 0) (tuple : Option Tuple) (cap : ℕ) → a.cap ≡ Some cap → IsResumed digest q.head a.after (Ok tuple)
-    → (outcome : Outcome) (counted : Result (Unit {0}) Refusal) → IsCounted a.way db q cap counted → Behind counted (λ done. IsOutput (Tells tuple)) outcome → Onward digest a db q Tells outcome
-counted_as digest a db q Tells tuple cap e resumed outcome (Ok done) few next = written_as digest a db q Tells tuple resumed (subst (λ c. IsFew a.way c db q) (sym e) few) outcome next
+    → (outcome : Outcome) (counted : Result (Unit {0}) Refusal) → IsCounted a.of.way db q cap counted → Behind counted (λ done. IsOutput (Tells tuple)) outcome → Onward digest a db q Tells outcome
+counted_as digest a db q Tells tuple cap e resumed outcome (Ok done) few next = written_as digest a db q Tells tuple resumed (subst (λ c. IsFew a.of.way c db q) (sym e) few) outcome next
 counted_as digest a db q Tells tuple cap e resumed outcome (Err (Cells most step)) told next =
     subst (Onward digest a db q Tells) (sym (next)) (subst (λ c. Onward digest a db q Tells (Err (Cells c step))) (sym told.0) (many cap step e tuple resumed told.1))
 counted_as digest a db q Tells tuple cap e resumed outcome (Err Memory) told next = subst (Onward digest a db q Tells) (sym next) want
@@ -110,7 +109,7 @@ counted_as digest a db q Tells tuple cap e resumed outcome (Err _) told next = a
 
 -- the page begins before that
 resumed_as : (digest : List ℕ) (a : Asked) (db : List Relation) (q : Question) (Tells : Option Tuple → List ℕ → Type 0) (cap : ℕ) → a.cap ≡ Some cap
-    → (outcome : Outcome) (after : Option Text) → a.after ≡ after → (resumed : Result (Option Tuple) Refusal) → IsResumed digest q.head after resumed → Behind resumed (λ tuple. Then (IsCounted a.way db q cap) (λ done. IsOutput (Tells tuple))) outcome → Onward digest a db q Tells outcome
+    → (outcome : Outcome) (after : Option Text) → a.after ≡ after → (resumed : Result (Option Tuple) Refusal) → IsResumed digest q.head after resumed → Behind resumed (λ tuple. Then (IsCounted a.of.way db q cap) (λ done. IsOutput (Tells tuple))) outcome → Onward digest a db q Tells outcome
 resumed_as digest a db q Tells cap e outcome after is (Ok tuple) told next = counted_as digest a db q Tells tuple cap e (subst (λ t. IsResumed digest q.head t (Ok tuple)) (sym is) told) outcome next.first next.is next.next
 resumed_as digest a db q Tells cap e outcome None is (Err r) told next = absurd (err_ok r told)
   where
@@ -135,14 +134,14 @@ GoesOn a Tells Due = (files : Contents) (db : List Relation) (q : Question) (p :
 pub record Reached (seen : ShelfSeen) (a : Asked) (Tells : Telling) (outcome : Outcome) : Type 0 where
   pub files : Contents
   pub none : files.edits ≡ []
-  pub database : AreBytesOf seen a.database files.database
-  pub query : AreBytesOf seen a.query files.query
+  pub database : AreBytesOf seen a.of.database files.database
+  pub query : AreBytesOf seen a.of.query files.query
   pub case : Case seen a files Tells outcome
 
 module _ (seen : ShelfSeen) (a : Asked) (Tells : Telling) (Due : Next) (goes_on : GoesOn a Tells Due) where
   -- the query is planned
-  planned_as : (files : Contents) (db : List Relation) → SaysRelations a.civil files db → (q : Question) → SaysQuestion a.tense files db q
-      → (outcome : Outcome) (plan : Result Plan Refusal) → IsPlanned a.way db q plan → Behind plan (Due (record { bytes = files.database; says = db }) (record { bytes = files.query; says = q })) outcome → Case seen a files Tells outcome
+  planned_as : (files : Contents) (db : List Relation) → SaysRelations a.of.civil files db → (q : Question) → SaysQuestion a.of.tense files db q
+      → (outcome : Outcome) (plan : Result Plan Refusal) → IsPlanned a.of.way db q plan → Behind plan (Due (record { bytes = files.database; says = db }) (record { bytes = files.query; says = q })) outcome → Case seen a files Tells outcome
   planned_as files db d q s outcome (Ok p) is next = planned db d q s is.1 p is.0 outcome (goes_on files db q p outcome next)
   planned_as files db d q s outcome (Err PeriodLimit) is next = subst (Case seen a files Tells) (sym next) (above_period db d q s is)
   planned_as files db d q s outcome (Err BoundLimit) is next = subst (Case seen a files Tells) (sym next) (above_bound db d q s is.0 is.1)
@@ -154,37 +153,33 @@ module _ (seen : ShelfSeen) (a : Asked) (Tells : Telling) (Due : Next) (goes_on 
   AfterHead files db q = Due (record { bytes = files.database; says = db }) (record { bytes = files.query; says = q })
 
   -- a plan stands behind the head; where the head is refused, so is the plan
-  behind_head : (db : List Relation) (q : Question) (plan : Result Plan Refusal) (fit : Result (Unit {0}) Refusal) → IsHeadFit a.canon q fit → Behind fit (λ fit. IsPlanned a.way db q) plan → IsPlanned a.way db q plan ⊎ ((a.canon ≡ true) × (time_count q.head ≢ 1) × (plan ≡ Err CanonHead))
+  behind_head : (db : List Relation) (q : Question) (plan : Result Plan Refusal) (fit : Result (Unit {0}) Refusal) → IsHeadFit a.need q fit → Behind fit (λ fit. IsPlanned a.of.way db q) plan → IsPlanned a.of.way db q plan ⊎ ((unmet : HeadNeed) × (a.need ≡ Some unmet) × (IsMetBy unmet q.head → ⊥) × (plan ≡ Err (Head unmet)))
   behind_head db q plan (Ok fit) is next = inl next
-  behind_head db q plan (Err refusal) is next = inr (refused_head a.canon refusal refl is next)
-    where
-      refused_head : (canon : Bool) (refusal : Refusal) → a.canon ≡ canon → IsHeadFit canon q (Err refusal) → plan ≡ Err refusal → (a.canon ≡ true) × (time_count q.head ≢ 1) × (plan ≡ Err CanonHead)
-      refused_head false refusal e is next = cc
-      refused_head true CanonHead e is next = (e, is, next)
-      refused_head true _ e is next = absurd is
+  behind_head db q plan (Err (Head unmet)) is next = inr (unmet, is.0, is.1, next)
+  behind_head db q plan (Err _) is next = absurd is
 
-  fitted_as : (files : Contents) (db : List Relation) → SaysRelations a.civil files db → (q : Question) → SaysQuestion a.tense files db q
-      → (outcome : Outcome) (plan : Result Plan Refusal) → IsPlannedAs a.way a.canon db q plan → Behind plan (AfterHead files db q) outcome → Case seen a files Tells outcome
+  fitted_as : (files : Contents) (db : List Relation) → SaysRelations a.of.civil files db → (q : Question) → SaysQuestion a.of.tense files db q
+      → (outcome : Outcome) (plan : Result Plan Refusal) → IsPlannedAs a.of.way a.need db q plan → Behind plan (AfterHead files db q) outcome → Case seen a files Tells outcome
   fitted_as files db d q s outcome plan is next =
       elim (behind_head db q plan is.first is.is is.next) [
         | inl fit ↦ planned_as files db d q s outcome plan fit next
-        | inr unfit ↦ subst (Case seen a files Tells) (sym (subst (λ p. Behind p (AfterHead files db q) outcome) unfit.2 next)) (no_head db d q s unfit.0 unfit.1)
+        | inr unfit ↦ subst (Case seen a files Tells) (sym (subst (λ p. Behind p (AfterHead files db q) outcome) unfit.3 next)) (no_head db d q s unfit.0 unfit.1 unfit.2)
       ]
 
   -- what is due behind the query
   abbrev AfterQuery : Source (List Relation) → Source Question → Outcome → Type 0
-  AfterQuery d q = Then (IsPlannedAs a.way a.canon d.says q.says) (Due d q)
+  AfterQuery d q = Then (IsPlannedAs a.of.way a.need d.says q.says) (Due d q)
 
   -- the query is read
-  queried_as : (files : Contents) (db : List Relation) → SaysRelations a.civil files db
-      → (outcome : Outcome) (query : Result (Source Question) Refusal) → IsQueryReadOf a.tense db seen a.query files.query query → Behind query (AfterQuery (record { bytes = files.database; says = db })) outcome → Case seen a files Tells outcome
+  queried_as : (files : Contents) (db : List Relation) → SaysRelations a.of.civil files db
+      → (outcome : Outcome) (query : Result (Source Question) Refusal) → IsQueryReadOf a.of.tense db seen a.of.query files.query query → Behind query (AfterQuery (record { bytes = files.database; says = db })) outcome → Case seen a files Tells outcome
   queried_as files db d outcome (Ok q) is next =
-      let same : q ≡ record { bytes = files.query; says = q.says } = ap (λ bytes. ◌of◌ bytes q.says) is.0 in
+      let same : q ≡ record { bytes = files.query; says = q.says } = ap (λ bytes. asked bytes q.says) is.0 in
       let then : AfterQuery (record { bytes = files.database; says = db }) (record { bytes = files.query; says = q.says }) outcome = subst (λ s. AfterQuery (record { bytes = files.database; says = db }) s outcome) same next in
       fitted_as files db d q.says (record { short = is.1; is = is.2 }) outcome then.first then.is then.next
     where
-      ◌of◌ : List ℕ → Question → Source Question
-      ◌of◌ bytes q = record { bytes = bytes; says = q }
+      asked : List ℕ → Question → Source Question
+      asked bytes q = record { bytes = bytes; says = q }
   queried_as files db d outcome (Err ReadQuery) is next = subst (Case seen a files Tells) (sym next) (unread_query db d is)
   queried_as files db d outcome (Err LongQuery) is next = subst (Case seen a files Tells) (sym next) (long_query db d is.0)
   queried_as files db d outcome (Err (Query fault)) is next = subst (Case seen a files Tells) (sym next) (no_query db d fault is.0 is.1)
@@ -193,17 +188,17 @@ module _ (seen : ShelfSeen) (a : Asked) (Tells : Telling) (Due : Next) (goes_on 
 
   -- what is due behind the database
   abbrev AfterDatabase : Source (List Relation) → Outcome → Type 0
-  AfterDatabase d = Then (IsQueryRead a.tense d.says seen a.query) (AfterQuery d)
+  AfterDatabase d = Then (IsQueryRead a.of.tense d.says seen a.of.query) (AfterQuery d)
 
   -- the bytes of the query that nobody read
-  unread : (outcome : Outcome) (database : List ℕ) → AreBytesOf seen a.database database → ((query : List ℕ) → Case seen a (two_files database query) Tells outcome) → Reached seen a Tells outcome
+  unread : (outcome : Outcome) (database : List ℕ) → AreBytesOf seen a.of.database database → ((query : List ℕ) → Case seen a (two_files database query) Tells outcome) → Reached seen a Tells outcome
   unread outcome database told case =
-      let some = some_bytes seen.files a.query in
+      let some = some_bytes seen.files a.of.query in
       record { files = two_files database some.0; none = refl; database = told; query = some.1; case = case some.0 }
 
   -- the database is read
-  read_as : (outcome : Outcome) (bytes : List ℕ) → AreBytesOf seen a.database bytes
-      → (database : Result (Source (List Relation)) Refusal) → IsDatabaseReadOf a.civil seen a.database bytes database → Behind database AfterDatabase outcome → Reached seen a Tells outcome
+  read_as : (outcome : Outcome) (bytes : List ℕ) → AreBytesOf seen a.of.database bytes
+      → (database : Result (Source (List Relation)) Refusal) → IsDatabaseReadOf a.of.civil seen a.of.database bytes database → Behind database AfterDatabase outcome → Reached seen a Tells outcome
   read_as outcome bytes told (Ok d) is next =
       let same : d ≡ record { bytes = bytes; says = d.says } = ap (λ b. source b d.says) is.0 in
       let then : AfterDatabase (record { bytes = bytes; says = d.says }) outcome = subst (λ s. AfterDatabase s outcome) same next in
@@ -224,17 +219,17 @@ module _ (seen : ShelfSeen) (a : Asked) (Tells : Telling) (Due : Next) (goes_on 
   read_as outcome bytes told (Err _) is next = absurd is
 
   -- what is due for a task that asks a query comes so
-  pub reached : (outcome : Outcome) → IsPlannedFor a.way a.canon a.tense a.civil seen a.database a.query Due outcome → Reached seen a Tells outcome
+  pub reached : (outcome : Outcome) → IsPlannedFor a.of a.need seen Due outcome → Reached seen a Tells outcome
   reached outcome due = read_as outcome due.is.bytes due.is.told due.first due.is.is due.next
 
 -- ---- the commands
 
-pub answer_goes_on : (a : Asked) (cap : ℕ) → a.cap ≡ Some cap → a.after ≡ None → GoesOn a (λ digest p tuple. IsAnswerText) (IsAnswered a.way false cap)
+pub answer_goes_on : (a : Asked) (cap : ℕ) → a.cap ≡ Some cap → a.after ≡ None → GoesOn a (λ digest p tuple. IsAnswerText) (IsAnswered a.of.way false cap)
 answer_goes_on a cap e n files db q p outcome due =
     counted_as (digest_of files) a db q (λ tuple. IsAnswerText db q) None cap e (subst (λ t. IsResumed (digest_of files) q.head t (Ok None)) (sym n) refl) outcome due.first due.is due.next
 
 -- the rows of the canonical answer are counted, and then it is told
-rows_as : (digest : List ℕ) (a : Asked) (db : List Relation) (q : Question) (Tells : Option Tuple → List ℕ → Type 0) (tuple : Option Tuple) (cap : ℕ) → a.canon ≡ true → a.cap ≡ Some cap → IsResumed digest q.head a.after (Ok tuple) → IsFew a.way a.cap db q
+rows_as : (digest : List ℕ) (a : Asked) (db : List Relation) (q : Question) (Tells : Option Tuple → List ℕ → Type 0) (tuple : Option Tuple) (cap : ℕ) → a.need ≡ Some Canon → a.cap ≡ Some cap → IsResumed digest q.head a.after (Ok tuple) → IsFew a.of.way a.cap db q
     → (outcome : Outcome) (counted : Result (Unit {0}) Refusal) → AreRowsCounted db q cap counted → Behind counted (λ done. IsOutput (Tells tuple)) outcome → Onward digest a db q Tells outcome
 rows_as digest a db q Tells tuple cap c e resumed few outcome (Ok done) told next = written_as digest a db q Tells tuple resumed few outcome next
 rows_as digest a db q Tells tuple cap c e resumed few outcome (Err (CanonRows most)) told next =
@@ -242,26 +237,34 @@ rows_as digest a db q Tells tuple cap c e resumed few outcome (Err (CanonRows mo
 rows_as digest a db q Tells tuple cap c e resumed few outcome (Err Memory) told next = subst (Onward digest a db q Tells) (sym next) want
 rows_as digest a db q Tells tuple cap c e resumed few outcome (Err _) told next = absurd told
 
-cells_as : (digest : List ℕ) (a : Asked) (db : List Relation) (q : Question) (Tells : Option Tuple → List ℕ → Type 0) (tuple : Option Tuple) (cap : ℕ) → a.canon ≡ true → a.cap ≡ Some cap → IsResumed digest q.head a.after (Ok tuple)
-    → (outcome : Outcome) (counted : Result (Unit {0}) Refusal) → IsCounted a.way db q cap counted → Behind counted (λ done. Then (AreRowsCounted db q cap) (λ rows. IsOutput (Tells tuple))) outcome → Onward digest a db q Tells outcome
-cells_as digest a db q Tells tuple cap c e resumed outcome (Ok done) few next = rows_as digest a db q Tells tuple cap c e resumed (subst (λ m. IsFew a.way m db q) (sym e) few) outcome next.first next.is next.next
+cells_as : (digest : List ℕ) (a : Asked) (db : List Relation) (q : Question) (Tells : Option Tuple → List ℕ → Type 0) (tuple : Option Tuple) (cap : ℕ) → a.need ≡ Some Canon → a.cap ≡ Some cap → IsResumed digest q.head a.after (Ok tuple)
+    → (outcome : Outcome) (counted : Result (Unit {0}) Refusal) → IsCounted a.of.way db q cap counted → Behind counted (λ done. Then (AreRowsCounted db q cap) (λ rows. IsOutput (Tells tuple))) outcome → Onward digest a db q Tells outcome
+cells_as digest a db q Tells tuple cap c e resumed outcome (Ok done) few next = rows_as digest a db q Tells tuple cap c e resumed (subst (λ m. IsFew a.of.way m db q) (sym e) few) outcome next.first next.is next.next
 cells_as digest a db q Tells tuple cap c e resumed outcome (Err (Cells most step)) told next =
     subst (Onward digest a db q Tells) (sym (next)) (subst (λ m. Onward digest a db q Tells (Err (Cells m step))) (sym told.0) (many cap step e tuple resumed told.1))
 cells_as digest a db q Tells tuple cap c e resumed outcome (Err Memory) told next = subst (Onward digest a db q Tells) (sym next) want
 cells_as digest a db q Tells tuple cap c e resumed outcome (Err _) told next = absurd told
 
-pub canonical_goes_on : (a : Asked) (cap : ℕ) → a.canon ≡ true → a.cap ≡ Some cap → a.after ≡ None → GoesOn a (λ digest p tuple. IsCanonicalText) (IsAnswered a.way true cap)
+pub canonical_goes_on : (a : Asked) (cap : ℕ) → a.need ≡ Some Canon → a.cap ≡ Some cap → a.after ≡ None → GoesOn a (λ digest p tuple. IsCanonicalText) (IsAnswered a.of.way true cap)
 canonical_goes_on a cap c e n files db q p outcome due =
     cells_as (digest_of files) a db q (λ tuple. IsCanonicalText db q) None cap c e (subst (λ t. IsResumed (digest_of files) q.head t (Ok None)) (sym n) refl) outcome due.first due.is due.next
 
-pub decide_goes_on : (a : Asked) (cap : ℕ) → a.cap ≡ Some cap → a.after ≡ None → GoesOn a (λ digest p tuple. TellsWitness) (IsDecided a.way cap)
-decide_goes_on a cap e n files db q p outcome due =
-    counted_as (digest_of files) a db q (λ tuple. TellsWitness db q) None cap e (subst (λ t. IsResumed (digest_of files) q.head t (Ok None)) (sym n) refl) outcome due.first due.is due.next
+pub decide_goes_on : (a : Asked) (dates : Bool) (cap : ℕ) → a.cap ≡ Some cap → a.after ≡ None → GoesOn a (λ digest p tuple. TellsWitness dates) (IsDecided a.of.way dates cap)
+decide_goes_on a dates cap e n files db q p outcome due =
+    counted_as (digest_of files) a db q (λ tuple. TellsWitness dates db q) None cap e (subst (λ t. IsResumed (digest_of files) q.head t (Ok None)) (sym n) refl) outcome due.first due.is due.next
 
 pub explain_goes_on : (a : Asked) → a.cap ≡ None → a.after ≡ None → GoesOn a (λ digest p tuple db q. TellsPlan p) IsExplained
 explain_goes_on a e n files db q p outcome due =
-    written_as (digest_of files) a db q (λ tuple. TellsPlan p) None (subst (λ t. IsResumed (digest_of files) q.head t (Ok None)) (sym n) refl) (subst (λ c. IsFew a.way c db q) (sym e) tt) outcome due
+    written_as (digest_of files) a db q (λ tuple. TellsPlan p) None (subst (λ t. IsResumed (digest_of files) q.head t (Ok None)) (sym n) refl) (subst (λ c. IsFew a.of.way c db q) (sym e) tt) outcome due
 
-pub list_goes_on : (a : Asked) (cap : ℕ) (from to : ℤ) (limit : ℕ) (civil json : Bool) → a.cap ≡ Some cap → GoesOn a (λ digest p tuple db q. TellsPage db q from to tuple limit civil json digest) (IsListed a.way civil from to limit a.after json cap)
+pub list_goes_on : (a : Asked) (cap : ℕ) (from to : ℤ) (limit : ℕ) (civil json : Bool) → a.cap ≡ Some cap → GoesOn a (λ digest p tuple db q. TellsPage db q from to tuple limit civil json digest) (IsListed a.of.way civil from to limit a.after json cap)
 list_goes_on a cap from to limit civil json e files db q p outcome due =
     resumed_as (digest_of files) a db q (λ tuple. TellsPage db q from to tuple limit civil json (digest_of files)) cap e outcome a.after refl due.first due.is due.next
+
+pub number_goes_on : (a : Asked) (cap : ℕ) (from to : ℤ) → a.cap ≡ Some cap → a.after ≡ None → GoesOn a (λ digest p tuple db q. TellsNumber db q from to) (IsNumberTold a.of.way from to cap)
+number_goes_on a cap from to e n files db q p outcome due =
+    counted_as (digest_of files) a db q (λ tuple. TellsNumber db q from to) None cap e (subst (λ t. IsResumed (digest_of files) q.head t (Ok None)) (sym n) refl) outcome due.first due.is due.next
+
+pub ranges_go_on : (a : Asked) (cap : ℕ) (from to : ℤ) (limit : ℕ) (civil json : Bool) → a.cap ≡ Some cap → a.after ≡ None → GoesOn a (λ digest p tuple db q. TellsRanges db q from to limit civil json) (IsRanged a.of.way civil from to limit json cap)
+ranges_go_on a cap from to limit civil json e n files db q p outcome due =
+    counted_as (digest_of files) a db q (λ tuple. TellsRanges db q from to limit civil json) None cap e (subst (λ t. IsResumed (digest_of files) q.head t (Ok None)) (sym n) refl) outcome due.first due.is due.next

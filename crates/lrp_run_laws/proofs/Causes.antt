@@ -2,8 +2,8 @@
 use Rattle.std.proofs.Common.{◌≡◌, ◌≢◌, ◌⊎◌, inl, inr, ℕ, Bool, true, false, List, [], refl, sym, ap, ap₂, subst, ◌∙◌, Option, Some, None, Result, Ok, Err}
 use Rattle.lrp_io.specs.Bytes.{appended}
 use Rattle.lrp_io.specs.declared.shelf.File.{File}
-use Rattle.lrp_words.specs.Commands.{Task}
-use Rattle.lrp_words.specs.Commands.Task.{ask, decide, list, explain, check, watch, sample}
+use Rattle.lrp_words.specs.Commands.{FilesAsked, Task}
+use Rattle.lrp_words.specs.Commands.Task.{ask, decide, list, count, ranges, explain, check, watch, sample}
 use Rattle.lrp_model.specs.AnswerTexts.{IsAnswerText}
 use Rattle.lrp_model.specs.Formulas.{Question}
 use Rattle.lrp_model.specs.Rows.{Tuple}
@@ -12,11 +12,11 @@ use Rattle.lrp_model.specs.Texts.{Identifier}
 use Rattle.lrp_model.specs.declared.plans.Plan.{Plan}
 use Rattle.lrp_plan_laws.specs.GuardedPlans.{plan_by}
 use Rattle.lrp_model.specs.declared.relations.Relation.{Relation}
-use Rattle.lrp_top.specs.Due.{IsDueOf, IsDueFor, IsDatabaseReadOf, IsOutput, IsAnswered, IsDecided, IsExplained, IsListed}
-use Rattle.lrp_run_laws.specs.Contents.{Contents, contents_at, digest_of, OverDatabase, OverQuery, Asking, SaysRelations, two_files}
+use Rattle.lrp_top.specs.Due.{IsDueOf, IsDueFor, IsDatabaseReadOf, IsOutput, IsAnswered, IsDecided, IsExplained, IsListed, IsNumberTold, IsRanged}
+use Rattle.lrp_run_laws.specs.Contents.{Contents, contents_at, contents_of, digest_of, OverDatabase, OverQuery, Asking, SaysRelations, two_files}
 use Rattle.lrp_run_laws.specs.Tasks.{IsOutputOf, TellsPlanOf, TellsPageBehind}
 use Rattle.lrp_run_laws.specs.Runs.{Run, WroteAll}
-use Rattle.lrp_run_laws.specs.Reasons.{IsRefusedBehind, HasMany, HasManyRows, IsNoDatabase, IsNoQuery, IsNoTokenOf, IsAboveLimits, IsDatabaseRefused, IsQueryRefused, IsQueryAbove, HasFailedFile, HasFailedOneOf, IsReason, HasReasonFor, HasTaskReason, IsUsage}
+use Rattle.lrp_run_laws.specs.Reasons.{HasOtherHead, IsRefusedBehind, HasMany, HasManyRows, IsNoDatabase, IsNoQuery, IsNoTokenOf, IsAboveLimits, IsDatabaseRefused, IsQueryRefused, IsQueryAbove, HasFailedFile, HasFailedOneOf, IsReason, HasReasonFor, HasTaskReason, IsUsage}
 use Rattle.lrp_top.specs.Canonical.{IsCanonicalText}
 use Rattle.lrp_outputs.specs.Outcomes.{Outcome, refused_with, status_of, written_of, line_of}
 use Rattle.lrp_top.specs.Ends.{Ends}
@@ -25,30 +25,32 @@ use Rattle.lrp_top.specs.Sampled.{TellsSample}
 use Rattle.lrp_top.specs.Seen.{ShelfSeen, SinkSeen, AreBytesOf}
 use Rattle.lrp_top.specs.Sources.{Source}
 use Rattle.lrp_top.specs.Steps.{Behind}
-use Rattle.lrp_top.specs.Telling.{TellsPage, TellsPlan, TellsRelations, TellsWitness}
+use Rattle.lrp_top.specs.Telling.{TellsNumber, TellsPage, TellsPlan, TellsRanges, TellsRelations, TellsWitness}
+use Rattle.lrp_outputs.specs.declared.head.HeadNeed.TheVariants as needs
+use Rattle.lrp_outputs.specs.declared.head.HeadNeed.TheVariants.{Canon}
 use Rattle.lrp_outputs.specs.declared.refusal.Refusal.{Refusal}
 use Rattle.lrp_outputs.specs.declared.refusal.Refusal.TheVariants.{Usage, ReadDatabase, LongDatabase, Database, Memory}
 use Rattle.lrp_outputs.specs.declared.status.Status.{Status}
 use Rattle.lrp_outputs.specs.declared.status.Status.TheVariants as status
 use Rattle.lrp_run_laws.proofs.Explained.{Explained, OutcomeFor, is_memory}
 use Rattle.lrp_run_laws.proofs.WatchCauses.{watch_explained}
-use Rattle.lrp_run_laws.proofs.Cases.{Asked, Telling, output, form, other, stale, many, rows, want, Case, unread_database, long_database, no_database, unread_query, long_query, no_query, no_head, above_period, above_bound, planned, wanted, reached, answer_goes_on, canonical_goes_on, decide_goes_on, explain_goes_on, list_goes_on}
+use Rattle.lrp_run_laws.proofs.Cases.{Asked, Reached, Telling, output, form, other, stale, many, rows, want, Case, unread_database, long_database, no_database, unread_query, long_query, no_query, no_head, above_period, above_bound, planned, wanted, reached, answer_goes_on, canonical_goes_on, decide_goes_on, explain_goes_on, list_goes_on, number_goes_on, ranges_go_on}
 
 -- ---- a task that asks a query
 
 -- the query's refusals, and its limits
 abbrev RefusedFor : Asked → Contents → Type 0
-RefusedFor a files = OverDatabase a.civil files (λ db. IsNoQuery files a.tense db ⊎ OverQuery a.tense files (IsRefusedBehind a.canon (digest_of files) a.after) db)
+RefusedFor a files = OverDatabase a.of.civil files (λ db. IsNoQuery files a.of.tense db ⊎ OverQuery a.of.tense files (IsRefusedBehind a.need (digest_of files) a.after) db)
 
 abbrev AboveFor : Asked → Contents → Type 0
-AboveFor a files = OverDatabase a.civil files (OverQuery a.tense files (IsAboveLimits a.way a.canon a.cap))
+AboveFor a files = OverDatabase a.of.civil files (OverQuery a.of.tense files (IsAboveLimits a.of.way a.need a.cap))
 
 -- why the task is refused with a status
 abbrev RefusalFor : Asked → Contents → ShelfSeen → Status → Type 0
-RefusalFor a files seen status.Database = IsNoDatabase files a.civil
+RefusalFor a files seen status.Database = IsNoDatabase files a.of.civil
 RefusalFor a files seen status.Query = RefusedFor a files
 RefusalFor a files seen status.Limit = AboveFor a files
-RefusalFor a files seen status.Read = HasFailedOneOf seen files a.civil a.database a.query
+RefusalFor a files seen status.Read = HasFailedOneOf seen files a.of.civil a.of.database a.of.query
 RefusalFor a files seen status.Memory = Unit {0}
 RefusalFor a files seen _ = ⊥
 
@@ -58,12 +60,12 @@ Shown = List ℕ → List ℕ → List Relation → Question → Type 0
 
 -- what holds of an outcome: an output is told, or there is a cause
 abbrev CauseFor : Asked → Contents → ShelfSeen → Shown → Outcome → Type 0
-CauseFor a files seen Shows (Ok bytes) = Asking a.way a.tense a.civil files (Shows (digest_of files) bytes)
+CauseFor a files seen Shows (Ok bytes) = Asking a.of files (Shows (digest_of files) bytes)
 CauseFor a files seen Shows (Err refusal) = RefusalFor a files seen (refused_with refusal)
 
 -- what is told of the query is what is shown
 abbrev Show : Asked → Telling → Shown → Type 0
-Show a Tells Shows = (digest : List ℕ) (p : Plan) (tuple : Option Tuple) (db : List Relation) (q : Question) (bytes : List ℕ) → IsPlan p (plan_by a.way db q) db q → IsResumed digest q.head a.after (Ok tuple) → Tells digest p tuple db q bytes → Shows digest bytes db q
+Show a Tells Shows = (digest : List ℕ) (p : Plan) (tuple : Option Tuple) (db : List Relation) (q : Question) (bytes : List ℕ) → IsPlan p (plan_by a.of.way db q) db q → IsResumed digest q.head a.after (Ok tuple) → Tells digest p tuple db q bytes → Shows digest bytes db q
 
 module _ (seen : ShelfSeen) (a : Asked) (files : Contents) (Tells : Telling) (Shows : Shown) (show : Show a Tells Shows) where
   cause_of : (outcome : Outcome) → Case seen a files Tells outcome → CauseFor a files seen Shows outcome
@@ -73,7 +75,8 @@ module _ (seen : ShelfSeen) (a : Asked) (files : Contents) (Tells : Telling) (Sh
   cause_of _ (unread_query db says failed) = inr (record { db = db; says = says; holds = failed })
   cause_of _ (long_query db says long) = record { db = db; says = says; holds = inl (inl long) }
   cause_of _ (no_query db says fault short is) = record { db = db; says = says; holds = inl (inr (fault, is)) }
-  cause_of _ (no_head db says q said asked unfit) = record { db = db; says = says; holds = inr (record { q = q; says = said; holds = inl (asked, unfit) }) }
+  cause_of _ (no_head db says q said unmet asked unfit) =
+      record { db = db; says = says; holds = inr (record { q = q; says = said; holds = inl (subst (λ need. HasOtherHead need q) (sym asked) unfit) }) }
   cause_of _ (above_period db says q said above) = record { db = db; says = says; holds = record { q = q; says = said; holds = inl above } }
   cause_of _ (above_bound db says q said period above) = record { db = db; says = says; holds = record { q = q; says = said; holds = inr (inl above) } }
   cause_of _ (planned db says q said limits p plan _ (output tuple resumed few bytes told)) =
@@ -85,7 +88,7 @@ module _ (seen : ShelfSeen) (a : Asked) (files : Contents) (Tells : Telling) (Sh
   cause_of _ (planned db says q said limits p plan _ (stale text is old)) =
       record { db = db; says = says; holds = inr (record { q = q; says = said; holds = inr (subst (λ t. IsNoTokenOf (digest_of files) t db q) (sym is) (inr (inr old))) }) }
   cause_of _ (planned db says q said limits p plan _ (many cells step is tuple resumed first)) =
-      record { db = db; says = says; holds = record { q = q; says = said; holds = inr (inr (inl (subst (λ c. HasMany a.way c db q) (sym is) (step, first)))) } }
+      record { db = db; says = says; holds = record { q = q; says = said; holds = inr (inr (inl (subst (λ c. HasMany a.of.way c db q) (sym is) (step, first)))) } }
   cause_of _ (planned db says q said limits p plan _ (rows most n asked is counted more)) =
       record { db = db; says = says; holds = record { q = q; says = said; holds = inr (inr (inr (asked, subst (λ c. HasManyRows c db q) (sym is) (n, counted, more)))) } }
   cause_of _ (planned db says q said limits p plan _ want) = tt
@@ -94,15 +97,15 @@ module _ (seen : ShelfSeen) (a : Asked) (files : Contents) (Tells : Telling) (Sh
 -- ---- a task
 
 -- the bytes of two files
-both_files : (seen : ShelfSeen) (files : Contents) (database query : Identifier) → files.edits ≡ [] → AreBytesOf seen database files.database → AreBytesOf seen query files.query
-    → (held : List File) → seen.files ≡ Some held → files ≡ contents_at held database query
-both_files seen files database query none d q held e = ap (with_edits files) none ∙ ap₂ two_files (d held e) (q held e)
+both_files : (seen : ShelfSeen) (files : Contents) (of : FilesAsked) → files.edits ≡ [] → AreBytesOf seen of.database files.database → AreBytesOf seen of.query files.query
+    → (held : List File) → seen.files ≡ Some held → files ≡ contents_at held of
+both_files seen files of none d q held e = ap (with_edits files) none ∙ ap₂ two_files (d held e) (q held e)
   where
     with_edits : Contents → List ℕ → Contents
     with_edits files edits = record { database = files.database; query = files.query; edits = edits }
 
 -- the causes of a task that asks a query
-module _ (a : Asked) (files : Contents) (seen : ShelfSeen) (task : Task) (no_database_for : IsNoDatabase files a.civil → IsDatabaseRefused files task) (refused : RefusedFor a files → IsQueryRefused files task) (above : AboveFor a files → IsQueryAbove files task) (failed : HasFailedOneOf seen files a.civil a.database a.query → HasFailedFile seen files task) where
+module _ (a : Asked) (files : Contents) (seen : ShelfSeen) (task : Task) (no_database_for : IsNoDatabase files a.of.civil → IsDatabaseRefused files task) (refused : RefusedFor a files → IsQueryRefused files task) (above : AboveFor a files → IsQueryAbove files task) (failed : HasFailedOneOf seen files a.of.civil a.of.database a.of.query → HasFailedFile seen files task) where
   cause_for : (s : Status) → RefusalFor a files seen s → (taken : SinkSeen) → (s ≡ status.Memory → WroteAll taken (line_of Memory)) → IsReason s task files seen taken
   cause_for status.Database h taken line = no_database_for h
   cause_for status.Query h taken line = refused h
@@ -113,7 +116,7 @@ module _ (a : Asked) (files : Contents) (seen : ShelfSeen) (task : Task) (no_dat
   cause_for status.Usage h taken line = absurd h
   cause_for status.Write h taken line = absurd h
 
-  outcome_for : (Shows : Shown) → ((bytes : List ℕ) → Asking a.way a.tense a.civil files (Shows (digest_of files) bytes) → IsOutputOf task files bytes) → (outcome : Outcome) → CauseFor a files seen Shows outcome → OutcomeFor task seen files outcome
+  outcome_for : (Shows : Shown) → ((bytes : List ℕ) → Asking a.of files (Shows (digest_of files) bytes) → IsOutputOf task files bytes) → (outcome : Outcome) → CauseFor a files seen Shows outcome → OutcomeFor task seen files outcome
   outcome_for Shows shows (Ok bytes) h = shows bytes h
   outcome_for Shows shows (Err refusal) h = λ taken line. cause_for (refused_with refusal) h taken (λ e. subst (λ r. WroteAll taken (line_of r)) (is_memory refusal e) line)
 
@@ -138,59 +141,54 @@ sample_written seed size seen files (Ok bytes) told = told
 sample_written seed size seen files (Err Memory) told = λ taken line. line
 sample_written seed size seen files (Err _) told = absurd told
 
+-- a task that asks a query
+module _ (a : Asked) (seen : ShelfSeen) (task : Task) (no_database_for : (files : Contents) → IsNoDatabase files a.of.civil → IsDatabaseRefused files task) (refused : (files : Contents) → RefusedFor a files → IsQueryRefused files task) (above : (files : Contents) → AboveFor a files → IsQueryAbove files task)
+    (failed : (files : Contents) → HasFailedOneOf seen files a.of.civil a.of.database a.of.query → HasFailedFile seen files task) (named : (held : List File) → contents_at held a.of ≡ contents_of held task) where
+  asked_explained : (Tells : Telling) (Shows : Shown) → Show a Tells Shows → ((files : Contents) (bytes : List ℕ) → Asking a.of files (Shows (digest_of files) bytes) → IsOutputOf task files bytes) → (outcome : Outcome) → Reached seen a Tells outcome → Explained task seen outcome
+  asked_explained Tells Shows show shows outcome r = record {
+    files = r.files;
+    told = λ held e. both_files seen r.files a.of r.none r.database r.query held e ∙ named held;
+    is = outcome_for a r.files seen task (no_database_for r.files) (refused r.files) (above r.files) (failed r.files) Shows (shows r.files) outcome (cause_of seen a r.files Tells Shows show outcome r.case);
+  }
+
 -- each task
 pub explained : (task : Task) (seen : ShelfSeen) (outcome : Outcome) → IsDueOf task seen outcome → Explained task seen outcome
-explained (ask database query cap way tense false civil) seen outcome due =
-    let a : Asked = record { way = way; canon = false; tense = tense; civil = civil; database = database; query = query; after = None; cap = Some cap } in
-    let r = reached seen a (λ digest p tuple. IsAnswerText) (IsAnswered way false cap) (answer_goes_on a cap refl refl) outcome due in
-    record {
-      files = r.files;
-      told = both_files seen r.files database query r.none r.database r.query;
-      is = outcome_for a r.files seen (ask database query cap way tense false civil) (λ h. h) (λ h. h) (λ h. h) (λ h. h) (λ digest bytes db q. IsAnswerText db q bytes) (λ bytes h. h) outcome
-          (cause_of seen a r.files (λ digest p tuple. IsAnswerText) (λ digest bytes db q. IsAnswerText db q bytes) (λ digest p tuple db q bytes plan resumed told. told) outcome r.case);
-    }
-explained (ask database query cap way tense true civil) seen outcome due =
-    let a : Asked = record { way = way; canon = true; tense = tense; civil = civil; database = database; query = query; after = None; cap = Some cap } in
-    let r = reached seen a (λ digest p tuple. IsCanonicalText) (IsAnswered way true cap) (canonical_goes_on a cap refl refl refl) outcome due in
-    record {
-      files = r.files;
-      told = both_files seen r.files database query r.none r.database r.query;
-      is = outcome_for a r.files seen (ask database query cap way tense true civil) (λ h. h) (λ h. h) (λ h. h) (λ h. h) (λ digest bytes db q. IsCanonicalText db q bytes) (λ bytes h. h) outcome
-          (cause_of seen a r.files (λ digest p tuple. IsCanonicalText) (λ digest bytes db q. IsCanonicalText db q bytes) (λ digest p tuple db q bytes plan resumed told. told) outcome r.case);
-    }
-explained (decide database query cap way tense civil) seen outcome due =
-    let a : Asked = record { way = way; canon = false; tense = tense; civil = civil; database = database; query = query; after = None; cap = Some cap } in
-    let r = reached seen a (λ digest p tuple. TellsWitness) (IsDecided way cap) (decide_goes_on a cap refl refl) outcome due in
-    record {
-      files = r.files;
-      told = both_files seen r.files database query r.none r.database r.query;
-      is = outcome_for a r.files seen (decide database query cap way tense civil) (λ h. h) (λ h. h) (λ h. h) (λ h. h) (λ digest bytes db q. TellsWitness db q bytes) (λ bytes h. h) outcome
-          (cause_of seen a r.files (λ digest p tuple. TellsWitness) (λ digest bytes db q. TellsWitness db q bytes) (λ digest p tuple db q bytes plan resumed told. told) outcome r.case);
-    }
-explained (list database query from to limit after json cap way tense civil) seen outcome due =
-    let a : Asked = record { way = way; canon = false; tense = tense; civil = civil; database = database; query = query; after = after; cap = Some cap } in
-    let r = reached seen a (λ digest p tuple db q. TellsPage db q from to tuple limit civil json digest) (IsListed way civil from to limit after json cap) (list_goes_on a cap from to limit civil json refl) outcome due in
-    record {
-      files = r.files;
-      told = both_files seen r.files database query r.none r.database r.query;
-      is = outcome_for a r.files seen (list database query from to limit after json cap way tense civil) (λ h. h) (λ h. h) (λ h. h) (λ h. h) (λ digest. TellsPageBehind from to limit after civil json digest) (λ bytes h. h) outcome
-          (cause_of seen a r.files (λ digest p tuple db q. TellsPage db q from to tuple limit civil json digest) (λ digest. TellsPageBehind from to limit after civil json digest) (λ digest p tuple db q bytes plan resumed told. record { tuple = tuple; resumed = resumed; page = told }) outcome r.case);
-    }
-explained (explain database query way tense civil) seen outcome due =
-    let a : Asked = record { way = way; canon = false; tense = tense; civil = civil; database = database; query = query; after = None; cap = None } in
-    let r = reached seen a (λ digest p tuple db q. TellsPlan p) IsExplained (explain_goes_on a refl refl) outcome due in
-    record {
-      files = r.files;
-      told = both_files seen r.files database query r.none r.database r.query;
-      is = outcome_for a r.files seen (explain database query way tense civil) (λ h. h) (λ h. h) (λ h. h) (λ h. h) (λ digest. TellsPlanOf way) (λ bytes h. h) outcome
-          (cause_of seen a r.files (λ digest p tuple db q. TellsPlan p) (λ digest. TellsPlanOf way) (λ digest p tuple db q bytes plan resumed told. record { plan = p; is = plan; told = told }) outcome r.case);
-    }
+explained (ask of cap false) seen outcome due =
+    let a : Asked = record { of = of; need = None; after = None; cap = Some cap } in
+    asked_explained a seen (ask of cap false) (λ files h. h) (λ files h. h) (λ files h. h) (λ files h. h) (λ held. refl) (λ digest p tuple. IsAnswerText) (λ digest bytes db q. IsAnswerText db q bytes) (λ digest p tuple db q bytes plan resumed told. told) (λ files bytes h. h) outcome
+    (reached seen a (λ digest p tuple. IsAnswerText) (IsAnswered of.way false cap) (answer_goes_on a cap refl refl) outcome due)
+explained (ask of cap true) seen outcome due =
+    let a : Asked = record { of = of; need = Some Canon; after = None; cap = Some cap } in
+    asked_explained a seen (ask of cap true) (λ files h. h) (λ files h. h) (λ files h. h) (λ files h. h) (λ held. refl) (λ digest p tuple. IsCanonicalText) (λ digest bytes db q. IsCanonicalText db q bytes) (λ digest p tuple db q bytes plan resumed told. told) (λ files bytes h. h) outcome
+    (reached seen a (λ digest p tuple. IsCanonicalText) (IsAnswered of.way true cap) (canonical_goes_on a cap refl refl refl) outcome due)
+explained (decide of cap dates) seen outcome due =
+    let a : Asked = record { of = of; need = None; after = None; cap = Some cap } in
+    asked_explained a seen (decide of cap dates) (λ files h. h) (λ files h. h) (λ files h. h) (λ files h. h) (λ held. refl) (λ digest p tuple. TellsWitness dates) (λ digest bytes db q. TellsWitness dates db q bytes) (λ digest p tuple db q bytes plan resumed told. told) (λ files bytes h. h) outcome
+    (reached seen a (λ digest p tuple. TellsWitness dates) (IsDecided of.way dates cap) (decide_goes_on a dates cap refl refl) outcome due)
+explained (list of from to limit after json cap) seen outcome due =
+    let a : Asked = record { of = of; need = None; after = after; cap = Some cap } in
+    asked_explained a seen (list of from to limit after json cap) (λ files h. h) (λ files h. h) (λ files h. h) (λ files h. h) (λ held. refl) (λ digest p tuple db q. TellsPage db q from to tuple limit of.civil json digest) (λ digest. TellsPageBehind from to limit after of.civil json digest)
+    (λ digest p tuple db q bytes plan resumed told. record { tuple = tuple; resumed = resumed; page = told }) (λ files bytes h. h) outcome
+    (reached seen a (λ digest p tuple db q. TellsPage db q from to tuple limit of.civil json digest) (IsListed of.way of.civil from to limit after json cap) (list_goes_on a cap from to limit of.civil json refl) outcome due)
+explained (count of from to cap) seen outcome due =
+    let a : Asked = record { of = of; need = Some needs.Count; after = None; cap = Some cap } in
+    asked_explained a seen (count of from to cap) (λ files h. h) (λ files h. h) (λ files h. h) (λ files h. h) (λ held. refl) (λ digest p tuple db q. TellsNumber db q from to) (λ digest bytes db q. TellsNumber db q from to bytes) (λ digest p tuple db q bytes plan resumed told. told) (λ files bytes h. h) outcome
+    (reached seen a (λ digest p tuple db q. TellsNumber db q from to) (IsNumberTold of.way from to cap) (number_goes_on a cap from to refl refl) outcome due)
+explained (ranges of from to limit json cap) seen outcome due =
+    let a : Asked = record { of = of; need = Some needs.Ranges; after = None; cap = Some cap } in
+    asked_explained a seen (ranges of from to limit json cap) (λ files h. h) (λ files h. h) (λ files h. h) (λ files h. h) (λ held. refl) (λ digest p tuple db q. TellsRanges db q from to limit of.civil json) (λ digest bytes db q. TellsRanges db q from to limit of.civil json bytes)
+    (λ digest p tuple db q bytes plan resumed told. told) (λ files bytes h. h) outcome
+    (reached seen a (λ digest p tuple db q. TellsRanges db q from to limit of.civil json) (IsRanged of.way of.civil from to limit json cap) (ranges_go_on a cap from to limit of.civil json refl refl) outcome due)
+explained (explain of) seen outcome due =
+    let a : Asked = record { of = of; need = None; after = None; cap = None } in
+    asked_explained a seen (explain of) (λ files h. h) (λ files h. h) (λ files h. h) (λ files h. h) (λ held. refl) (λ digest p tuple db q. TellsPlan p) (λ digest. TellsPlanOf of.way) (λ digest p tuple db q bytes plan resumed told. record { plan = p; is = plan; told = told }) (λ files bytes h. h) outcome
+    (reached seen a (λ digest p tuple db q. TellsPlan p) IsExplained (explain_goes_on a refl refl) outcome due)
 explained (check database civil) seen outcome due = record {
   files = two_files due.is.bytes [];
   told = λ held e. ap (λ (bytes : List ℕ). two_files bytes []) (due.is.told held e);
   is = check_read civil database seen outcome due.is.bytes due.first due.is.is due.next;
 }
-explained (watch database query edits cap) seen outcome due = watch_explained database query edits cap seen outcome due
+explained (watch database query edits cap way auto) seen outcome due = watch_explained database query edits cap way auto seen outcome due
 explained (sample seed size) seen outcome due = record {
   files = two_files [] [];
   told = λ held e. refl;

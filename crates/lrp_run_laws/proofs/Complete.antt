@@ -1,9 +1,9 @@
 -- A lawful task comes to its output, or to want of memory.
-use Rattle.std.proofs.Common.{◌≡◌, ◌⊎◌, inl, inr, ◌<◌, ◌≤◌, ◌^◌, ◌∙◌, ℕ, ℤ, Bool, true, false, List, length, refl, sym, ap, subst, Option, Some, None, Ok, arith}
+use Rattle.std.proofs.Common.{◌≡◌, ◌≢◌, ◌⊎◌, ◌||◌, inl, inr, ◌<◌, ◌≤◌, ◌^◌, ◌∙◌, ℕ, ℤ, Bool, true, false, List, length, refl, sym, ap, subst, Option, Some, None, Ok, arith}
 use Rattle.lrp_io.specs.Causes.{Rose}
 use Rattle.lrp_io.specs.declared.shelf.File.{File}
-use Rattle.lrp_words.specs.Commands.{Task}
-use Rattle.lrp_words.specs.Commands.Task.{ask, decide, list, explain, check, watch, sample}
+use Rattle.lrp_words.specs.Commands.{FilesAsked, Task}
+use Rattle.lrp_words.specs.Commands.Task.{ask, decide, list, count, ranges, explain, check, watch, sample}
 use Rattle.lrp_model.specs.Checked.{plain_question}
 use Rattle.lrp_model.specs.DatabaseReading.{IsDatabase, IsDatabaseFault}
 use Rattle.lrp_model.specs.Formulas.{Question}
@@ -26,13 +26,17 @@ use Rattle.lrp_edits.specs.EditReading.{IsEditsFault, SaysEdits}
 use Rattle.lrp_edits.specs.declared.edits.Edit.{Edit}
 use Rattle.lrp_kept.specs.KeptForm.{is_kept}
 use Rattle.lrp_token.specs.Reading.{IsNoToken, HasOtherCounts}
-use Rattle.lrp_run_laws.specs.Contents.{Contents, digest_of, Keeping, OverDatabase, OverEdits, OverQuery, Asking, SaysRelations, Watching, WhereKept, contents_of}
-use Rattle.lrp_run_laws.specs.Tasks.{IsAnswerable, IsLawfulTask, IsResumable, HasFewCells, PassesLimit}
+use Rattle.lrp_run_laws.specs.Contents.{Contents, digest_of, Keeping, OverDatabase, OverEdits, OverQuery, Asking, SaysRelations, Watching, WhereFit, contents_of}
+use Rattle.lrp_run_laws.specs.Tasks.{IsAnswerable, IsLawfulTask, IsResumable, IsTellable, HasFewCells, PassesLimit}
 use Rattle.lrp_run_laws.specs.Runs.{IsRunOf, IsComplete, EndsComplete, Run, task_asked, HaveStoodStill}
 use Rattle.lrp_run_laws.specs.Reasons.{HasManyRows, HasOtherHead, IsRefusedBehind, IsReason, HasReasonFor, HasTaskReason, AreNoEdits, IsNoDatabase, IsNoQuery, IsNoTokenOf, HasMany, IsAboveLimits, IsDatabaseRefused, IsQueryRefused, IsQueryAbove, HasFailedFile, HasFailedOneOf}
 use Rattle.lrp_top.specs.Resuming.{IsResumed, IsFresh, IsTokenOf, IsStale, shape_of}
 use Rattle.lrp_top.specs.Seen.{ShelfSeen, SinkSeen, HasFailed}
 use Rattle.lrp_top.specs.Written.{IsSortedAs, IsFaultyAs, plain_if}
+use Rattle.lrp_outputs.specs.declared.head.HeadNeed.{HeadNeed}
+use Rattle.lrp_outputs.specs.declared.head.HeadNeed.TheVariants as needs
+use Rattle.lrp_outputs.specs.declared.head.HeadNeed.TheVariants.{Canon}
+use Rattle.lrp_top.specs.Heads.{canon_need}
 use Rattle.lrp_outputs.specs.declared.status.Status.{Status}
 use Rattle.lrp_outputs.specs.declared.status.Status.TheVariants as status
 use Rattle.lrp_run_laws.proofs.Canonical.{OneRowCount}
@@ -113,15 +117,12 @@ module _ (one : OneToken) (digest : List ℕ) (head : List Column) (text : Text)
 -- ---- a task that asks a query
 
 -- where a page begins, and no step has too many cells; and where a canonical answer is asked for, its head has one time column and its rows are not too many
-pub record IsFree (way : Planning) (canon : Bool) (cap : Option ℕ) (after : Option Text) (digest : List ℕ) (db : List Relation) (q : Question) : Type 0 where
+pub record IsFree (way : Planning) (need : Option HeadNeed) (cap : Option ℕ) (after : Option Text) (digest : List ℕ) (db : List Relation) (q : Question) : Type 0 where
   pub tuple : Option Tuple
   pub resumed : IsResumed digest q.head after (Ok tuple)
   pub few : IsFew way cap db q
-  pub head : HasOtherHead canon q → ⊥
-  pub rows : canon ≡ true → HasManyRows cap db q → ⊥
-
-unasked : false ≡ true → ⊥
-unasked e = cc
+  pub head : HasOtherHead need q → ⊥
+  pub rows : need ≡ Some Canon → HasManyRows cap db q → ⊥
 
 -- it has no token that is refused
 no_token : OneToken → (digest : List ℕ) (after : Option Text) (db : List Relation) (q : Question) (tuple : Option Tuple) → IsResumed digest q.head after (Ok tuple) → IsNoTokenOf digest after db q → ⊥
@@ -136,8 +137,8 @@ no_token one digest (Some text) db q (Some tuple) resumed h = elim h [
 ]
 
 -- nor a head that is
-no_refused : OneToken → (way : Planning) (canon : Bool) (cap : Option ℕ) (digest : List ℕ) (after : Option Text) (db : List Relation) (q : Question) → IsFree way canon cap after digest db q → IsRefusedBehind canon digest after db q → ⊥
-no_refused one way canon cap digest after db q free h = elim h [
+no_refused : OneToken → (way : Planning) (need : Option HeadNeed) (cap : Option ℕ) (digest : List ℕ) (after : Option Text) (db : List Relation) (q : Question) → IsFree way need cap after digest db q → IsRefusedBehind need digest after db q → ⊥
+no_refused one way need cap digest after db q free h = elim h [
   | inl other ↦ free.head other
   | inr token ↦ no_token one digest after db q free.tuple free.resumed token
 ]
@@ -147,8 +148,8 @@ no_many : (way : Planning) (cap : Option ℕ) (db : List Relation) (q : Question
 no_many way None db q few h = h
 no_many way (Some cap) db q few h = few h.0 h.1.is
 
-no_above : (way : Planning) (canon : Bool) (cap : Option ℕ) (digest : List ℕ) (after : Option Text) (db : List Relation) (q : Question) → IsWithinLimits (plan_by way db q) db q → IsFree way canon cap after digest db q → IsAboveLimits way canon cap db q → ⊥
-no_above way canon cap digest after db q limits free h = elim h [
+no_above : (way : Planning) (need : Option HeadNeed) (cap : Option ℕ) (digest : List ℕ) (after : Option Text) (db : List Relation) (q : Question) → IsWithinLimits (plan_by way db q) db q → IsFree way need cap after digest db q → IsAboveLimits way need cap db q → ⊥
+no_above way need cap digest after db q limits free h = elim h [
   | inl above ↦ let within : period db q.body ≤ 2 ^ 62 = limits.period in omega arith
   | inr more ↦ elim more [
     | inl above ↦ let within : scaled_reach (plan_by way db q) q ≤ 2 ^ 62 = limits.reach in omega arith
@@ -162,18 +163,18 @@ no_above way canon cap digest after db q limits free h = elim h [
 pub no_longer : (n : ℕ) → n ≤ 16777216 → 16777216 < n → ⊥
 no_longer n short long = omega arith
 
-module _ (texts : DatabaseTexts) (way : Planning) (canon tense civil : Bool) (queries : QueryTexts tense) (one : OneToken) (files : Contents) (cap : Option ℕ) (after : Option Text) (free : Asking way tense civil files (IsFree way canon cap after (digest_of files))) where
-  same_database : (db : List Relation) → SaysRelations civil files db → db ≡ free.db
-  same_database db says = texts.one (plain_if civil files.database) db free.db says.is free.says.is
+module _ (texts : DatabaseTexts) (of : FilesAsked) (need : Option HeadNeed) (queries : QueryTexts of.tense) (one : OneToken) (files : Contents) (cap : Option ℕ) (after : Option Text) (free : Asking of files (IsFree of.way need cap after (digest_of files))) where
+  same_database : (db : List Relation) → SaysRelations of.civil files db → db ≡ free.db
+  same_database db says = texts.one (plain_if of.civil files.database) db free.db says.is free.says.is
 
-  pub database_stands : IsNoDatabase files civil → ⊥
+  pub database_stands : IsNoDatabase files of.civil → ⊥
   database_stands h = elim h [
     | inl long ↦ no_longer (length files.database) free.says.short long
-    | inr fault ↦ texts.faultless (plain_if civil files.database) free.db fault.0 free.says.is fault.1
+    | inr fault ↦ texts.faultless (plain_if of.civil files.database) free.db fault.0 free.says.is fault.1
   ]
 
   -- over the database that was read
-  query_here : IsNoQuery files tense free.db ⊎ OverQuery tense files (IsRefusedBehind canon (digest_of files) after) free.db → ⊥
+  query_here : IsNoQuery files of.tense free.db ⊎ OverQuery of.tense files (IsRefusedBehind need (digest_of files) after) free.db → ⊥
   query_here h = elim h [
     | inl none ↦ elim none [
       | inl long ↦ no_longer (length files.query) free.holds.says.short long
@@ -181,23 +182,23 @@ module _ (texts : DatabaseTexts) (way : Planning) (canon tense civil : Bool) (qu
     ]
     | inr over ↦
         let same : over.q ≡ free.holds.q = queries.one free.db files.query over.q free.holds.q over.says.is free.holds.says.is in
-        no_refused one way canon cap (digest_of files) after free.db free.holds.q free.holds.holds.holds (subst (λ q. IsRefusedBehind canon (digest_of files) after free.db q) same over.holds)
+        no_refused one of.way need cap (digest_of files) after free.db free.holds.q free.holds.holds.holds (subst (λ q. IsRefusedBehind need (digest_of files) after free.db q) same over.holds)
   ]
 
-  pub query_stands : OverDatabase civil files (λ db. IsNoQuery files tense db ⊎ OverQuery tense files (IsRefusedBehind canon (digest_of files) after) db) → ⊥
-  query_stands h = query_here (subst (λ db. IsNoQuery files tense db ⊎ OverQuery tense files (IsRefusedBehind canon (digest_of files) after) db) (same_database h.db h.says) h.holds)
+  pub query_stands : OverDatabase of.civil files (λ db. IsNoQuery files of.tense db ⊎ OverQuery of.tense files (IsRefusedBehind need (digest_of files) after) db) → ⊥
+  query_stands h = query_here (subst (λ db. IsNoQuery files of.tense db ⊎ OverQuery of.tense files (IsRefusedBehind need (digest_of files) after) db) (same_database h.db h.says) h.holds)
 
-  above_here : OverQuery tense files (IsAboveLimits way canon cap) free.db → ⊥
+  above_here : OverQuery of.tense files (IsAboveLimits of.way need cap) free.db → ⊥
   above_here over =
       let same : over.q ≡ free.holds.q = queries.one free.db files.query over.q free.holds.q over.says.is free.holds.says.is in
-      no_above way canon cap (digest_of files) after free.db free.holds.q free.holds.holds.limits free.holds.holds.holds (subst (λ q. IsAboveLimits way canon cap free.db q) same over.holds)
+      no_above of.way need cap (digest_of files) after free.db free.holds.q free.holds.holds.limits free.holds.holds.holds (subst (λ q. IsAboveLimits of.way need cap free.db q) same over.holds)
 
-  pub limits_stand : OverDatabase civil files (OverQuery tense files (IsAboveLimits way canon cap)) → ⊥
-  limits_stand h = above_here (subst (OverQuery tense files (IsAboveLimits way canon cap)) (same_database h.db h.says) h.holds)
+  pub limits_stand : OverDatabase of.civil files (OverQuery of.tense files (IsAboveLimits of.way need cap)) → ⊥
+  limits_stand h = above_here (subst (OverQuery of.tense files (IsAboveLimits of.way need cap)) (same_database h.db h.says) h.holds)
 
 -- ---- a watch
 
-module _ (texts : DatabaseTexts) (queries : QueryTexts false) (edits : EditTexts) (files : Contents) (cap : ℕ) (free : Watching files (λ db q these. PassesLimit cap db q these → ⊥)) where
+module _ (texts : DatabaseTexts) (queries : QueryTexts false) (edits : EditTexts) (files : Contents) (cap : ℕ) (way : Planning) (auto : Bool) (free : Watching auto files (λ db q these. PassesLimit way cap db q these → ⊥)) where
   abbrev q : Question
   q = free.holds.q
 
@@ -214,37 +215,37 @@ module _ (texts : DatabaseTexts) (queries : QueryTexts false) (edits : EditTexts
     | inr fault ↦ edits.faultless files.edits free.db free.holds.holds.holds.edits fault.0 free.holds.holds.holds.says.is fault.1
   ]
 
-  pub watch_database : IsNoDatabase files false ⊎ Keeping files (AreNoEdits files) → ⊥
+  pub watch_database : IsNoDatabase files false ⊎ Keeping auto files (AreNoEdits files) → ⊥
   watch_database h = elim h [
     | inl none ↦ elim none [
       | inl long ↦ no_longer (length files.database) free.says.short long
       | inr fault ↦ texts.faultless (plain_if false files.database) free.db fault.0 free.says.is fault.1
     ]
-    | inr over ↦ no_edits (here (WhereKept (AreNoEdits files)) over).holds
+    | inr over ↦ no_edits (here (WhereFit auto (AreNoEdits files)) over).holds
   ]
 
-  not_both : is_kept q ≡ true → is_kept q ≡ false → ⊥
+  not_both : (is_kept q || auto) ≡ true → (is_kept q || auto) ≡ false → ⊥
   not_both kept other = cc
 
-  query_of : IsNoQuery files false free.db ⊎ OverQuery false files (λ db q. is_kept q ≡ false) free.db → ⊥
+  query_of : IsNoQuery files false free.db ⊎ OverQuery false files (λ db q. (is_kept q || auto) ≡ false) free.db → ⊥
   query_of h = elim h [
     | inl none ↦ elim none [
       | inl long ↦ no_longer (length files.query) free.holds.says.short long
       | inr fault ↦ queries.faultless free.db files.query q fault.0 free.holds.says.is fault.1
     ]
-    | inr over ↦ not_both free.holds.holds.kept (subst (λ r. is_kept r ≡ false) (queries.one free.db files.query over.q q over.says.is free.holds.says.is) over.holds)
+    | inr over ↦ not_both free.holds.holds.fit (subst (λ r. (is_kept r || auto) ≡ false) (queries.one free.db files.query over.q q over.says.is free.holds.says.is) over.holds)
   ]
 
-  pub watch_query : OverDatabase false files (λ db. IsNoQuery files false db ⊎ OverQuery false files (λ db q. is_kept q ≡ false) db) → ⊥
+  pub watch_query : OverDatabase false files (λ db. IsNoQuery files false db ⊎ OverQuery false files (λ db q. (is_kept q || auto) ≡ false) db) → ⊥
   watch_query h =
       let db : h.db ≡ free.db = texts.one (plain_if false files.database) h.db free.db h.says.is free.says.is in
-      query_of (subst (λ db. IsNoQuery files false db ⊎ OverQuery false files (λ db q. is_kept q ≡ false) db) db h.holds)
+      query_of (subst (λ db. IsNoQuery files false db ⊎ OverQuery false files (λ db q. (is_kept q || auto) ≡ false) db) db h.holds)
 
-  pub watch_limits : Watching files (PassesLimit cap) → ⊥
+  pub watch_limits : Watching auto files (PassesLimit way cap) → ⊥
   watch_limits h =
-      let over : OverEdits files (PassesLimit cap) free.db q = (here (WhereKept (OverEdits files (PassesLimit cap))) h).holds in
+      let over : OverEdits files (PassesLimit way cap) free.db q = (here (WhereFit auto (OverEdits files (PassesLimit way cap))) h).holds in
       let same : over.edits ≡ free.holds.holds.holds.edits = edits.one files.edits free.db over.edits free.holds.holds.holds.edits over.says.is free.holds.holds.holds.says.is in
-      free.holds.holds.holds.holds (subst (PassesLimit cap free.db q) same over.holds)
+      free.holds.holds.holds.holds (subst (PassesLimit way cap free.db q) same over.holds)
 
 -- ---- a run
 
@@ -259,18 +260,25 @@ module _ (task : Task) (files : Contents) (seen : ShelfSeen) (taken : SinkSeen) 
   comes_so status.Write is = no_rise is
   comes_so status.Memory is = is
 
--- where no canonical answer is asked for, no more is needed than where a page begins and few cells
-free_plain : (way : Planning) (cap : Option ℕ) (after : Option Text) (digest : List ℕ) (db : List Relation) (q : Question) (tuple : Option Tuple) → IsResumed digest q.head after (Ok tuple) → IsFew way cap db q → IsFree way false cap after digest db q
-free_plain way cap after digest db q tuple resumed few = record { tuple = tuple; resumed = resumed; few = few; head = λ other. unasked other.0; rows = λ asked. absurd (unasked asked) }
+-- what is free where nothing is needed of the head
+free_plain : (way : Planning) (cap : Option ℕ) (after : Option Text) (digest : List ℕ) (db : List Relation) (q : Question) (tuple : Option Tuple) → IsResumed digest q.head after (Ok tuple) → IsFew way cap db q → IsFree way None cap after digest db q
+free_plain way cap after digest db q tuple resumed few = record { tuple = tuple; resumed = resumed; few = few; head = λ other. other; rows = λ e. absurd (none_needed e) }
+  where
+    none_needed : ◌≡◌ {A = Option HeadNeed} None (Some Canon) → ⊥
+    none_needed e = cc
+
+-- and where the head has what is needed, which is no canonical answer
+free_met : (need : HeadNeed) (way : Planning) (cap : ℕ) (digest : List ℕ) → (Some need ≡ Some Canon → ⊥) → (db : List Relation) (q : Question) → IsTellable need way cap db q → IsFree way (Some need) (Some cap) None digest db q
+free_met need way cap digest other db q h = record { tuple = None; resumed = refl; few = h.few; head = λ unmet. unmet h.head; rows = λ e. absurd (other e) }
 
 -- an answer has one number of rows, so where they are few they are not many
-free_answer : OneRowCount → (way : Planning) (canon : Bool) (cap : ℕ) (digest : List ℕ) (db : List Relation) (q : Question) → IsAnswerable way canon cap db q → IsFree way canon (Some cap) None digest db q
+free_answer : OneRowCount → (way : Planning) (canon : Bool) (cap : ℕ) (digest : List ℕ) (db : List Relation) (q : Question) → IsAnswerable way canon cap db q → IsFree way (canon_need canon) (Some cap) None digest db q
 free_answer one way false cap digest db q few = free_plain way (Some cap) None digest db q None refl few
 free_answer one way true cap digest db q h = record {
   tuple = None;
   resumed = refl;
   few = h.0;
-  head = λ other. other.1 h.1;
+  head = λ other. other h.1;
   rows = λ asked many. not_more h.2.0 many.0 cap (one db q h.2.0 many.0 h.2.1 many.1) h.2.2 many.2;
 }
   where
@@ -278,12 +286,15 @@ free_answer one way true cap digest db q h = record {
     not_more n m cap same few many = omega arith
 
 -- what holds of the query of a task
-asking : (way : Planning) (tense civil : Bool) (files : Contents) (Holds Keeps : List Relation → Question → Type 0) → ((db : List Relation) (q : Question) → Holds db q → Keeps db q) → Asking way tense civil files Holds → Asking way tense civil files Keeps
-asking way tense civil files Holds Keeps keep h = record {
+asking : (of : FilesAsked) (files : Contents) (Holds Keeps : List Relation → Question → Type 0) → ((db : List Relation) (q : Question) → Holds db q → Keeps db q) → Asking of files Holds → Asking of files Keeps
+asking of files Holds Keeps keep h = record {
   db = h.db;
   says = h.says;
   holds = record { q = h.holds.q; says = h.holds.says; holds = record { limits = h.holds.holds.limits; holds = keep h.db h.holds.q h.holds.holds.holds } };
 }
+
+no_canon : (need : HeadNeed) → need ≢ Canon → Some need ≡ Some Canon → ⊥
+no_canon need other e = let same : need ≡ Canon = cc in other same
 
 module _ (texts : DatabaseTexts) (queries : (tense : Bool) → QueryTexts tense) (edits : EditTexts) (one : OneToken) (rows : OneRowCount) (files : Contents) (run : Run) where
   -- neither file failed
@@ -291,31 +302,37 @@ module _ (texts : DatabaseTexts) (queries : (tense : Bool) → QueryTexts tense)
   none_failed first second (inl failed) = first failed
   none_failed first second (inr over) = second over.holds
 
-  asked_so : (task : Task) (way : Planning) (canon tense civil : Bool) (cap : Option ℕ) (after : Option Text) → Asking way tense civil files (IsFree way canon cap after (digest_of files)) → HaveStoodStill task run
-      → (HasFailedFile run.seen files task → ⊥) → (IsDatabaseRefused files task → IsNoDatabase files civil) → (IsQueryRefused files task → OverDatabase civil files (λ db. IsNoQuery files tense db ⊎ OverQuery tense files (IsRefusedBehind canon (digest_of files) after) db))
-      → (IsQueryAbove files task → OverDatabase civil files (OverQuery tense files (IsAboveLimits way canon cap)))
+  asked_so : (task : Task) (of : FilesAsked) (need : Option HeadNeed) (cap : Option ℕ) (after : Option Text) → Asking of files (IsFree of.way need cap after (digest_of files)) → HaveStoodStill task run
+      → (HasFailedFile run.seen files task → ⊥) → (IsDatabaseRefused files task → IsNoDatabase files of.civil) → (IsQueryRefused files task → OverDatabase of.civil files (λ db. IsNoQuery files of.tense db ⊎ OverQuery of.tense files (IsRefusedBehind need (digest_of files) after) db))
+      → (IsQueryAbove files task → OverDatabase of.civil files (OverQuery of.tense files (IsAboveLimits of.way need cap)))
       → (ended : Status) → IsReason ended task files run.seen run.taken → EndsComplete ended task files run.taken
-  asked_so task way canon tense civil cap after free still failed database query above =
+  asked_so task of need cap after free still failed database query above =
       comes_so task files run.seen run.taken
-      (λ h. database_stands texts way canon tense civil (queries tense) one files cap after free (database h))
-      (λ h. query_stands texts way canon tense civil (queries tense) one files cap after free (query h))
-      (λ h. limits_stand texts way canon tense civil (queries tense) one files cap after free (above h))
+      (λ h. database_stands texts of need (queries of.tense) one files cap after free (database h))
+      (λ h. query_stands texts of need (queries of.tense) one files cap after free (query h))
+      (λ h. limits_stand texts of need (queries of.tense) one files cap after free (above h))
       failed still.sink
 
   -- a run of a lawful task whose counts stood still is complete
   pub complete : (task : Task) → IsLawfulTask task files → HaveStoodStill task run → (ended : Status) → IsReason ended task files run.seen run.taken → EndsComplete ended task files run.taken
-  complete (ask database query cap way tense canon civil) lawful still =
-      let free = asking way tense civil files (IsAnswerable way canon cap) (IsFree way canon (Some cap) None (digest_of files)) (free_answer rows way canon cap (digest_of files)) lawful in
-      asked_so (ask database query cap way tense canon civil) way canon tense civil (Some cap) None free still (none_failed still.files.0 still.files.1.0) (λ h. h) (λ h. h) (λ h. h)
-  complete (decide database query cap way tense civil) lawful still =
-      let free = asking way tense civil files (HasFewCells way cap) (IsFree way false (Some cap) None (digest_of files)) (λ db q few. free_plain way (Some cap) None (digest_of files) db q None refl few) lawful in
-      asked_so (decide database query cap way tense civil) way false tense civil (Some cap) None free still (none_failed still.files.0 still.files.1.0) (λ h. h) (λ h. h) (λ h. h)
-  complete (list database query from to limit after json cap way tense civil) lawful still =
-      let free = asking way tense civil files (IsResumable way cap after (digest_of files)) (IsFree way false (Some cap) after (digest_of files)) (λ db q h. free_plain way (Some cap) after (digest_of files) db q h.tuple h.resumed h.few) lawful in
-      asked_so (list database query from to limit after json cap way tense civil) way false tense civil (Some cap) after free still (none_failed still.files.0 still.files.1.0) (λ h. h) (λ h. h) (λ h. h)
-  complete (explain database query way tense civil) lawful still =
-      let free = asking way tense civil files (λ db q. Unit {0}) (IsFree way false None None (digest_of files)) (λ db q h. free_plain way None None (digest_of files) db q None refl tt) lawful in
-      asked_so (explain database query way tense civil) way false tense civil None None free still (none_failed still.files.0 still.files.1.0) (λ h. h) (λ h. h) (λ h. h)
+  complete (ask of cap canon) lawful still =
+      let free = asking of files (IsAnswerable of.way canon cap) (IsFree of.way (canon_need canon) (Some cap) None (digest_of files)) (free_answer rows of.way canon cap (digest_of files)) lawful in
+      asked_so (ask of cap canon) of (canon_need canon) (Some cap) None free still (none_failed still.files.0 still.files.1.0) (λ h. h) (λ h. h) (λ h. h)
+  complete (decide of cap dates) lawful still =
+      let free = asking of files (HasFewCells of.way cap) (IsFree of.way None (Some cap) None (digest_of files)) (λ db q few. free_plain of.way (Some cap) None (digest_of files) db q None refl few) lawful in
+      asked_so (decide of cap dates) of None (Some cap) None free still (none_failed still.files.0 still.files.1.0) (λ h. h) (λ h. h) (λ h. h)
+  complete (list of from to limit after json cap) lawful still =
+      let free = asking of files (IsResumable of.way cap after (digest_of files)) (IsFree of.way None (Some cap) after (digest_of files)) (λ db q h. free_plain of.way (Some cap) after (digest_of files) db q h.tuple h.resumed h.few) lawful in
+      asked_so (list of from to limit after json cap) of None (Some cap) after free still (none_failed still.files.0 still.files.1.0) (λ h. h) (λ h. h) (λ h. h)
+  complete (count of from to cap) lawful still =
+      let free = asking of files (IsTellable needs.Count of.way cap) (IsFree of.way (Some needs.Count) (Some cap) None (digest_of files)) (free_met needs.Count of.way cap (digest_of files) (no_canon needs.Count (λ e. cc))) lawful in
+      asked_so (count of from to cap) of (Some needs.Count) (Some cap) None free still (none_failed still.files.0 still.files.1.0) (λ h. h) (λ h. h) (λ h. h)
+  complete (ranges of from to limit json cap) lawful still =
+      let free = asking of files (IsTellable needs.Ranges of.way cap) (IsFree of.way (Some needs.Ranges) (Some cap) None (digest_of files)) (free_met needs.Ranges of.way cap (digest_of files) (no_canon needs.Ranges (λ e. cc))) lawful in
+      asked_so (ranges of from to limit json cap) of (Some needs.Ranges) (Some cap) None free still (none_failed still.files.0 still.files.1.0) (λ h. h) (λ h. h) (λ h. h)
+  complete (explain of) lawful still =
+      let free = asking of files (λ db q. Unit {0}) (IsFree of.way None None None (digest_of files)) (λ db q h. free_plain of.way None None (digest_of files) db q None refl tt) lawful in
+      asked_so (explain of) of None None None free still (none_failed still.files.0 still.files.1.0) (λ h. h) (λ h. h) (λ h. h)
   complete (check database civil) lawful still =
       comes_so (check database civil) files run.seen run.taken
       (λ h. elim h [
@@ -323,9 +340,9 @@ module _ (texts : DatabaseTexts) (queries : (tense : Bool) → QueryTexts tense)
         | inr fault ↦ texts.faultless (plain_if civil files.database) lawful.db fault.0 lawful.says.is fault.1
       ]) (λ h. h) (λ h. h)
       (λ h. still.files.0 h) still.sink
-  complete (watch database query changes cap) lawful still =
-      comes_so (watch database query changes cap) files run.seen run.taken
-      (watch_database texts (queries false) edits files cap lawful) (watch_query texts (queries false) edits files cap lawful) (watch_limits texts (queries false) edits files cap lawful)
+  complete (watch database query changes cap way auto) lawful still =
+      comes_so (watch database query changes cap way auto) files run.seen run.taken
+      (watch_database texts (queries false) edits files cap way auto lawful) (watch_query texts (queries false) edits files cap way auto lawful) (watch_limits texts (queries false) edits files cap way auto lawful)
       (λ failed. elim failed [
         | inl first ↦ none_failed still.files.0 still.files.1.0 first
         | inr over ↦ still.files.1.1.0 over.holds.holds.holds

@@ -8,7 +8,7 @@ use Rattle.lrp_run_laws.specs.Reasons.{IsReason}
 use Rattle.lrp_outputs.specs.Outcomes.{Outcome, refused_with, line_of}
 use Rattle.lrp_top.specs.Seen.{ShelfSeen, SinkSeen}
 use Rattle.lrp_outputs.specs.declared.refusal.Refusal.{Refusal}
-use Rattle.lrp_outputs.specs.declared.refusal.Refusal.TheVariants.{Usage, ReadDatabase, LongDatabase, Database, ReadQuery, LongQuery, Query, PeriodLimit, BoundLimit, TokenForm, TokenShape, TokenStale, Cells, CanonHead, CanonRows, Watch, Memory}
+use Rattle.lrp_outputs.specs.declared.refusal.Refusal.TheVariants.{Usage, ReadDatabase, LongDatabase, Database, ReadQuery, LongQuery, Query, PeriodLimit, BoundLimit, TokenForm, TokenShape, TokenStale, Cells, Head, CanonRows, Watch, Memory}
 use Rattle.lrp_outputs.specs.declared.watch_refusal.WatchRefusal.TheVariants as watch
 use Rattle.lrp_outputs.specs.declared.status.Status.TheVariants as status
 
@@ -28,7 +28,7 @@ is_memory TokenForm e = cc
 is_memory TokenShape e = cc
 is_memory TokenStale e = cc
 is_memory (Cells most step) e = cc
-is_memory CanonHead e = cc
+is_memory (Head need) e = cc
 is_memory (CanonRows most) e = cc
 is_memory (Watch watch.NotKept) e = cc
 is_memory (Watch watch.Read) e = cc

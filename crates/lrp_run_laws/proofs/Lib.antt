@@ -11,3 +11,4 @@ mod One
 mod Digest
 mod Follow
 mod Told
+mod Adding

@@ -1,9 +1,9 @@
 -- Two runs of one task over the same bytes end alike: the tasks, and the runs.
-use Rattle.std.proofs.Common.{◌≡◌, ◌≢◌, inl, inr, ◌≤◌, ◌∙◌, ℕ, Bool, true, false, List, length, refl, sym, ap, subst, Option, Some, Result, Ok, Err}
+use Rattle.std.proofs.Common.{◌≡◌, ◌≢◌, inl, inr, ◌≤◌, ◌∙◌, ℕ, Bool, true, false, List, length, refl, sym, ap, subst, Option, Some, None, Result, Ok, Err}
 use Rattle.lrp_io.specs.Files.{content_of}
 use Rattle.lrp_io.specs.declared.shelf.File.{File}
-use Rattle.lrp_words.specs.Commands.{Task}
-use Rattle.lrp_words.specs.Commands.Task.{ask, decide, list, explain, check, watch, sample}
+use Rattle.lrp_words.specs.Commands.{FilesAsked, Task}
+use Rattle.lrp_words.specs.Commands.Task.{ask, decide, list, count as count_task, ranges as ranges_task, explain, check, watch, sample}
 use Rattle.lrp_model.specs.AnswerTexts.{IsAnswerText}
 use Rattle.lrp_model.specs.Formulas.{Question}
 use Rattle.lrp_model.specs.Rows.{Tuple}
@@ -13,6 +13,7 @@ use Rattle.lrp_model.specs.declared.plans.Plan.{Plan}
 use Rattle.lrp_model.specs.declared.plans.Planning.{Planning}
 use Rattle.lrp_plan_laws.specs.GuardedPlans.{plan_by}
 use Rattle.lrp_model.specs.declared.relations.Relation.{Relation}
+use Rattle.lrp_kept.specs.KeptForm.{is_kept}
 use Rattle.lrp_token.specs.Files.{files_digest}
 use Rattle.lrp_model.specs.Printed.{database_bytes}
 use Rattle.lrp_model.specs.QueryReading.{IsQuery, IsQueryFault}
@@ -23,7 +24,7 @@ use Rattle.lrp_tense.specs.Expanding.{expanded_question}
 use Rattle.lrp_tense.specs.TenseReading.{IsTenseQuery, IsTenseQueryFault}
 use Rattle.lrp_tense.specs.Trees.{TenseQuestion}
 use Rattle.lrp_top.specs.Canonical.{IsCanonicalText}
-use Rattle.lrp_top.specs.Due.{IsDueOf, IsDueFor, IsDatabaseRead, IsQueryRead, IsPlanned, IsPlannedAs, IsCounted, AreRowsCounted, IsOutput, IsAnswered, IsDecided, IsExplained, IsListed, IsPlannedFor, IsWatchedFor}
+use Rattle.lrp_top.specs.Due.{IsDueOf, IsDueFor, IsDatabaseRead, IsQueryRead, IsPlanned, IsPlannedAs, IsCounted, AreRowsCounted, IsOutput, IsAnswered, IsDecided, IsExplained, IsListed, IsNumberTold, IsPlannedFor, IsRanged, IsWatchedFor}
 use Rattle.lrp_run_laws.specs.Contents.{Contents, contents_at, contents_of, SaysRelations, SaysQuestion}
 use Rattle.lrp_run_laws.specs.Runs.{IsRunOf, Run, task_asked}
 use Rattle.lrp_run_laws.specs.Pairs.{AreOneOutput, AreOneText, EndedAlike, IsDecidedByFiles}
@@ -34,20 +35,23 @@ use Rattle.lrp_top.specs.Sampled.{TellsSample}
 use Rattle.lrp_top.specs.Seen.{ShelfSeen, AreBytesOf}
 use Rattle.lrp_top.specs.Sources.{Source}
 use Rattle.lrp_top.specs.Steps.{Behind, Then}
-use Rattle.lrp_top.specs.Telling.{TellsPage, TellsPlan, TellsRelations, TellsWitness}
+use Rattle.lrp_top.specs.Telling.{TellsNumber, TellsPage, TellsPlan, TellsRanges, TellsRelations, TellsWitness}
 use Rattle.lrp_model.specs.DatabaseReading.{IsDatabase}
-use Rattle.lrp_top.specs.Watched.{AreEditsRead, IsKeptForm, IsWatched}
+use Rattle.lrp_top.specs.Watched.{AreEditsRead, IsFormFit, IsWatched}
 use Rattle.lrp_top.specs.Written.{IsSortedAs, plain_if}
+use Rattle.lrp_outputs.specs.declared.head.HeadNeed.{HeadNeed}
+use Rattle.lrp_outputs.specs.declared.head.HeadNeed.TheVariants as needs
+use Rattle.lrp_outputs.specs.declared.head.HeadNeed.TheVariants.{Canon}
 use Rattle.lrp_outputs.specs.declared.refusal.Refusal.{Refusal}
-use Rattle.lrp_outputs.specs.declared.refusal.Refusal.TheVariants.{Usage, ReadDatabase, LongDatabase, Database, ReadQuery, LongQuery, Query, PeriodLimit, BoundLimit, TokenForm, TokenShape, TokenStale, Cells, CanonHead, CanonRows, Watch, Memory}
+use Rattle.lrp_outputs.specs.declared.refusal.Refusal.TheVariants.{Usage, ReadDatabase, LongDatabase, Database, ReadQuery, LongQuery, Query, PeriodLimit, BoundLimit, TokenForm, TokenShape, TokenStale, Cells, Head, CanonRows, Watch, Memory}
 use Rattle.lrp_outputs.specs.declared.watch_refusal.WatchRefusal.TheVariants as refusal
 use Rattle.lrp_outputs.specs.declared.status.Status.{Status}
 use Rattle.lrp_outputs.specs.declared.status.Status.TheVariants as status
 use Rattle.lrp_run_laws.proofs.Agree.{Lasting, Agree, then_agree, SameText, Counted, OneDatabaseFault, OneQueryFault, database_agree, query_agree, planned_agree, cells_agree, rows_agree, resumed_agree, output_agree}
-use Rattle.lrp_run_laws.proofs.Alike.{OneRank, WholeTuples, OnePage, OneCells, OneCount, one_witness, one_listing, one_sample}
+use Rattle.lrp_run_laws.proofs.Alike.{OneRank, WholeTuples, OnePage, OneCells, OneCount, OneSize, OneListOfRanges, one_number, one_ranges, one_witness, one_listing, one_sample}
 use Rattle.lrp_run_laws.proofs.Canonical.{OneAnswerText, OneRowCount, one_canonical, own_answers}
 use Rattle.lrp_run_laws.proofs.Complete.{DatabaseTexts, EditTexts, QueryTexts, OneToken}
-use Rattle.lrp_run_laws.proofs.Watches.{OneEditsFault, edits_agree, kept_agree, watched_agree}
+use Rattle.lrp_run_laws.proofs.Watches.{OneEditsFault, edits_agree, form_fit_agree, watched_agree}
 
 -- what is known of texts, tokens, pages and counts
 pub record Known : Type 0 where
@@ -63,6 +67,8 @@ pub record Known : Type 0 where
   pub tuples : WholeTuples
   pub cells : OneCells
   pub count : OneCount
+  pub size : OneSize
+  pub ranges : OneListOfRanges
   pub rows : OneRowCount
   pub text : OneAnswerText
 
@@ -105,55 +111,55 @@ ReadsOnly seen name bytes = (read : List ℕ) → AreBytesOf seen name read → 
 -- ---- a task that asks a query
 
 -- a query that is planned is within the limits
-planned_within : (way : Planning) (canon : Bool) (db : List Relation) (q : Question) (p : Plan) → IsPlannedAs way canon db q (Ok p) → IsWithinLimits (plan_by way db q) db q
-planned_within way canon db q p h = within h.first h.next
+planned_within : (way : Planning) (need : Option HeadNeed) (db : List Relation) (q : Question) (p : Plan) → IsPlannedAs way need db q (Ok p) → IsWithinLimits (plan_by way db q) db q
+planned_within way need db q p h = within h.first h.next
   where
     within : (first : Result (Unit {0}) Refusal) → Behind first (λ fit. IsPlanned way db q) (Ok p) → IsWithinLimits (plan_by way db q) db q
     within (Ok fit) next = next.1
     within (Err refusal) next = cc
 
-module _ (known : Known) (way : Planning) (canon tense civil : Bool) (files : Contents) (seen further : ShelfSeen) (database query : Identifier)
-    (first : ReadsOnly seen database files.database) (second : ReadsOnly further database files.database) (third : ReadsOnly seen query files.query) (fourth : ReadsOnly further query files.query)
+module _ (known : Known) (of : FilesAsked) (need : Option HeadNeed) (files : Contents) (seen further : ShelfSeen)
+    (first : ReadsOnly seen of.database files.database) (second : ReadsOnly further of.database files.database) (third : ReadsOnly seen of.query files.query) (fourth : ReadsOnly further of.query files.query)
     (S : List ℕ → List ℕ → Type 0) (Next Later : Source (List Relation) → Source Question → Plan → Outcome → Type 0) where
   -- what is due behind two plans agrees
   abbrev Finish : Type 0
-  Finish = (d : Source (List Relation)) (q : Source Question) → d.bytes ≡ files.database → q.bytes ≡ files.query → SaysRelations civil files d.says → SaysQuestion tense files d.says q.says → IsWithinLimits (plan_by way d.says q.says) d.says q.says
+  Finish = (d : Source (List Relation)) (q : Source Question) → d.bytes ≡ files.database → q.bytes ≡ files.query → SaysRelations of.civil files d.says → SaysQuestion of.tense files d.says q.says → IsWithinLimits (plan_by of.way d.says q.says) d.says q.says
       → (p r : Plan) → SameText p r → (o v : Outcome) → Next d q p o → Later d q r v → Lasting o → Lasting v → Agree S o v
 
   module _ (finish : Finish) where
     abbrev Planned : Source (List Relation) → Source Question → Outcome → Type 0
-    Planned d q = Then (IsPlannedAs way canon d.says q.says) (Next d q)
+    Planned d q = Then (IsPlannedAs of.way need d.says q.says) (Next d q)
 
     abbrev Replanned : Source (List Relation) → Source Question → Outcome → Type 0
-    Replanned d q = Then (IsPlannedAs way canon d.says q.says) (Later d q)
+    Replanned d q = Then (IsPlannedAs of.way need d.says q.says) (Later d q)
 
-    behind_query : (d : Source (List Relation)) (q : Source Question) → d.bytes ≡ files.database → q.bytes ≡ files.query → SaysRelations civil files d.says → SaysQuestion tense files d.says q.says
+    behind_query : (d : Source (List Relation)) (q : Source Question) → d.bytes ≡ files.database → q.bytes ≡ files.query → SaysRelations of.civil files d.says → SaysQuestion of.tense files d.says q.says
         → (o v : Outcome) → Planned d q o → Replanned d q v → Lasting o → Lasting v → Agree S o v
-    behind_query d q db qb says said = then_agree (IsPlannedAs way canon d.says q.says) (IsPlannedAs way canon d.says q.says) (Next d q) (Later d q) SameText S
-        (planned_agree way canon d.says q.says)
-        (λ p r i j same. finish d q db qb says said (planned_within way canon d.says q.says p i) p r same)
+    behind_query d q db qb says said = then_agree (IsPlannedAs of.way need d.says q.says) (IsPlannedAs of.way need d.says q.says) (Next d q) (Later d q) SameText S
+        (planned_agree of.way need d.says q.says)
+        (λ p r i j same. finish d q db qb says said (planned_within of.way need d.says q.says p i) p r same)
 
-    queried : (d : Source (List Relation)) (q e : Source Question) → d.bytes ≡ files.database → SaysRelations civil files d.says → IsQueryRead tense d.says seen query (Ok q) → q ≡ e
+    queried : (d : Source (List Relation)) (q e : Source Question) → d.bytes ≡ files.database → SaysRelations of.civil files d.says → IsQueryRead of.tense d.says seen of.query (Ok q) → q ≡ e
         → (o v : Outcome) → Planned d q o → Replanned d e v → Lasting o → Lasting v → Agree S o v
     queried d q e db says i same o v n m lo lv =
-        let is = subst (λ (b : List ℕ). (q.bytes ≡ b) × (length b ≤ 16777216) × IsSortedAs tense d.says b q.says) (third i.bytes i.told) i.is in
+        let is = subst (λ (b : List ℕ). (q.bytes ≡ b) × (length b ≤ 16777216) × IsSortedAs of.tense d.says b q.says) (third i.bytes i.told) i.is in
         behind_query d q db is.0 says (record { short = is.1; is = is.2 }) o v n (subst (λ x. Replanned d x v) (sym same) m) lo lv
 
-    behind_database : (d : Source (List Relation)) → d.bytes ≡ files.database → SaysRelations civil files d.says
-        → (o v : Outcome) → Then (IsQueryRead tense d.says seen query) (Planned d) o → Then (IsQueryRead tense d.says further query) (Replanned d) v → Lasting o → Lasting v → Agree S o v
-    behind_database d db says = then_agree (IsQueryRead tense d.says seen query) (IsQueryRead tense d.says further query) (Planned d) (Replanned d) (λ q e. q ≡ e) S
-        (query_agree tense (known.queries tense) (known.query_fault tense) d.says files.query seen further query third fourth)
+    behind_database : (d : Source (List Relation)) → d.bytes ≡ files.database → SaysRelations of.civil files d.says
+        → (o v : Outcome) → Then (IsQueryRead of.tense d.says seen of.query) (Planned d) o → Then (IsQueryRead of.tense d.says further of.query) (Replanned d) v → Lasting o → Lasting v → Agree S o v
+    behind_database d db says = then_agree (IsQueryRead of.tense d.says seen of.query) (IsQueryRead of.tense d.says further of.query) (Planned d) (Replanned d) (λ q e. q ≡ e) S
+        (query_agree of.tense (known.queries of.tense) (known.query_fault of.tense) d.says files.query seen further of.query third fourth)
         (λ q e i j same. queried d q e db says i same)
 
-    databased : (d e : Source (List Relation)) → IsDatabaseRead civil seen database (Ok d) → d ≡ e
-        → (o v : Outcome) → Then (IsQueryRead tense d.says seen query) (Planned d) o → Then (IsQueryRead tense e.says further query) (Replanned e) v → Lasting o → Lasting v → Agree S o v
+    databased : (d e : Source (List Relation)) → IsDatabaseRead of.civil seen of.database (Ok d) → d ≡ e
+        → (o v : Outcome) → Then (IsQueryRead of.tense d.says seen of.query) (Planned d) o → Then (IsQueryRead of.tense e.says further of.query) (Replanned e) v → Lasting o → Lasting v → Agree S o v
     databased d e i same o v n m lo lv =
-        let is = subst (λ (b : List ℕ). (d.bytes ≡ b) × (length b ≤ 16777216) × IsDatabase (plain_if civil b) d.says) (first i.bytes i.told) i.is in
-        behind_database d is.0 (record { short = is.1; is = is.2 }) o v n (subst (λ (x : Source (List Relation)). Then (IsQueryRead tense x.says further query) (Replanned x) v) (sym same) m) lo lv
+        let is = subst (λ (b : List ℕ). (d.bytes ≡ b) × (length b ≤ 16777216) × IsDatabase (plain_if of.civil b) d.says) (first i.bytes i.told) i.is in
+        behind_database d is.0 (record { short = is.1; is = is.2 }) o v n (subst (λ (x : Source (List Relation)). Then (IsQueryRead of.tense x.says further of.query) (Replanned x) v) (sym same) m) lo lv
 
-    pub asked_agree : (o v : Outcome) → IsPlannedFor way canon tense civil seen database query Next o → IsPlannedFor way canon tense civil further database query Later v → Lasting o → Lasting v → Agree S o v
-    asked_agree = then_agree (IsDatabaseRead civil seen database) (IsDatabaseRead civil further database) (λ d. Then (IsQueryRead tense d.says seen query) (Planned d)) (λ d. Then (IsQueryRead tense d.says further query) (Replanned d)) (λ d e. d ≡ e) S
-        (database_agree known.databases known.database_fault civil files.database seen further database first second)
+    pub asked_agree : (o v : Outcome) → IsPlannedFor of need seen Next o → IsPlannedFor of need further Later v → Lasting o → Lasting v → Agree S o v
+    asked_agree = then_agree (IsDatabaseRead of.civil seen of.database) (IsDatabaseRead of.civil further of.database) (λ d. Then (IsQueryRead of.tense d.says seen of.query) (Planned d)) (λ d. Then (IsQueryRead of.tense d.says further of.query) (Replanned d)) (λ d e. d ≡ e) S
+        (database_agree known.databases known.database_fault of.civil files.database seen further of.database first second)
         (λ d e i j same. databased d e i same)
 
 -- ---- what is due behind the plan
@@ -183,26 +189,26 @@ listed_agree known way digest db q after cap Tells same =
 
 -- ---- a watch
 
-module _ (known : Known) (files : Contents) (seen further : ShelfSeen) (database query edits : Identifier) (cap : ℕ)
+module _ (known : Known) (files : Contents) (seen further : ShelfSeen) (database query edits : Identifier) (cap : ℕ) (way : Planning) (auto : Bool)
     (first : ReadsOnly seen database files.database) (second : ReadsOnly further database files.database) (third : ReadsOnly seen query files.query) (fourth : ReadsOnly further query files.query)
     (fifth : ReadsOnly seen edits files.edits) (sixth : ReadsOnly further edits files.edits) where
   abbrev Same : List ℕ → List ℕ → Type 0
   Same a b = a ≡ b
 
   abbrev AfterForm : ShelfSeen → List Relation → Question → Outcome → Type 0
-  AfterForm of db q = Then (AreEditsRead db of edits) (IsWatched db q cap)
+  AfterForm of db q = Then (AreEditsRead db of edits) (IsWatched (is_kept q) way db q cap)
 
   abbrev AfterQuery : ShelfSeen → List Relation → Source Question → Outcome → Type 0
-  AfterQuery of db q = Then (IsKeptForm q.says) (λ kept. AfterForm of db q.says)
+  AfterQuery of db q = Then (IsFormFit auto q.says) (λ kept. AfterForm of db q.says)
 
   form_agree : (db : List Relation) (q : Question) (o v : Outcome) → AfterForm seen db q o → AfterForm further db q v → Lasting o → Lasting v → Agree Same o v
-  form_agree db q = then_agree (AreEditsRead db seen edits) (AreEditsRead db further edits) (IsWatched db q cap) (IsWatched db q cap) (λ d e. d ≡ e) Same
+  form_agree db q = then_agree (AreEditsRead db seen edits) (AreEditsRead db further edits) (IsWatched (is_kept q) way db q cap) (IsWatched (is_kept q) way db q cap) (λ d e. d ≡ e) Same
       (edits_agree known.edits known.edits_fault db files.edits seen further edits fifth sixth)
-      (λ d e i j same o v n m. watched_agree known.rank known.tuples db q d cap o v n (subst (λ es. IsWatched db q cap es v) (sym same) m))
+      (λ d e i j same o v n m. watched_agree known.rank known.tuples (is_kept q) way db q d cap o v n (subst (λ es. IsWatched (is_kept q) way db q cap es v) (sym same) m))
 
   query_done : (db : List Relation) (q : Source Question) (o v : Outcome) → AfterQuery seen db q o → AfterQuery further db q v → Lasting o → Lasting v → Agree Same o v
-  query_done db q = then_agree (IsKeptForm q.says) (IsKeptForm q.says) (λ kept. AfterForm seen db q.says) (λ kept. AfterForm further db q.says) Counted Same
-      (kept_agree q.says) (λ a b i j done. form_agree db q.says)
+  query_done db q = then_agree (IsFormFit auto q.says) (IsFormFit auto q.says) (λ kept. AfterForm seen db q.says) (λ kept. AfterForm further db q.says) Counted Same
+      (form_fit_agree auto q.says) (λ a b i j done. form_agree db q.says)
 
   abbrev AfterRead : ShelfSeen → Source (List Relation) → Outcome → Type 0
   AfterRead of d = Then (IsQueryRead false d.says of query) (AfterQuery of d.says)
@@ -212,7 +218,7 @@ module _ (known : Known) (files : Contents) (seen further : ShelfSeen) (database
       (query_agree false (known.queries false) (known.query_fault false) d.says files.query seen further query third fourth)
       (λ q e i j same o v n m. query_done d.says q o v n (subst (λ x. AfterQuery further d.says x v) (sym same) m))
 
-  pub watch_agree : (o v : Outcome) → IsWatchedFor seen database query edits cap o → IsWatchedFor further database query edits cap v → Lasting o → Lasting v → Agree Same o v
+  pub watch_agree : (o v : Outcome) → IsWatchedFor seen database query edits cap way auto o → IsWatchedFor further database query edits cap way auto v → Lasting o → Lasting v → Agree Same o v
   watch_agree = then_agree (IsDatabaseRead false seen database) (IsDatabaseRead false further database) (AfterRead seen) (AfterRead further) (λ d e. d ≡ e) Same
       (database_agree known.databases known.database_fault false files.database seen further database first second)
       (λ d e i j same o v n m. read_done d o v n (subst (λ (x : Source (List Relation)). AfterRead further x v) (sym same) m))
@@ -228,42 +234,48 @@ module _ (known : Known) (seen further : ShelfSeen) (held more : List File) (tol
   Alike task = contents_of held task ≡ contents_of more task → (o v : Outcome) → IsDueOf task seen o → IsDueOf task further v → Lasting o → Lasting v → Agree (AreOneOutput task (contents_of held task)) o v
 
   -- a task that asks a query
-  asked_alike : (way : Planning) (canon tense civil : Bool) (database query : Identifier) (S : List ℕ → List ℕ → Type 0) (Next : Source (List Relation) → Source Question → Plan → Outcome → Type 0)
-      → contents_at held database query ≡ contents_at more database query
-      → ((d : Source (List Relation)) (q : Source Question) → d.bytes ≡ content_of held database → q.bytes ≡ content_of held query → SaysRelations civil (contents_at held database query) d.says → SaysQuestion tense (contents_at held database query) d.says q.says → IsWithinLimits (plan_by way d.says q.says) d.says q.says
+  asked_alike : (of : FilesAsked) (need : Option HeadNeed) (S : List ℕ → List ℕ → Type 0) (Next : Source (List Relation) → Source Question → Plan → Outcome → Type 0)
+      → contents_at held of ≡ contents_at more of
+      → ((d : Source (List Relation)) (q : Source Question) → d.bytes ≡ content_of held of.database → q.bytes ≡ content_of held of.query → SaysRelations of.civil (contents_at held of) d.says → SaysQuestion of.tense (contents_at held of) d.says q.says → IsWithinLimits (plan_by of.way d.says q.says) d.says q.says
       → (p r : Plan) → SameText p r → (o v : Outcome) → Next d q p o → Next d q r v → Lasting o → Lasting v → Agree S o v)
-      → (o v : Outcome) → IsPlannedFor way canon tense civil seen database query Next o → IsPlannedFor way canon tense civil further database query Next v → Lasting o → Lasting v → Agree S o v
-  asked_alike way canon tense civil database query S Next same finish =
-      asked_agree known way canon tense civil (contents_at held database query) seen further database query
-      (reads_only seen held database (content_of held database) told refl) (reads_only further more database (content_of held database) again (ap (λ (c : Contents). c.database) same))
-      (reads_only seen held query (content_of held query) told refl) (reads_only further more query (content_of held query) again (ap (λ (c : Contents). c.query) same))
+      → (o v : Outcome) → IsPlannedFor of need seen Next o → IsPlannedFor of need further Next v → Lasting o → Lasting v → Agree S o v
+  asked_alike of need S Next same finish =
+      asked_agree known of need (contents_at held of) seen further
+      (reads_only seen held of.database (content_of held of.database) told refl) (reads_only further more of.database (content_of held of.database) again (ap (λ (c : Contents). c.database) same))
+      (reads_only seen held of.query (content_of held of.query) told refl) (reads_only further more of.query (content_of held of.query) again (ap (λ (c : Contents). c.query) same))
       S Next Next finish
 
   due_alike : (task : Task) → Alike task
-  due_alike (ask database query cap way tense true civil) same =
-      asked_alike way true tense civil database query (λ a b. a ≡ b) (IsAnswered way true cap) same
-      (λ d q db qb says said limits p r one. canonical_agree known way d.says q.says cap)
-  due_alike (ask database query cap way tense false civil) same =
-      asked_alike way false tense civil database query (AreOneOutput (ask database query cap way tense false civil) (contents_at held database query)) (IsAnswered way false cap) same
-      (λ d q db qb says said limits p r one. counted_agree way d.says q.says cap (IsAnswerText d.says q.says) (AreOneOutput (ask database query cap way tense false civil) (contents_at held database query))
+  due_alike (ask of cap true) same =
+      asked_alike of (Some Canon) (λ a b. a ≡ b) (IsAnswered of.way true cap) same
+      (λ d q db qb says said limits p r one. canonical_agree known of.way d.says q.says cap)
+  due_alike (ask of cap false) same =
+      asked_alike of None (AreOneOutput (ask of cap false) (contents_at held of)) (IsAnswered of.way false cap) same
+      (λ d q db qb says said limits p r one. counted_agree of.way d.says q.says cap (IsAnswerText d.says q.says) (AreOneOutput (ask of cap false) (contents_at held of))
       (λ a b x y. record { db = d.says; says = says; holds = record { q = q.says; says = said; holds = record { limits = limits; holds = (x, y) } } }))
-  due_alike (decide database query cap way tense civil) same =
-      asked_alike way false tense civil database query (λ a b. a ≡ b) (IsDecided way cap) same
-      (λ d q db qb says said limits p r one. counted_agree way d.says q.says cap (TellsWitness d.says q.says) (λ a b. a ≡ b) (one_witness known.rank known.tuples d.says q.says))
-  due_alike (list database query from to limit after json cap way tense civil) same =
-      asked_alike way false tense civil database query (λ a b. a ≡ b) (IsListed way civil from to limit after json cap) same
-      (λ d q db qb says said limits p r one. listed_agree known way (files_digest d.bytes q.bytes) d.says q.says after cap (λ t. TellsPage d.says q.says from to t limit civil json (files_digest d.bytes q.bytes))
-      (λ t a b. one_listing known.page d.says q.says from to t limit civil json (files_digest d.bytes q.bytes) a b))
-  due_alike (explain database query way tense civil) same =
-      asked_alike way false tense civil database query (λ a b. a ≡ b) IsExplained same
+  due_alike (decide of cap dates) same =
+      asked_alike of None (λ a b. a ≡ b) (IsDecided of.way dates cap) same
+      (λ d q db qb says said limits p r one. counted_agree of.way d.says q.says cap (TellsWitness dates d.says q.says) (λ a b. a ≡ b) (one_witness known.rank known.tuples d.says q.says dates))
+  due_alike (list of from to limit after json cap) same =
+      asked_alike of None (λ a b. a ≡ b) (IsListed of.way of.civil from to limit after json cap) same
+      (λ d q db qb says said limits p r one. listed_agree known of.way (files_digest d.bytes q.bytes) d.says q.says after cap (λ t. TellsPage d.says q.says from to t limit of.civil json (files_digest d.bytes q.bytes))
+      (λ t a b. one_listing known.page d.says q.says from to t limit of.civil json (files_digest d.bytes q.bytes) a b))
+  due_alike (count_task of from to cap) same =
+      asked_alike of (Some needs.Count) (λ a b. a ≡ b) (IsNumberTold of.way from to cap) same
+      (λ d q db qb says said limits p r one. counted_agree of.way d.says q.says cap (TellsNumber d.says q.says from to) (λ a b. a ≡ b) (one_number known.size d.says q.says from to))
+  due_alike (ranges_task of from to limit json cap) same =
+      asked_alike of (Some needs.Ranges) (λ a b. a ≡ b) (IsRanged of.way of.civil from to limit json cap) same
+      (λ d q db qb says said limits p r one. counted_agree of.way d.says q.says cap (TellsRanges d.says q.says from to limit of.civil json) (λ a b. a ≡ b) (one_ranges known.ranges d.says q.says from to limit of.civil json))
+  due_alike (explain of) same =
+      asked_alike of None (λ a b. a ≡ b) IsExplained same
       (λ d q db qb says said limits p r one. output_agree (TellsPlan p) (TellsPlan r) (λ a b. a ≡ b) (λ a b x y. x ∙ one ∙ sym y))
   due_alike (check database civil) same =
       then_agree (IsDatabaseRead civil seen database) (IsDatabaseRead civil further database) (λ d. IsOutput (TellsRelations d.says)) (λ d. IsOutput (TellsRelations d.says)) (λ d e. d ≡ e) (λ a b. a ≡ b)
       (database_agree known.databases known.database_fault civil (content_of held database) seen further database
       (reads_only seen held database (content_of held database) told refl) (reads_only further more database (content_of held database) again (ap (λ (c : Contents). c.database) same)))
       (λ d e i j one. output_agree (TellsRelations d.says) (TellsRelations e.says) (λ a b. a ≡ b) (λ a b x y. x.0 ∙ ap (λ (s : Source (List Relation)). database_bytes s.says) one ∙ sym y.0))
-  due_alike (watch database query edits cap) same =
-      watch_agree known (contents_of held (watch database query edits cap)) seen further database query edits cap
+  due_alike (watch database query edits cap way auto) same =
+      watch_agree known (contents_of held (watch database query edits cap way auto)) seen further database query edits cap way auto
       (reads_only seen held database (content_of held database) told refl) (reads_only further more database (content_of held database) again (ap (λ (c : Contents). c.database) same))
       (reads_only seen held query (content_of held query) told refl) (reads_only further more query (content_of held query) again (ap (λ (c : Contents). c.query) same))
       (reads_only seen held edits (content_of held edits) told refl) (reads_only further more edits (content_of held edits) again (ap (λ (c : Contents). c.edits) same))
@@ -288,7 +300,7 @@ lasting_of (Err TokenForm) h = tt
 lasting_of (Err TokenShape) h = tt
 lasting_of (Err TokenStale) h = tt
 lasting_of (Err (Cells most step)) h = tt
-lasting_of (Err CanonHead) h = tt
+lasting_of (Err (Head need)) h = tt
 lasting_of (Err (CanonRows most)) h = tt
 lasting_of (Err (Watch refusal.NotKept)) h = tt
 lasting_of (Err (Watch refusal.Read)) h = h
@@ -318,7 +330,7 @@ one_line task files TokenForm = refl
 one_line task files TokenShape = refl
 one_line task files TokenStale = refl
 one_line task files (Cells most step) = refl
-one_line task files CanonHead = refl
+one_line task files (Head need) = refl
 one_line task files (CanonRows most) = refl
 one_line task files (Watch refusal.NotKept) = refl
 one_line task files (Watch refusal.Read) = refl

@@ -1,8 +1,8 @@
 -- Runs that told the canonical answers of queries with the same answers wrote the same bytes.
 use Rattle.std.proofs.Common.{◌≡◌, ℕ, List, Bool, true, subst}
+use Rattle.lrp_words.specs.Commands.{FilesAsked}
 use Rattle.lrp_words.specs.Commands.Task.{ask}
 use Rattle.lrp_model.specs.Formulas.{Question}
-use Rattle.lrp_model.specs.declared.plans.Planning.{Planning}
 use Rattle.lrp_model.specs.declared.relations.Relation.{Relation}
 use Rattle.lrp_top.specs.Canonical.{IsCanonicalText}
 use Rattle.lrp_top.specs.Written.{plain_if}
@@ -15,10 +15,10 @@ use Rattle.lrp_run_laws.proofs.Causes.{run_cause}
 use Rattle.lrp_run_laws.proofs.Complete.{DatabaseTexts, QueryTexts}
 
 -- what two files ask is one
-asks_one : DatabaseTexts → (way : Planning) (tense civil : Bool) → QueryTexts tense → (files : Contents) (db : List Relation) (q : Question) → SaysRelations civil files db → SaysQuestion tense files db q → (Holds : List Relation → Question → Type 0) → Asking way tense civil files Holds → Holds db q
-asks_one texts way tense civil queries files db q says said Holds h =
-    let one : h.db ≡ db = texts.one (plain_if civil files.database) h.db db h.says.is says.is in
-    let again : SaysQuestion tense files db h.holds.q = subst (λ r. SaysQuestion tense files r h.holds.q) one h.holds.says in
+pub asks_one : DatabaseTexts → (of : FilesAsked) → QueryTexts of.tense → (files : Contents) (db : List Relation) (q : Question) → SaysRelations of.civil files db → SaysQuestion of.tense files db q → (Holds : List Relation → Question → Type 0) → Asking of files Holds → Holds db q
+asks_one texts of queries files db q says said Holds h =
+    let one : h.db ≡ db = texts.one (plain_if of.civil files.database) h.db db h.says.is says.is in
+    let again : SaysQuestion of.tense files db h.holds.q = subst (λ r. SaysQuestion of.tense files r h.holds.q) one h.holds.says in
     let same : h.holds.q ≡ q = queries.one db files.query h.holds.q q again.is said.is in
     subst (λ r. Holds r q) one (subst (Holds h.db) same h.holds.holds.holds)
 
@@ -30,12 +30,12 @@ record Text (run : Run) (db : List Relation) (q : Question) : Type 0 where
 
 text_told : DatabaseTexts → ((tense : Bool) → QueryTexts tense) → (run : Run) (db : List Relation) (q : Question) → HasToldCanonical run db q → Text run db q
 text_told texts queries run db q h =
-    let task = ask h.database h.query h.cap h.way h.tense true h.civil in
-    let files = contents_at h.held h.database h.query in
+    let task = ask h.of h.cap true in
+    let files = contents_at h.held h.of in
     let cause : HasTaskReason task run = subst (λ t. HasReasonFor t run) h.is.spelled (run_cause (task_asked run) run h.is.may_happen.outcome h.is.may_happen.due h.is.may_happen.ends) in
     let output : WroteOutput task files run.taken =
     subst (λ ended. IsReason ended task files run.seen run.taken) h.done (subst (λ contents. IsReason run.ended task contents run.seen run.taken) (cause.told h.held h.is.told) cause.is) in
-    record { bytes = output.output; is = asks_one texts h.way h.tense h.civil (queries h.tense) files db q h.relations h.question (λ r s. IsCanonicalText r s output.output) output.is; whole = output.whole }
+    record { bytes = output.output; is = asks_one texts h.of (queries h.of.tense) files db q h.relations h.question (λ r s. IsCanonicalText r s output.output) output.is; whole = output.whole }
 
 pub told_alike : DatabaseTexts → ((tense : Bool) → QueryTexts tense) → OneAnswerText → (run other : Run) (db further : List Relation) (q r : Question) → HasToldCanonical run db q → HasToldCanonical other further r → HaveSameAnswers db further q r → WroteAlike run other
 told_alike texts queries one run other db further q r h k same =

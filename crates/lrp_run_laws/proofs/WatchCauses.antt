@@ -1,5 +1,5 @@
 -- Why a run of a watch ended as it did.
-use Rattle.std.proofs.Common.{◌≡◌, inl, inr, ◌≤◌, ℕ, true, false, List, length, sym, ap, ap₂, subst, ◌∙◌, Result, Ok, Err}
+use Rattle.std.proofs.Common.{◌≡◌, inl, inr, ◌≤◌, ◌||◌, ℕ, Bool, true, false, List, length, sym, ap, ap₂, subst, ◌∙◌, Result, Ok, Err}
 use Rattle.lrp_io.specs.Files.{content_of}
 use Rattle.lrp_words.specs.Commands.{Task}
 use Rattle.lrp_words.specs.Commands.Task.{watch as watching}
@@ -7,6 +7,7 @@ use Rattle.lrp_model.specs.DatabaseReading.{IsDatabase}
 use Rattle.lrp_model.specs.Formulas.{Question}
 use Rattle.lrp_model.specs.Texts.{Identifier}
 use Rattle.lrp_model.specs.declared.relations.Relation.{Relation}
+use Rattle.lrp_model.specs.declared.plans.Planning.{Planning}
 use Rattle.lrp_edits.specs.declared.edits.Edit.{Edit}
 use Rattle.lrp_kept.specs.KeptForm.{is_kept}
 use Rattle.lrp_keep.specs.declared.faults.KeepFault.TheVariants as limit
@@ -15,7 +16,7 @@ use Rattle.lrp_outputs.specs.Outcomes.{Outcome}
 use Rattle.lrp_top.specs.Seen.{ShelfSeen, AreBytesOf}
 use Rattle.lrp_top.specs.Sources.{Source}
 use Rattle.lrp_top.specs.Steps.{Behind, Then}
-use Rattle.lrp_top.specs.Watched.{AreEditsRead, AreEditsReadOf, IsKeptForm, IsWatched}
+use Rattle.lrp_top.specs.Watched.{AreEditsRead, AreEditsReadOf, IsFormFit, IsWatched}
 use Rattle.lrp_top.specs.Written.{IsSortedAs, plain_if}
 use Rattle.lrp_outputs.specs.declared.refusal.Refusal.{Refusal}
 use Rattle.lrp_outputs.specs.declared.refusal.Refusal.TheVariants.{ReadDatabase, LongDatabase, Database, ReadQuery, LongQuery, Query, Watch, Memory}
@@ -28,36 +29,36 @@ abbrev three : List ℕ → List ℕ → List ℕ → Contents
 three database query edits = record { database = database; query = query; edits = edits }
 
 -- a database and a query over it in kept form are what files say
-record Kept (files : Contents) (db : List Relation) (q : Question) : Type 0 where
+record Kept (auto : Bool) (files : Contents) (db : List Relation) (q : Question) : Type 0 where
   database : SaysRelations false files db
   query : SaysQuestion false files db q
-  kept : is_kept q ≡ true
+  fit : (is_kept q || auto) ≡ true
 
-keeping : (files : Contents) (db : List Relation) (q : Question) → Kept files db q → (Holds : List Relation → Question → Type 0) → Holds db q → Keeping files Holds
-keeping files db q k Holds h = record { db = db; says = k.database; holds = record { q = q; says = k.query; holds = record { kept = k.kept; holds = h } } }
+keeping : (auto : Bool) (files : Contents) (db : List Relation) (q : Question) → Kept auto files db q → (Holds : List Relation → Question → Type 0) → Holds db q → Keeping auto files Holds
+keeping auto files db q k Holds h = record { db = db; says = k.database; holds = record { q = q; says = k.query; holds = record { fit = k.fit; holds = h } } }
 
-over : (files : Contents) (db : List Relation) (q : Question) → Kept files db q → (es : List Edit) → SaysTheseEdits files db es → (Holds : List Relation → Question → List Edit → Type 0) → Holds db q es → Watching files Holds
-over files db q k es says Holds h = record { db = db; says = k.database; holds = record { q = q; says = k.query; holds = record { kept = k.kept; holds = record { edits = es; says = says; holds = h } } } }
+over : (auto : Bool) (files : Contents) (db : List Relation) (q : Question) → Kept auto files db q → (es : List Edit) → SaysTheseEdits files db es → (Holds : List Relation → Question → List Edit → Type 0) → Holds db q es → Watching auto files Holds
+over auto files db q k es says Holds h = record { db = db; says = k.database; holds = record { q = q; says = k.query; holds = record { fit = k.fit; holds = record { edits = es; says = says; holds = h } } } }
 
-module _ (database query edits : Identifier) (cap : ℕ) (seen : ShelfSeen) where
+module _ (database query edits : Identifier) (cap : ℕ) (way : Planning) (auto : Bool) (seen : ShelfSeen) where
   abbrev W : Task
-  W = watching database query edits cap
+  W = watching database query edits cap way auto
 
   -- the edits are made
-  made_as : (files : Contents) (db : List Relation) (q : Question) → Kept files db q → (es : List Edit) → SaysTheseEdits files db es → (outcome : Outcome) → IsWatched db q cap es outcome → OutcomeFor W seen files outcome
-  made_as files db q k es says (Ok bytes) told = over files db q k es says _ told
-  made_as files db q k es says (Err (Watch (watch.PeriodLimit edit))) is = λ taken line. over files db q k es says _ (record { number = edit; passed = limit.PeriodLimit; some = λ e. cc; is = is })
-  made_as files db q k es says (Err (Watch (watch.BoundLimit edit))) is = λ taken line. over files db q k es says _ (record { number = edit; passed = limit.BoundLimit; some = λ e. cc; is = is })
-  made_as files db q k es says (Err (Watch (watch.Cells most edit))) is = λ taken line. over files db q k es says _ (record { number = edit; passed = limit.TooManyCells; some = λ e. cc; is = is.1 })
+  made_as : (files : Contents) (db : List Relation) (q : Question) → Kept auto files db q → (es : List Edit) → SaysTheseEdits files db es → (outcome : Outcome) → IsWatched (is_kept q) way db q cap es outcome → OutcomeFor W seen files outcome
+  made_as files db q k es says (Ok bytes) told = over auto files db q k es says _ told
+  made_as files db q k es says (Err (Watch (watch.PeriodLimit edit))) is = λ taken line. over auto files db q k es says _ (record { number = edit; passed = limit.PeriodLimit; some = λ e. cc; is = is })
+  made_as files db q k es says (Err (Watch (watch.BoundLimit edit))) is = λ taken line. over auto files db q k es says _ (record { number = edit; passed = limit.BoundLimit; some = λ e. cc; is = is })
+  made_as files db q k es says (Err (Watch (watch.Cells most edit))) is = λ taken line. over auto files db q k es says _ (record { number = edit; passed = limit.TooManyCells; some = λ e. cc; is = is.1 })
   made_as files db q k es says (Err Memory) is = λ taken line. line
   made_as files db q k es says (Err _) is = absurd is
 
   -- their file is read
-  edits_as : (files : Contents) (db : List Relation) (q : Question) → Kept files db q → (outcome : Outcome) (r : Result (List Edit) Refusal) → AreEditsReadOf db seen edits files.edits r → Behind r (IsWatched db q cap) outcome → OutcomeFor W seen files outcome
+  edits_as : (files : Contents) (db : List Relation) (q : Question) → Kept auto files db q → (outcome : Outcome) (r : Result (List Edit) Refusal) → AreEditsReadOf db seen edits files.edits r → Behind r (IsWatched (is_kept q) way db q cap) outcome → OutcomeFor W seen files outcome
   edits_as files db q k outcome (Ok es) is next = made_as files db q k es (record { short = is.0; is = is.1 }) outcome next
-  edits_as files db q k outcome (Err (Watch watch.Read)) is next = subst (OutcomeFor W seen files) (sym next) (λ taken line. inr (keeping files db q k _ is))
-  edits_as files db q k outcome (Err (Watch watch.Long)) is next = subst (OutcomeFor W seen files) (sym next) (λ taken line. inr (keeping files db q k _ (inl is.0)))
-  edits_as files db q k outcome (Err (Watch (watch.Edits fault))) is next = subst (OutcomeFor W seen files) (sym next) (λ taken line. inr (keeping files db q k _ (inr (fault, is.1))))
+  edits_as files db q k outcome (Err (Watch watch.Read)) is next = subst (OutcomeFor W seen files) (sym next) (λ taken line. inr (keeping auto files db q k _ is))
+  edits_as files db q k outcome (Err (Watch watch.Long)) is next = subst (OutcomeFor W seen files) (sym next) (λ taken line. inr (keeping auto files db q k _ (inl is.0)))
+  edits_as files db q k outcome (Err (Watch (watch.Edits fault))) is next = subst (OutcomeFor W seen files) (sym next) (λ taken line. inr (keeping auto files db q k _ (inr (fault, is.1))))
   edits_as files db q k outcome (Err Memory) is next = subst (OutcomeFor W seen files) (sym next) (λ taken line. line)
   edits_as files db q k outcome (Err _) is next = absurd is
 
@@ -79,11 +80,11 @@ module _ (database query edits : Identifier) (cap : ℕ) (seen : ShelfSeen) wher
       relations e = record { short = short; is = is_database }
 
       -- the query is looked at
-      kept_as : (q : Question) → length b ≤ 16777216 → IsSortedAs false db b q → (outcome : Outcome) (r : Result (Unit {0}) Refusal) → IsKeptForm q r → Behind r (λ kept. Then (AreEditsRead db seen edits) (IsWatched db q cap)) outcome → Explained W seen outcome
+      kept_as : (q : Question) → length b ≤ 16777216 → IsSortedAs false db b q → (outcome : Outcome) (r : Result (Unit {0}) Refusal) → IsFormFit auto q r → Behind r (λ kept. Then (AreEditsRead db seen edits) (IsWatched (is_kept q) way db q cap)) outcome → Explained W seen outcome
       kept_as q few sorted outcome (Ok done) kept next =
           let files = three d b next.is.bytes in
           explained_by outcome next.is.bytes next.is.told
-          (edits_as files db q (record { database = relations next.is.bytes; query = record { short = few; is = sorted }; kept = kept }) outcome next.first next.is.is next.next)
+          (edits_as files db q (record { database = relations next.is.bytes; query = record { short = few; is = sorted }; fit = kept }) outcome next.first next.is.is next.next)
       kept_as q few sorted outcome (Err (Watch watch.NotKept)) is next =
           subst (Explained W seen) (sym next)
           (unread _ (λ e. λ taken line. record { db = db; says = relations e; holds = inr (record { q = q; says = record { short = few; is = sorted }; holds = is }) }))
@@ -91,7 +92,7 @@ module _ (database query edits : Identifier) (cap : ℕ) (seen : ShelfSeen) wher
 
       -- its file is read
       queried_as : (outcome : Outcome) (r : Result (Source Question) Refusal) → IsQueryReadOf false db seen query b r
-          → Behind r (λ q. Then (IsKeptForm q.says) (λ kept. Then (AreEditsRead db seen edits) (IsWatched db q.says cap))) outcome → Explained W seen outcome
+          → Behind r (λ q. Then (IsFormFit auto q.says) (λ kept. Then (AreEditsRead db seen edits) (IsWatched (is_kept q.says) way db q.says cap))) outcome → Explained W seen outcome
       queried_as outcome (Ok q) is next = kept_as q.says is.1 is.2 outcome next.first next.is next.next
       queried_as outcome (Err ReadQuery) is next = subst (Explained W seen) (sym next) (unread _ (λ e. λ taken line. inl (inr (record { db = db; says = relations e; holds = is }))))
       queried_as outcome (Err LongQuery) is next = subst (Explained W seen) (sym next) (unread _ (λ e. λ taken line. record { db = db; says = relations e; holds = inl (inl is.0) }))
@@ -101,7 +102,7 @@ module _ (database query edits : Identifier) (cap : ℕ) (seen : ShelfSeen) wher
 
   -- the file of the database is read
   abbrev AfterDatabase : Source (List Relation) → Outcome → Type 0
-  AfterDatabase d = Then (IsQueryRead false d.says seen query) (λ q. Then (IsKeptForm q.says) (λ kept. Then (AreEditsRead d.says seen edits) (IsWatched d.says q.says cap)))
+  AfterDatabase d = Then (IsQueryRead false d.says seen query) (λ q. Then (IsFormFit auto q.says) (λ kept. Then (AreEditsRead d.says seen edits) (IsWatched (is_kept q.says) way d.says q.says cap)))
 
   alone : (d : List ℕ) → AreBytesOf seen database d → (outcome : Outcome) → ((b e : List ℕ) → OutcomeFor W seen (three d b e) outcome) → Explained W seen outcome
   alone d told outcome is = let some = some_bytes seen.files query in unread d some.0 told some.1 outcome (is some.0)
@@ -114,5 +115,5 @@ module _ (database query edits : Identifier) (cap : ℕ) (seen : ShelfSeen) wher
   read_as d told outcome (Err Memory) is next = subst (Explained W seen) (sym next) (alone d told _ (λ b e. λ taken line. line))
   read_as d told outcome (Err _) is next = absurd is
 
-pub watch_explained : (database query edits : Identifier) (cap : ℕ) (seen : ShelfSeen) (outcome : Outcome) → IsWatchedFor seen database query edits cap outcome → Explained (watching database query edits cap) seen outcome
-watch_explained database query edits cap seen outcome due = read_as database query edits cap seen due.is.bytes due.is.told outcome due.first due.is.is due.next
+pub watch_explained : (database query edits : Identifier) (cap : ℕ) (way : Planning) (auto : Bool) (seen : ShelfSeen) (outcome : Outcome) → IsWatchedFor seen database query edits cap way auto outcome → Explained (watching database query edits cap way auto) seen outcome
+watch_explained database query edits cap way auto seen outcome due = read_as database query edits cap way auto seen due.is.bytes due.is.told outcome due.first due.is.is due.next

@@ -1,7 +1,7 @@
 -- Two watches over the same bytes come to one outcome.
-use Rattle.std.proofs.Common.{◌≡◌, ◌≢◌, ◌⊎◌, inl, inr, ◌∷◌, ◌++◌, ◌+◌, ◌<◌, ◌≤◌, ◌^◌, ◌∙◌, ℕ, zero, suc, Bool, true, false, List, [], length, flat_map, refl, sym, ap, ap₂, subst, Option, Result, Err, arith}
+use Rattle.std.proofs.Common.{◌≡◌, ◌≢◌, ◌⊎◌, ◌||◌, inl, inr, ◌∷◌, ◌++◌, ◌+◌, ◌<◌, ◌≤◌, ◌^◌, ◌∙◌, ℕ, zero, suc, Bool, true, false, List, [], length, flat_map, refl, sym, ap, ap₂, subst, Option, Result, Err, arith}
 use Rattle.std.specs.Prelude.{if◌then◌else◌}
-use Rattle.std.specs.List.{All, AllZip}
+use Rattle.std.specs.List.{All, AllByRecursion, AllZip}
 use Rattle.std.proofs.lemmas.List.Elements.{All-head, All-tail}
 use Rattle.lrp_model.specs.Formulas.{Question, form_of, question_of}
 use Rattle.lrp_model.specs.Rows.{rows_of, Tuple}
@@ -22,10 +22,13 @@ use Rattle.lrp_keep.specs.declared.faults.KeepFault.{KeepFault}
 use Rattle.lrp_keep.specs.declared.faults.KeepFault.TheVariants as limit
 use Rattle.lrp_watch.specs.Edits.{AreMade, IsEditMade, IsMadeBy, IsRefusedEdit, last_kept}
 use Rattle.lrp_outputs.specs.First.{IsFirst, first_line}
+use Rattle.lrp_model.specs.declared.plans.Planning.{Planning}
+use Rattle.lrp_watch.specs.Anew.{IsPastAfter, IsPastPlan, IsWithinPlan, TellsLeastsAnew}
+use Rattle.lrp_watch.specs.Edited.{AreEdited, IsEditedBy}
 use Rattle.lrp_watch.specs.Watching.{IsOpened, IsPassed, TellsLeasts, watched_constants}
 use Rattle.lrp_outputs.specs.Outcomes.{Outcome}
 use Rattle.lrp_top.specs.Seen.{ShelfSeen, AreBytesOf}
-use Rattle.lrp_top.specs.Watched.{AreEditsRead, AreEditsReadOf, IsKeptForm, IsWatched}
+use Rattle.lrp_top.specs.Watched.{AreEditsRead, AreEditsReadOf, IsFormFit, IsPassedBy, IsWatched, TellsLeastsBy}
 use Rattle.lrp_outputs.specs.declared.refusal.Refusal.{Refusal}
 use Rattle.lrp_outputs.specs.declared.refusal.Refusal.TheVariants.{Watch, Memory}
 use Rattle.lrp_outputs.specs.declared.watch_refusal.WatchRefusal.TheVariants as watch
@@ -297,13 +300,98 @@ module _ (rank : OneRank) (tuples : WholeTuples) (db : List Relation) (q : Quest
       let both = one_passed x.before y.before x.edit y.edit x.behind y.behind a.kept b.kept x.later y.later fault more some also (opened_twins a.kept b.kept a.opened b.opened) (sym x.are ∙ y.are) x.made y.made x.refused y.refused in
       (x.number_is ∙ ap (λ n. n + 1) both.0 ∙ sym y.number_is, both.1)
 
+-- ---- decided anew
+
+one_edited : (add : Bool) (name : Identifier) (row : Row) (old new other : List Relation) → IsEditedBy add name row old new → IsEditedBy add name row old other → new ≡ other
+one_edited true name row old new other a b = a ∙ sym b
+one_edited false name row old new other (inl a) (inl b) = a.is ∙ ap (replaced old name) (one_taken row (rows_of old name) a.rows b.rows a.taken b.taken) ∙ sym b.is
+one_edited false name row old new other (inl a) (inr b) = taken_or_none row (rows_of old name) a.rows a.taken b.0
+one_edited false name row old new other (inr a) (inl b) = taken_or_none row (rows_of old name) b.rows b.taken a.0
+one_edited false name row old new other (inr a) (inr b) = a.1 ∙ sym b.1
+
+later_one : (es : List Edit) (db : List Relation) (later others : List (List Relation)) → AreEdited es db later → AreEdited es db others → later ≡ others
+later_one [] db later others a b = a ∙ sym b
+later_one (e ∷ es) db [] others a b = absurd a
+later_one (e ∷ es) db (next ∷ later) [] a b = absurd b
+later_one (e ∷ es) db (next ∷ later) (other ∷ others) a b =
+    let same : next ≡ other = one_edited e.add e.relation e.row db next other a.0 b.0 in
+    ap₂ (λ x xs. x ∷ xs) same (later_one es other later others (subst (λ d. AreEdited es d later) same a.1) b.1)
+
+module _ (rank : OneRank) (tuples : WholeTuples) (way : Planning) (q : Question) (cap : ℕ) where
+  firsts_one : (dbs : List (List Relation)) (firsts others : List (Option Tuple)) → AllZip (λ held first. IsFirst held q first) dbs firsts → AllZip (λ held first. IsFirst held q first) dbs others → firsts ≡ others
+  firsts_one [] [] [] a b = refl
+  firsts_one [] [] (o ∷ os) a b = absurd b
+  firsts_one [] (f ∷ fs) os a b = absurd a
+  firsts_one (d ∷ ds) [] os a b = absurd a
+  firsts_one (d ∷ ds) (f ∷ fs) [] a b = absurd b
+  firsts_one (d ∷ ds) (f ∷ fs) (o ∷ os) a b = ap₂ (λ x xs. x ∷ xs) (one_start rank tuples d q f o a.0 b.0) (firsts_one ds fs os a.1 b.1)
+
+  lines_one : (db : List Relation) (edits : List Edit) (bytes other : List ℕ) → TellsLeastsAnew way db q edits cap bytes → TellsLeastsAnew way db q edits cap other → bytes ≡ other
+  lines_one db edits bytes other a b =
+      let same : a.later ≡ b.later = later_one edits db a.later b.later a.edited b.edited in
+      a.spelled ∙ ap (flat_map first_line) (firsts_one (db ∷ b.later) a.firsts b.firsts (subst (λ (l : List (List Relation)). AllZip (λ held first. IsFirst held q first) (db ∷ l) a.firsts) same a.are) b.are) ∙ sym b.spelled
+
+  -- no limit of a plan is passed and passed
+  plan_within : (db : List Relation) (fault : KeepFault) → fault ≢ limit.Memory → IsWithinPlan way q cap db → IsPastPlan way q cap db fault → ⊥
+  plan_within db limit.PeriodLimit some within h = not_both _ within.limits.period h
+  plan_within db limit.BoundLimit some within h = not_both _ within.limits.reach h.1
+  plan_within db limit.TooManyCells some within h = within.few h.1.0 h.1.1.is
+  plan_within db limit.Memory some within h = some refl
+
+  one_past : (db : List Relation) (fault other : KeepFault) → fault ≢ limit.Memory → other ≢ limit.Memory → IsPastPlan way q cap db fault → IsPastPlan way q cap db other → fault ≡ other
+  one_past db limit.PeriodLimit limit.PeriodLimit some more h g = refl
+  one_past db limit.PeriodLimit limit.BoundLimit some more h g = absurd (not_both _ g.0 h)
+  one_past db limit.PeriodLimit limit.TooManyCells some more h g = absurd (not_both _ g.0.period h)
+  one_past db limit.BoundLimit limit.PeriodLimit some more h g = absurd (not_both _ h.0 g)
+  one_past db limit.BoundLimit limit.BoundLimit some more h g = refl
+  one_past db limit.BoundLimit limit.TooManyCells some more h g = absurd (not_both _ g.0.reach h.1)
+  one_past db limit.TooManyCells limit.PeriodLimit some more h g = absurd (not_both _ h.0.period g)
+  one_past db limit.TooManyCells limit.BoundLimit some more h g = absurd (not_both _ h.0.reach g.1)
+  one_past db limit.TooManyCells limit.TooManyCells some more h g = refl
+  one_past db limit.Memory other some more h g = absurd (some refl)
+  one_past db fault limit.Memory some more h g = absurd (more refl)
+
+  lines_or_passed : (edits : List Edit) (db : List Relation) (later : List (List Relation)) (number : ℕ) (fault : KeepFault) → fault ≢ limit.Memory → AreEdited edits db later → AllByRecursion (IsWithinPlan way q cap) (db ∷ later) → IsPastAfter way q cap edits db number fault → ⊥
+  lines_or_passed edits db later zero fault some made within p = plan_within db fault some within.0 p
+  lines_or_passed [] db later (suc n) fault some made within p = p
+  lines_or_passed (e ∷ es) db [] (suc n) fault some made within p = made
+  lines_or_passed (e ∷ es) db (next ∷ later) (suc n) fault some made within p =
+      let same : p.1.0 ≡ next = one_edited e.add e.relation e.row db p.1.0 next p.1.1 made.0 in
+      lines_or_passed es next later n fault some made.1 within.1 (subst (λ d. IsPastAfter way q cap es d n fault) same p.1.2)
+
+  number_one : (edits : List Edit) (db : List Relation) (number other : ℕ) (fault more : KeepFault) → fault ≢ limit.Memory → more ≢ limit.Memory → IsPastAfter way q cap edits db number fault → IsPastAfter way q cap edits db other more → (number ≡ other) × (fault ≡ more)
+  number_one edits db zero zero fault more some also a b = (refl, one_past db fault more some also a b)
+  number_one [] db zero (suc m) fault more some also a b = absurd b
+  number_one (e ∷ es) db zero (suc m) fault more some also a b = absurd (plan_within db fault some b.0 a)
+  number_one [] db (suc n) other fault more some also a b = absurd a
+  number_one (e ∷ es) db (suc n) zero fault more some also a b = absurd (plan_within db more also a.0 b)
+  number_one (e ∷ es) db (suc n) (suc m) fault more some also a b =
+      let same : b.1.0 ≡ a.1.0 = one_edited e.add e.relation e.row db b.1.0 a.1.0 b.1.1 a.1.1 in
+      let both = number_one es a.1.0 n m fault more some also a.1.2 (subst (λ d. IsPastAfter way q cap es d m more) same b.1.2) in
+      (ap suc both.0, both.1)
+
+-- ---- by whichever way
+
+module _ (rank : OneRank) (tuples : WholeTuples) (kept : Bool) (way : Planning) (db : List Relation) (q : Question) (edits : List Edit) (cap : ℕ) where
+  lines_alike : (kept : Bool) (bytes other : List ℕ) → TellsLeastsBy kept way db q edits cap bytes → TellsLeastsBy kept way db q edits cap other → bytes ≡ other
+  lines_alike true = one_lines rank tuples db q edits cap
+  lines_alike false = lines_one rank tuples way q cap db edits
+
+  told_not_passed : (kept : Bool) (bytes : List ℕ) (number : ℕ) (fault : KeepFault) → fault ≢ limit.Memory → TellsLeastsBy kept way db q edits cap bytes → IsPassedBy kept way db q edits cap number fault → ⊥
+  told_not_passed true bytes number fault some a p = told_or_passed rank tuples db q edits cap bytes number fault some a p
+  told_not_passed false bytes number fault some a p = lines_or_passed rank tuples way q cap edits db a.later number fault some a.edited a.within p
+
+  one_number_by : (kept : Bool) (number other : ℕ) (fault more : KeepFault) → fault ≢ limit.Memory → more ≢ limit.Memory → IsPassedBy kept way db q edits cap number fault → IsPassedBy kept way db q edits cap other more → (number ≡ other) × (fault ≡ more)
+  one_number_by true = one_number rank tuples db q edits cap
+  one_number_by false = number_one rank tuples way q cap edits db
+
   -- why a watch is refused
   data Passed : Refusal → Type 0 where
-    at_period : (number : ℕ) → IsPassed db q edits cap number limit.PeriodLimit → Passed (Watch (watch.PeriodLimit number))
-    at_bound : (number : ℕ) → IsPassed db q edits cap number limit.BoundLimit → Passed (Watch (watch.BoundLimit number))
-    at_cells : (number : ℕ) → IsPassed db q edits cap number limit.TooManyCells → Passed (Watch (watch.Cells cap number))
+    at_period : (number : ℕ) → IsPassedBy kept way db q edits cap number limit.PeriodLimit → Passed (Watch (watch.PeriodLimit number))
+    at_bound : (number : ℕ) → IsPassedBy kept way db q edits cap number limit.BoundLimit → Passed (Watch (watch.BoundLimit number))
+    at_cells : (number : ℕ) → IsPassedBy kept way db q edits cap number limit.TooManyCells → Passed (Watch (watch.Cells cap number))
 
-  passed : (e : Refusal) → IsWatched db q cap edits (Err e) → Lasts e → Passed e
+  passed : (e : Refusal) → IsWatched kept way db q cap edits (Err e) → Lasts e → Passed e
   passed (Watch (watch.PeriodLimit n)) is l = at_period n is
   passed (Watch (watch.BoundLimit n)) is l = at_bound n is
   passed (Watch (watch.Cells most n)) is l = subst (λ c. Passed (Watch (watch.Cells c n))) (sym is.0) (at_cells n is.1)
@@ -319,49 +407,49 @@ module _ (rank : OneRank) (tuples : WholeTuples) (db : List Relation) (q : Quest
   cells_some : limit.TooManyCells ≢ limit.Memory
   cells_some e = cc
 
-  told_stands : (bytes : List ℕ) → TellsLeasts db q edits cap bytes → (e : Refusal) → Passed e → ⊥
-  told_stands bytes a _ (at_period n p) = told_or_passed bytes n limit.PeriodLimit not_memory a p
-  told_stands bytes a _ (at_bound n p) = told_or_passed bytes n limit.BoundLimit bound_some a p
-  told_stands bytes a _ (at_cells n p) = told_or_passed bytes n limit.TooManyCells cells_some a p
+  told_stands : (bytes : List ℕ) → TellsLeastsBy kept way db q edits cap bytes → (e : Refusal) → Passed e → ⊥
+  told_stands bytes a _ (at_period n p) = told_not_passed kept bytes n limit.PeriodLimit not_memory a p
+  told_stands bytes a _ (at_bound n p) = told_not_passed kept bytes n limit.BoundLimit bound_some a p
+  told_stands bytes a _ (at_cells n p) = told_not_passed kept bytes n limit.TooManyCells cells_some a p
 
   passed_alike : (e f : Refusal) → Passed e → Passed f → e ≡ f
-  passed_alike _ _ (at_period n a) (at_period m b) = ap (λ x. Watch (watch.PeriodLimit x)) (one_number n m limit.PeriodLimit limit.PeriodLimit not_memory not_memory a b).0
-  passed_alike _ _ (at_period n a) (at_bound m b) = let e : limit.PeriodLimit ≡ limit.BoundLimit = (one_number n m limit.PeriodLimit limit.BoundLimit not_memory bound_some a b).1 in cc
-  passed_alike _ _ (at_period n a) (at_cells m b) = let e : limit.PeriodLimit ≡ limit.TooManyCells = (one_number n m limit.PeriodLimit limit.TooManyCells not_memory cells_some a b).1 in cc
-  passed_alike _ _ (at_bound n a) (at_period m b) = let e : limit.BoundLimit ≡ limit.PeriodLimit = (one_number n m limit.BoundLimit limit.PeriodLimit bound_some not_memory a b).1 in cc
-  passed_alike _ _ (at_bound n a) (at_bound m b) = ap (λ x. Watch (watch.BoundLimit x)) (one_number n m limit.BoundLimit limit.BoundLimit bound_some bound_some a b).0
-  passed_alike _ _ (at_bound n a) (at_cells m b) = let e : limit.BoundLimit ≡ limit.TooManyCells = (one_number n m limit.BoundLimit limit.TooManyCells bound_some cells_some a b).1 in cc
-  passed_alike _ _ (at_cells n a) (at_period m b) = let e : limit.TooManyCells ≡ limit.PeriodLimit = (one_number n m limit.TooManyCells limit.PeriodLimit cells_some not_memory a b).1 in cc
-  passed_alike _ _ (at_cells n a) (at_bound m b) = let e : limit.TooManyCells ≡ limit.BoundLimit = (one_number n m limit.TooManyCells limit.BoundLimit cells_some bound_some a b).1 in cc
-  passed_alike _ _ (at_cells n a) (at_cells m b) = ap (λ x. Watch (watch.Cells cap x)) (one_number n m limit.TooManyCells limit.TooManyCells cells_some cells_some a b).0
+  passed_alike _ _ (at_period n a) (at_period m b) = ap (λ x. Watch (watch.PeriodLimit x)) (one_number_by kept n m limit.PeriodLimit limit.PeriodLimit not_memory not_memory a b).0
+  passed_alike _ _ (at_period n a) (at_bound m b) = let e : limit.PeriodLimit ≡ limit.BoundLimit = (one_number_by kept n m limit.PeriodLimit limit.BoundLimit not_memory bound_some a b).1 in cc
+  passed_alike _ _ (at_period n a) (at_cells m b) = let e : limit.PeriodLimit ≡ limit.TooManyCells = (one_number_by kept n m limit.PeriodLimit limit.TooManyCells not_memory cells_some a b).1 in cc
+  passed_alike _ _ (at_bound n a) (at_period m b) = let e : limit.BoundLimit ≡ limit.PeriodLimit = (one_number_by kept n m limit.BoundLimit limit.PeriodLimit bound_some not_memory a b).1 in cc
+  passed_alike _ _ (at_bound n a) (at_bound m b) = ap (λ x. Watch (watch.BoundLimit x)) (one_number_by kept n m limit.BoundLimit limit.BoundLimit bound_some bound_some a b).0
+  passed_alike _ _ (at_bound n a) (at_cells m b) = let e : limit.BoundLimit ≡ limit.TooManyCells = (one_number_by kept n m limit.BoundLimit limit.TooManyCells bound_some cells_some a b).1 in cc
+  passed_alike _ _ (at_cells n a) (at_period m b) = let e : limit.TooManyCells ≡ limit.PeriodLimit = (one_number_by kept n m limit.TooManyCells limit.PeriodLimit cells_some not_memory a b).1 in cc
+  passed_alike _ _ (at_cells n a) (at_bound m b) = let e : limit.TooManyCells ≡ limit.BoundLimit = (one_number_by kept n m limit.TooManyCells limit.BoundLimit cells_some bound_some a b).1 in cc
+  passed_alike _ _ (at_cells n a) (at_cells m b) = ap (λ x. Watch (watch.Cells cap x)) (one_number_by kept n m limit.TooManyCells limit.TooManyCells cells_some cells_some a b).0
 
-  pub watched_agree : (o p : Outcome) → IsWatched db q cap edits o → IsWatched db q cap edits p → Lasting o → Lasting p → Agree (λ a b. a ≡ b) o p
-  watched_agree = by_parts (IsWatched db q cap edits) (IsWatched db q cap edits) (λ a b. a ≡ b) one_lines
+  pub watched_agree : (o p : Outcome) → IsWatched kept way db q cap edits o → IsWatched kept way db q cap edits p → Lasting o → Lasting p → Agree (λ a b. a ≡ b) o p
+  watched_agree = by_parts (IsWatched kept way db q cap edits) (IsWatched kept way db q cap edits) (λ a b. a ≡ b) (lines_alike kept)
       (λ a f i j l. told_stands a i f (passed f j l))
       (λ e b i j l. told_stands b j e (passed e i l))
       (λ e f i j l m. passed_alike e f (passed e i l) (passed f j m))
 
 -- ---- the form of the query
 
-data FormRefused (q : Question) : Refusal → Type 0 where
-  other_form : is_kept q ≡ false → FormRefused q (Watch watch.NotKept)
+data FormRefused (auto : Bool) (q : Question) : Refusal → Type 0 where
+  other_form : (is_kept q || auto) ≡ false → FormRefused auto q (Watch watch.NotKept)
 
-form_refused : (q : Question) (e : Refusal) → IsKeptForm q (Err e) → FormRefused q e
-form_refused q (Watch watch.NotKept) is = other_form is
-form_refused q _ is = absurd is
+form_refused : (auto : Bool) (q : Question) (e : Refusal) → IsFormFit auto q (Err e) → FormRefused auto q e
+form_refused auto q (Watch watch.NotKept) is = other_form is
+form_refused auto q _ is = absurd is
 
-kept_stands : (q : Question) → is_kept q ≡ true → (e : Refusal) → FormRefused q e → ⊥
-kept_stands q kept _ (other_form other) = cc
+fit_stands : (auto : Bool) (q : Question) → (is_kept q || auto) ≡ true → (e : Refusal) → FormRefused auto q e → ⊥
+fit_stands auto q fit _ (other_form other) = cc
 
-form_alike : (q : Question) (e f : Refusal) → FormRefused q e → FormRefused q f → e ≡ f
-form_alike q _ _ (other_form a) (other_form b) = refl
+form_alike : (auto : Bool) (q : Question) (e f : Refusal) → FormRefused auto q e → FormRefused auto q f → e ≡ f
+form_alike auto q _ _ (other_form a) (other_form b) = refl
 
-pub kept_agree : (q : Question) (r s : Result (Unit {0}) Refusal) → IsKeptForm q r → IsKeptForm q s → Lasting r → Lasting s → Agree Counted r s
-kept_agree q = by_parts (IsKeptForm q) (IsKeptForm q) Counted
+pub form_fit_agree : (auto : Bool) (q : Question) (r s : Result (Unit {0}) Refusal) → IsFormFit auto q r → IsFormFit auto q s → Lasting r → Lasting s → Agree Counted r s
+form_fit_agree auto q = by_parts (IsFormFit auto q) (IsFormFit auto q) Counted
     (λ a b i j. tt)
-    (λ a f i j l. kept_stands q i f (form_refused q f j))
-    (λ e a i j l. kept_stands q j e (form_refused q e i))
-    (λ e f i j l m. form_alike q e f (form_refused q e i) (form_refused q f j))
+    (λ a f i j l. fit_stands auto q i f (form_refused auto q f j))
+    (λ e a i j l. fit_stands auto q j e (form_refused auto q e i))
+    (λ e f i j l m. form_alike auto q e f (form_refused auto q e i) (form_refused auto q f j))
 
 -- ---- the edits
 

@@ -1,13 +1,12 @@
 -- What the files of a task say.
-use Rattle.std.specs.Prelude.{◌≡◌, ℕ, ◌≤◌, Bool, true, false, List, [], length, Some}
+use Rattle.std.specs.Prelude.{◌≡◌, ℕ, ◌≤◌, Bool, true, false, ◌||◌, List, [], length, Some}
 use Rattle.lrp_io.specs.Files.{content_of}
 use Rattle.lrp_io.specs.declared.shelf.File.{File}
-use Rattle.lrp_words.specs.Commands.{Task}
-use Rattle.lrp_words.specs.Commands.Task.{ask, decide, list, explain, check, watch, sample}
+use Rattle.lrp_words.specs.Commands.{FilesAsked, Task}
+use Rattle.lrp_words.specs.Commands.Task.{ask, decide, list, count, ranges, explain, check, watch, sample}
 use Rattle.lrp_model.specs.DatabaseReading.{IsDatabase}
 use Rattle.lrp_model.specs.Formulas.{Question}
 use Rattle.lrp_model.specs.Plans.{IsWithinLimits}
-use Rattle.lrp_model.specs.Texts.{Identifier}
 use Rattle.lrp_model.specs.declared.plans.Planning.{Planning}
 use Rattle.lrp_model.specs.declared.relations.Relation.{Relation}
 use Rattle.lrp_plan_laws.specs.GuardedPlans.{plan_by}
@@ -29,17 +28,19 @@ pub record Contents : Type 0 where
 abbrev pub two_files : List ℕ → List ℕ → Contents
 two_files database query = record { database = database; query = query; edits = [] }
 
-abbrev pub contents_at : List File → Identifier → Identifier → Contents
-contents_at held database query = two_files (content_of held database) (content_of held query)
+abbrev pub contents_at : List File → FilesAsked → Contents
+contents_at held of = two_files (content_of held of.database) (content_of held of.query)
 
 -- those that files hold; a task that reads no query or no edits has no bytes of them
 abbrev pub contents_of : List File → Task → Contents
-contents_of held (ask database query cap way tense canon civil) = contents_at held database query
-contents_of held (decide database query cap way tense civil) = contents_at held database query
-contents_of held (list database query from to limit after json cap way tense civil) = contents_at held database query
-contents_of held (explain database query way tense civil) = contents_at held database query
+contents_of held (ask of cap canon) = contents_at held of
+contents_of held (decide of cap dates) = contents_at held of
+contents_of held (list of from to limit after json cap) = contents_at held of
+contents_of held (count of from to cap) = contents_at held of
+contents_of held (ranges of from to limit json cap) = contents_at held of
+contents_of held (explain of) = contents_at held of
 contents_of held (check database civil) = two_files (content_of held database) []
-contents_of held (watch database query edits cap) = record { database = content_of held database; query = content_of held query; edits = content_of held edits }
+contents_of held (watch database query edits cap way auto) = record { database = content_of held database; query = content_of held query; edits = content_of held edits }
 contents_of held (sample seed size) = two_files [] []
 
 -- where the shelf tells its files, they are those that these hold
@@ -78,17 +79,17 @@ pub record WhereWithinLimits (way : Planning) (Holds : List Relation → Questio
   pub holds : Holds db q
 
 -- there are a database and a query over it within the limits where it is planned by this way, and of them this holds
-abbrev pub Asking : Planning → Bool → Bool → Contents → (List Relation → Question → Type 0) → Type 0
-Asking way tense civil files Holds = OverDatabase civil files (OverQuery tense files (WhereWithinLimits way Holds))
+abbrev pub Asking : FilesAsked → Contents → (List Relation → Question → Type 0) → Type 0
+Asking of files Holds = OverDatabase of.civil files (OverQuery of.tense files (WhereWithinLimits of.way Holds))
 
 -- the edits' bytes are at most 16,777,216 and the text of these edits of the relations
 pub record SaysTheseEdits (files : Contents) (db : List Relation) (edits : List Edit) : Type 0 where
   pub short : length files.edits ≤ most_bytes
   pub is : SaysEdits files.edits db edits
 
--- the query is in kept form, and of it this holds
-pub record WhereKept (Holds : List Relation → Question → Type 0) (db : List Relation) (q : Question) : Type 0 where
-  pub kept : is_kept q ≡ true
+-- the query is in kept form or may have another, and of it this holds
+pub record WhereFit (auto : Bool) (Holds : List Relation → Question → Type 0) (db : List Relation) (q : Question) : Type 0 where
+  pub fit : (is_kept q || auto) ≡ true
   pub holds : Holds db q
 
 -- there are edits of the relations, and of them this holds
@@ -97,10 +98,10 @@ pub record OverEdits (files : Contents) (Holds : List Relation → Question → 
   pub says : SaysTheseEdits files db edits
   pub holds : Holds db q edits
 
--- there are a database and a query over it in kept form, and of them this holds
-abbrev pub Keeping : Contents → (List Relation → Question → Type 0) → Type 0
-Keeping files Holds = OverDatabase false files (OverQuery false files (WhereKept Holds))
+-- there are a database and a query over it in kept form, or in any where the flag is set, and of them this holds
+abbrev pub Keeping : Bool → Contents → (List Relation → Question → Type 0) → Type 0
+Keeping auto files Holds = OverDatabase false files (OverQuery false files (WhereFit auto Holds))
 
 -- and edits of the database
-abbrev pub Watching : Contents → (List Relation → Question → List Edit → Type 0) → Type 0
-Watching files Holds = Keeping files (OverEdits files Holds)
+abbrev pub Watching : Bool → Contents → (List Relation → Question → List Edit → Type 0) → Type 0
+Watching auto files Holds = Keeping auto files (OverEdits files Holds)

@@ -5,3 +5,4 @@ pub mod Reasons
 pub mod Pairs
 pub mod Following
 pub mod SameAnswers
+pub mod Numbers

@@ -1,14 +1,13 @@
 -- For each status why a run ended so.
-use Rattle.std.specs.Prelude.{◌≡◌, ◌≢◌, ◌⊎◌, ℕ, ◌<◌, Bool, true, false, List, length, Option, Some, None}
+use Rattle.std.specs.Prelude.{◌≡◌, ◌⊎◌, ℕ, ◌<◌, Bool, false, ◌||◌, List, length, Option, Some, None}
 use Rattle.lrp_io.specs.Causes.{Rose}
-use Rattle.lrp_words.specs.Commands.{Task}
-use Rattle.lrp_words.specs.Commands.Task.{ask, decide, list, explain, check, watch, sample}
+use Rattle.lrp_words.specs.Commands.{FilesAsked, Task}
+use Rattle.lrp_words.specs.Commands.Task.{ask, decide, list, count, ranges, explain, check, watch, sample}
 use Rattle.lrp_model.specs.Caps.{IsFirstMany}
 use Rattle.lrp_model.specs.DatabaseReading.{IsDatabaseFault}
 use Rattle.lrp_model.specs.Formulas.{Question}
 use Rattle.lrp_model.specs.Periods.{period}
 use Rattle.lrp_model.specs.Plans.{scaled_reach}
-use Rattle.lrp_model.specs.Sorts.{time_count}
 use Rattle.lrp_model.specs.Texts.{Identifier, Text}
 use Rattle.lrp_model.specs.declared.faults.DbFault.{DbFault}
 use Rattle.lrp_model.specs.declared.faults.QueryFault.{QueryFault}
@@ -20,6 +19,10 @@ use Rattle.lrp_kept.specs.KeptForm.{is_kept}
 use Rattle.lrp_token.specs.Reading.{IsNoToken, HasOtherCounts}
 use Rattle.lrp_top.specs.Canonical.{HasCanonicalRows}
 use Rattle.lrp_outputs.specs.Outcomes.{line_of}
+use Rattle.lrp_outputs.specs.declared.head.HeadNeed.{HeadNeed}
+use Rattle.lrp_outputs.specs.declared.head.HeadNeed.TheVariants as needs
+use Rattle.lrp_outputs.specs.declared.head.HeadNeed.TheVariants.{Canon}
+use Rattle.lrp_top.specs.Heads.{IsMetBy, canon_need}
 use Rattle.lrp_top.specs.Resuming.{IsStale, shape_of}
 use Rattle.lrp_top.specs.Seen.{ShelfSeen, SinkSeen, HasFailed}
 use Rattle.lrp_top.specs.Written.{IsFaultyAs, plain_if}
@@ -33,19 +36,23 @@ use Rattle.lrp_model.specs.Limits.{most_bytes, greatest_number}
 
 -- of a task that reads a database: this holds of whether times are civil ones
 abbrev pub OfDatabase : (Bool → Type 0) → Task → Type 0
-OfDatabase Holds (ask database query cap way tense canon civil) = Holds civil
-OfDatabase Holds (decide database query cap way tense civil) = Holds civil
-OfDatabase Holds (list database query from to limit after json cap way tense civil) = Holds civil
-OfDatabase Holds (explain database query way tense civil) = Holds civil
+OfDatabase Holds (ask of cap canon) = Holds of.civil
+OfDatabase Holds (decide of cap dates) = Holds of.civil
+OfDatabase Holds (list of from to limit after json cap) = Holds of.civil
+OfDatabase Holds (count of from to cap) = Holds of.civil
+OfDatabase Holds (ranges of from to limit json cap) = Holds of.civil
+OfDatabase Holds (explain of) = Holds of.civil
 OfDatabase Holds (check database civil) = Holds civil
 OfDatabase Holds _ = ⊥
 
--- of a task that asks a query: this holds of how the query is planned, of whether a canonical answer is asked for, of whether it may have temporal operators and times are civil ones, of the token and of the cap
-abbrev pub OfQuery : (Planning → Bool → Bool → Bool → Option Text → Option ℕ → Type 0) → Task → Type 0
-OfQuery Holds (ask database query cap way tense canon civil) = Holds way canon tense civil None (Some cap)
-OfQuery Holds (decide database query cap way tense civil) = Holds way false tense civil None (Some cap)
-OfQuery Holds (list database query from to limit after json cap way tense civil) = Holds way false tense civil after (Some cap)
-OfQuery Holds (explain database query way tense civil) = Holds way false tense civil None None
+-- of a task that asks a query: this holds of its files, of what its head needs, of the token and of the cap
+abbrev pub OfQuery : (FilesAsked → Option HeadNeed → Option Text → Option ℕ → Type 0) → Task → Type 0
+OfQuery Holds (ask of cap canon) = Holds of (canon_need canon) None (Some cap)
+OfQuery Holds (decide of cap dates) = Holds of None None (Some cap)
+OfQuery Holds (list of from to limit after json cap) = Holds of None after (Some cap)
+OfQuery Holds (count of from to cap) = Holds of (Some needs.Count) None (Some cap)
+OfQuery Holds (ranges of from to limit json cap) = Holds of (Some needs.Ranges) None (Some cap)
+OfQuery Holds (explain of) = Holds of None None None
 OfQuery Holds _ = ⊥
 
 -- the database's bytes are too many, or their text has a fault
@@ -65,13 +72,14 @@ abbrev pub IsNoTokenOf : List ℕ → Option Text → List Relation → Question
 IsNoTokenOf digest None db q = ⊥
 IsNoTokenOf digest (Some text) db q = IsNoToken text ⊎ HasOtherCounts text (shape_of q.head) ⊎ IsStale digest q.head text
 
--- a canonical answer is asked for, and the head has another number of time columns than one
-abbrev pub HasOtherHead : Bool → Question → Type 0
-HasOtherHead canon q = (canon ≡ true) × (time_count q.head ≢ 1)
+-- the head hasn't the columns that are needed
+abbrev pub HasOtherHead : Option HeadNeed → Question → Type 0
+HasOtherHead None q = ⊥
+HasOtherHead (Some need) q = IsMetBy need q.head → ⊥
 
 -- the head or the token is refused
-abbrev pub IsRefusedBehind : Bool → List ℕ → Option Text → List Relation → Question → Type 0
-IsRefusedBehind canon digest after db q = HasOtherHead canon q ⊎ IsNoTokenOf digest after db q
+abbrev pub IsRefusedBehind : Option HeadNeed → List ℕ → Option Text → List Relation → Question → Type 0
+IsRefusedBehind need digest after db q = HasOtherHead need q ⊎ IsNoTokenOf digest after db q
 
 -- a step of the plan by this way has more than cap cells; this is the first
 abbrev pub HasMany : Planning → Option ℕ → List Relation → Question → Type 0
@@ -84,23 +92,23 @@ HasManyRows None db q = ⊥
 HasManyRows (Some cap) db q = (n : ℕ) × HasCanonicalRows db q n × (cap < n)
 
 -- the period is above the greatest number, the scaled reach of the plan by this way is, a step has more than cap cells, or a canonical answer is asked for and has more than cap rows
-abbrev pub IsAboveLimits : Planning → Bool → Option ℕ → List Relation → Question → Type 0
-IsAboveLimits way canon cap db q = (greatest_number < period db q.body) ⊎ (greatest_number < scaled_reach (plan_by way db q) q) ⊎ HasMany way cap db q ⊎ ((canon ≡ true) × HasManyRows cap db q)
+abbrev pub IsAboveLimits : Planning → Option HeadNeed → Option ℕ → List Relation → Question → Type 0
+IsAboveLimits way need cap db q = (greatest_number < period db q.body) ⊎ (greatest_number < scaled_reach (plan_by way db q) q) ⊎ HasMany way cap db q ⊎ ((need ≡ Some Canon) × HasManyRows cap db q)
 
--- there is no database; or, for a watch, there are one and a query over it in kept form, and there are no edits
+-- there is no database; or, for a watch, there are one and a query over it in kept form, or in any where that is asked for, and there are no edits
 abbrev pub IsDatabaseRefused : Contents → Task → Type 0
-IsDatabaseRefused files (watch database query edits cap) = IsNoDatabase files false ⊎ Keeping files (AreNoEdits files)
+IsDatabaseRefused files (watch database query edits cap way auto) = IsNoDatabase files false ⊎ Keeping auto files (AreNoEdits files)
 IsDatabaseRefused files task = OfDatabase (IsNoDatabase files) task
 
 -- there is no query over the database; or there is, and the head or the token is refused, or for a watch its form
 abbrev pub IsQueryRefused : Contents → Task → Type 0
-IsQueryRefused files (watch database query edits cap) = OverDatabase false files (λ db. IsNoQuery files false db ⊎ OverQuery false files (λ db q. is_kept q ≡ false) db)
-IsQueryRefused files task = OfQuery (λ way canon tense civil after cap. OverDatabase civil files (λ db. IsNoQuery files tense db ⊎ OverQuery tense files (IsRefusedBehind canon (digest_of files) after) db)) task
+IsQueryRefused files (watch database query edits cap way auto) = OverDatabase false files (λ db. IsNoQuery files false db ⊎ OverQuery false files (λ db q. (is_kept q || auto) ≡ false) db)
+IsQueryRefused files task = OfQuery (λ of need after cap. OverDatabase of.civil files (λ db. IsNoQuery files of.tense db ⊎ OverQuery of.tense files (IsRefusedBehind need (digest_of files) after) db)) task
 
 -- there is a query over the database, and it is above a limit, or for a watch some edit is
 abbrev pub IsQueryAbove : Contents → Task → Type 0
-IsQueryAbove files (watch database query edits cap) = Watching files (PassesLimit cap)
-IsQueryAbove files task = OfQuery (λ way canon tense civil after cap. OverDatabase civil files (OverQuery tense files (IsAboveLimits way canon cap))) task
+IsQueryAbove files (watch database query edits cap way auto) = Watching auto files (PassesLimit way cap)
+IsQueryAbove files task = OfQuery (λ of need after cap. OverDatabase of.civil files (OverQuery of.tense files (IsAboveLimits of.way need cap))) task
 
 -- the count of faults of the database's name rose; or there is a database, and that of the query's name rose
 abbrev pub HasFailedOneOf : ShelfSeen → Contents → Bool → Identifier → Identifier → Type 0
@@ -108,12 +116,14 @@ HasFailedOneOf seen files civil database query = HasFailed seen database ⊎ Ove
 
 -- a file of the task failed
 abbrev pub HasFailedFile : ShelfSeen → Contents → Task → Type 0
-HasFailedFile seen files (ask database query cap way tense canon civil) = HasFailedOneOf seen files civil database query
-HasFailedFile seen files (decide database query cap way tense civil) = HasFailedOneOf seen files civil database query
-HasFailedFile seen files (list database query from to limit after json cap way tense civil) = HasFailedOneOf seen files civil database query
-HasFailedFile seen files (explain database query way tense civil) = HasFailedOneOf seen files civil database query
+HasFailedFile seen files (ask of cap canon) = HasFailedOneOf seen files of.civil of.database of.query
+HasFailedFile seen files (decide of cap dates) = HasFailedOneOf seen files of.civil of.database of.query
+HasFailedFile seen files (list of from to limit after json cap) = HasFailedOneOf seen files of.civil of.database of.query
+HasFailedFile seen files (count of from to cap) = HasFailedOneOf seen files of.civil of.database of.query
+HasFailedFile seen files (ranges of from to limit json cap) = HasFailedOneOf seen files of.civil of.database of.query
+HasFailedFile seen files (explain of) = HasFailedOneOf seen files of.civil of.database of.query
 HasFailedFile seen files (check database civil) = HasFailed seen database
-HasFailedFile seen files (watch database query edits cap) = HasFailedOneOf seen files false database query ⊎ Keeping files (λ db q. HasFailed seen edits)
+HasFailedFile seen files (watch database query edits cap way auto) = HasFailedOneOf seen files false database query ⊎ Keeping auto files (λ db q. HasFailed seen edits)
 HasFailedFile seen files (sample seed size) = ⊥
 
 -- why a run of the task ended so; want of memory has no cause, and its line is written

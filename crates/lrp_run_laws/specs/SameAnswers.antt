@@ -1,12 +1,11 @@
 -- Runs that told the canonical answers of two queries with the same answers.
-use Rattle.std.specs.Prelude.{◌≡◌, ◌↔◌, ℕ, Bool, true, List}
+use Rattle.std.specs.Prelude.{◌≡◌, ◌↔◌, ℕ, true, List}
 use Rattle.lrp_io.specs.declared.shelf.File.{File}
+use Rattle.lrp_words.specs.Commands.{FilesAsked}
 use Rattle.lrp_words.specs.Commands.Task.{ask}
 use Rattle.lrp_model.specs.Formulas.{Question}
 use Rattle.lrp_model.specs.Rows.{Tuple}
 use Rattle.lrp_model.specs.Satisfaction.{IsAnswer}
-use Rattle.lrp_model.specs.Texts.{Identifier}
-use Rattle.lrp_model.specs.declared.plans.Planning.{Planning}
 use Rattle.lrp_model.specs.declared.relations.Relation.{Relation}
 use Rattle.lrp_outputs.specs.declared.status.Status.TheVariants as status
 use Rattle.lrp_run_laws.specs.Contents.{contents_at, SaysQuestion, SaysRelations}
@@ -19,16 +18,12 @@ pub record HaveSameAnswers (db further : List Relation) (q r : Question) : Type 
 
 -- a run that asks for the canonical answer by some way of planning, over files that say these relations and this query, ended with Done
 pub record HasToldCanonical (run : Run) (db : List Relation) (q : Question) : Type 0 where
-  pub database : Identifier
-  pub query : Identifier
+  pub of : FilesAsked
   pub cap : ℕ
-  pub way : Planning
-  pub tense : Bool
-  pub civil : Bool
   pub held : List File
-  pub is : IsRunOf (ask database query cap way tense true civil) held run
-  pub relations : SaysRelations civil (contents_at held database query) db
-  pub question : SaysQuestion tense (contents_at held database query) db q
+  pub is : IsRunOf (ask of cap true) held run
+  pub relations : SaysRelations of.civil (contents_at held of) db
+  pub question : SaysQuestion of.tense (contents_at held of) db q
   pub done : run.ended ≡ status.Done
 
 -- both wrote the same bytes, and nothing else

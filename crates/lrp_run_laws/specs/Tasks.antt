@@ -1,7 +1,7 @@
 -- Tasks to which no refusal applies, and the output of a task.
 use Rattle.std.specs.Prelude.{◌≡◌, ◌≢◌, ◌≤◌, ℕ, ℤ, Bool, true, false, List, Option, Ok}
 use Rattle.lrp_words.specs.Commands.{Task}
-use Rattle.lrp_words.specs.Commands.Task.{ask, decide, list, explain, check, watch, sample}
+use Rattle.lrp_words.specs.Commands.Task.{ask, decide, list, count, ranges, explain, check, watch, sample}
 use Rattle.lrp_model.specs.AnswerTexts.{IsAnswerText}
 use Rattle.lrp_model.specs.Caps.{ManyAt}
 use Rattle.lrp_model.specs.Formulas.{Question}
@@ -16,11 +16,15 @@ use Rattle.lrp_plan_laws.specs.GuardedPlans.{plan_by}
 use Rattle.lrp_edits.specs.declared.edits.Edit.{Edit}
 use Rattle.lrp_keep.specs.declared.faults.KeepFault.{KeepFault}
 use Rattle.lrp_keep.specs.declared.faults.KeepFault.TheVariants as limit
-use Rattle.lrp_watch.specs.Watching.{IsPassed, TellsLeasts}
+use Rattle.lrp_kept.specs.KeptForm.{is_kept}
+use Rattle.lrp_top.specs.Watched.{IsPassedBy, TellsLeastsBy}
 use Rattle.lrp_top.specs.Canonical.{HasCanonicalRows, IsCanonicalText}
+use Rattle.lrp_outputs.specs.declared.head.HeadNeed.{HeadNeed}
+use Rattle.lrp_outputs.specs.declared.head.HeadNeed.TheVariants as needs
+use Rattle.lrp_top.specs.Heads.{IsMetBy}
 use Rattle.lrp_top.specs.Resuming.{IsResumed}
 use Rattle.lrp_top.specs.Sampled.{TellsSample}
-use Rattle.lrp_top.specs.Telling.{TellsPage, TellsPlan, TellsRelations, TellsWitness}
+use Rattle.lrp_top.specs.Telling.{TellsNumber, TellsPage, TellsPlan, TellsRanges, TellsRelations, TellsWitness}
 use Rattle.lrp_run_laws.specs.Contents.{Contents, digest_of, OverDatabase, Asking, Watching}
 
 -- ---- lawful tasks
@@ -40,12 +44,17 @@ abbrev pub IsAnswerable : Planning → Bool → ℕ → List Relation → Questi
 IsAnswerable way false cap db q = HasFewCells way cap db q
 IsAnswerable way true cap db q = HasFewCells way cap db q × (time_count q.head ≡ 1) × ((n : ℕ) × HasCanonicalRows db q n × (n ≤ cap))
 
+-- the head has the columns that are needed, and no step has more than cap inhabited cells
+pub record IsTellable (need : HeadNeed) (way : Planning) (cap : ℕ) (db : List Relation) (q : Question) : Type 0 where
+  pub head : IsMetBy need q.head
+  pub few : HasFewCells way cap db q
+
 -- at some edit a limit is passed, the opening being edit 0
-pub record PassesLimit (cap : ℕ) (db : List Relation) (q : Question) (edits : List Edit) : Type 0 where
+pub record PassesLimit (way : Planning) (cap : ℕ) (db : List Relation) (q : Question) (edits : List Edit) : Type 0 where
   pub number : ℕ
   pub passed : KeepFault
   pub some : passed ≢ limit.Memory
-  pub is : IsPassed db q edits cap number passed
+  pub is : IsPassedBy (is_kept q) way db q edits cap number passed
 
 -- the text is that of all answers, as they come or in canonical form
 abbrev pub IsTextFor : Bool → List Relation → Question → List ℕ → Type 0
@@ -54,12 +63,14 @@ IsTextFor true = IsCanonicalText
 
 -- no refusal applies to the task; none ever does to the sample
 abbrev pub IsLawfulTask : Task → Contents → Type 0
-IsLawfulTask (ask database query cap way tense canon civil) files = Asking way tense civil files (IsAnswerable way canon cap)
-IsLawfulTask (decide database query cap way tense civil) files = Asking way tense civil files (HasFewCells way cap)
-IsLawfulTask (list database query from to limit after json cap way tense civil) files = Asking way tense civil files (IsResumable way cap after (digest_of files))
-IsLawfulTask (explain database query way tense civil) files = Asking way tense civil files (λ db q. Unit {0})
+IsLawfulTask (ask of cap canon) files = Asking of files (IsAnswerable of.way canon cap)
+IsLawfulTask (decide of cap dates) files = Asking of files (HasFewCells of.way cap)
+IsLawfulTask (list of from to limit after json cap) files = Asking of files (IsResumable of.way cap after (digest_of files))
+IsLawfulTask (count of from to cap) files = Asking of files (IsTellable needs.Count of.way cap)
+IsLawfulTask (ranges of from to limit json cap) files = Asking of files (IsTellable needs.Ranges of.way cap)
+IsLawfulTask (explain of) files = Asking of files (λ db q. Unit {0})
 IsLawfulTask (check database civil) files = OverDatabase civil files (λ db. Unit {0})
-IsLawfulTask (watch database query edits cap) files = Watching files (λ db q these. PassesLimit cap db q these → ⊥)
+IsLawfulTask (watch database query edits cap way auto) files = Watching auto files (λ db q these. PassesLimit way cap db q these → ⊥)
 IsLawfulTask (sample seed size) files = Unit {0}
 
 -- ---- the output of a task
@@ -78,11 +89,12 @@ pub record TellsPlanOf (way : Planning) (output : List ℕ) (db : List Relation)
 
 -- the bytes are the task's output over the contents of its files
 abbrev pub IsOutputOf : Task → Contents → List ℕ → Type 0
-IsOutputOf (ask database query cap way tense canon civil) files output = Asking way tense civil files (λ db q. IsTextFor canon db q output)
-IsOutputOf (decide database query cap way tense civil) files output = Asking way tense civil files (λ db q. TellsWitness db q output)
-IsOutputOf (list database query from to limit after json cap way tense civil) files output =
-    Asking way tense civil files (TellsPageBehind from to limit after civil json (digest_of files) output)
-IsOutputOf (explain database query way tense civil) files output = Asking way tense civil files (TellsPlanOf way output)
+IsOutputOf (ask of cap canon) files output = Asking of files (λ db q. IsTextFor canon db q output)
+IsOutputOf (decide of cap dates) files output = Asking of files (λ db q. TellsWitness dates db q output)
+IsOutputOf (list of from to limit after json cap) files output = Asking of files (TellsPageBehind from to limit after of.civil json (digest_of files) output)
+IsOutputOf (count of from to cap) files output = Asking of files (λ db q. TellsNumber db q from to output)
+IsOutputOf (ranges of from to limit json cap) files output = Asking of files (λ db q. TellsRanges db q from to limit of.civil json output)
+IsOutputOf (explain of) files output = Asking of files (TellsPlanOf of.way output)
 IsOutputOf (check database civil) files output = OverDatabase civil files (λ db. TellsRelations db output)
-IsOutputOf (watch database query edits cap) files output = Watching files (λ db q these. TellsLeasts db q these cap output)
+IsOutputOf (watch database query edits cap way auto) files output = Watching auto files (λ db q these. TellsLeastsBy (is_kept q) way db q these cap output)
 IsOutputOf (sample seed size) files output = TellsSample seed size output

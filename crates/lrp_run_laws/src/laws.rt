@@ -1,20 +1,23 @@
 // What holds of whole runs: each law is the contract of a function that does nothing but call the laws that it rests on.
-ghost use Rattle.std.specs.Prelude.{◌≡◌, ℕ, ℤ, Bool, List, Option};
+ghost use Rattle.std.specs.Prelude.{◌≡◌, ◌≤ℤ◌, ◌+ℤ◌, ℕ, ℤ, Bool, List, Option, pos};
 ghost use Rattle.lrp_io.specs.declared.shelf.File.{File};
 ghost use Rattle.lrp_words.specs.Commands.{Task};
 ghost use Rattle.lrp_model.specs.Formulas.{Question};
 ghost use Rattle.lrp_model.specs.Rows.{Tuple};
+ghost use Rattle.lrp_model.specs.Sorts.{time_count};
 ghost use Rattle.lrp_model.specs.declared.relations.Relation.{Relation};
 ghost use Rattle.lrp_top.specs.Canonical.{HasCanonicalRows};
 ghost use Rattle.lrp_run_laws.specs.Contents.{Contents, contents_of, digest_of, SaysQuestion, SaysRelations};
 ghost use Rattle.lrp_run_laws.specs.Tasks.{IsLawfulTask};
 ghost use Rattle.lrp_run_laws.specs.Runs.{HaveStoodStill, IsComplete, IsRunOf, MayHappen, Run};
 ghost use Rattle.lrp_run_laws.specs.Reasons.{HasReason};
+ghost use Rattle.lrp_run_laws.specs.Numbers.{HasToldNumber, HaveAddedUp};
 ghost use Rattle.lrp_run_laws.specs.Pairs.{EndedAlike, IsDecidedByFiles};
 ghost use Rattle.lrp_run_laws.specs.SameAnswers.{HasToldCanonical, HaveSameAnswers, WroteAlike};
 ghost use Rattle.lrp_run_laws.specs.Following.{IsFollowed, IsShortWindow, IsUnfinished};
 
 use lrp_canon::{answer_texts_are_unique, answers_have_one_row_count};
+use lrp_count::{ranges_are_unique, sizes_add, sizes_are_unique};
 use lrp_edits::{edits_are_one, edits_have_no_fault, edits_have_one_fault};
 use lrp_eval::counts_are_unique;
 use lrp_model::{
@@ -87,6 +90,8 @@ pub fn runs_have_one_outcome()
     counts_are_unique();
     row_counts_are_unique();
     answer_texts_are_unique();
+    sizes_are_unique();
+    ranges_are_unique();
 }
 
 /// A query has one number of canonical rows.
@@ -121,6 +126,29 @@ pub fn equal_answers_equal_bytes()
     tense_queries_have_no_fault();
     well_sorted_queries_have_no_fault();
     answer_texts_are_unique();
+}
+
+/// Of a query with one time column, the number of answers in a window is the sum of those of two windows that make it up, as
+/// three runs told them.
+pub fn numbers_add_up()
+    ensures { (one next whole : Run) (db : List Relation) (q : Question) (from middle to : ℤ)
+        → time_count q.head ≡ 1
+        → from ≤ℤ middle
+        → middle ≤ℤ to
+        → HasToldNumber one db q from middle
+        → HasToldNumber next db q (middle +ℤ pos 1) to
+        → HasToldNumber whole db q from to
+        → HaveAddedUp one next whole }
+{
+    texts_are_of_one_database();
+    databases_have_no_fault();
+    texts_are_of_one_query();
+    queries_have_no_fault();
+    texts_are_one_query();
+    tense_queries_have_no_fault();
+    well_sorted_queries_have_no_fault();
+    sizes_are_unique();
+    sizes_add();
 }
 
 /// Of a page of what two files ask, behind which more is to come, the token of the last tuple and of these files is resumed

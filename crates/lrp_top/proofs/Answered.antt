@@ -6,7 +6,6 @@ use Rattle.lrp_model.specs.Texts.{Text}
 use Rattle.lrp_model.specs.Formulas.{Question}
 use Rattle.lrp_model.specs.Pages.{IsAhead, IsPage}
 use Rattle.lrp_model.specs.Rows.{Tuple}
-use Rattle.lrp_model.specs.PrintedPages.{plain_line}
 use Rattle.lrp_model.specs.Periods.{period}
 use Rattle.lrp_model.specs.Plans.{query_reach, scaled_reach}
 use Rattle.lrp_model.specs.Sorts.{time_count}
@@ -32,6 +31,7 @@ use Rattle.lrp_eval.specs.Answered.{IsAnswerOf}
 use Rattle.lrp_top.proofs.Lists.{in_map}
 use Rattle.lrp_outputs.specs.Spots.{HasKnownTexts}
 use Rattle.lrp_outputs.specs.Outputs.{spot_text}
+use Rattle.lrp_outputs.specs.First.{least_line}
 use Rattle.lrp_top.specs.Telling.{TellsWitness}
 
 -- ---- room for the least answer
@@ -96,18 +96,18 @@ period_of steps db q cap a is last = let same : pos a.store.period ≡ pos (peri
 abbrev pub StandForTuples : Type 0
 StandForTuples = (columns : List Column) (shape : Shape) (domain : List Text) (spot : Spot) (tuple : Tuple) → HasShape columns tuple → StandsFor shape domain spot tuple → spot_tuple columns shape domain spot ≡ tuple
 
-module _ (stood : StandForTuples) (steps : Steps) (db : List Relation) (q : Question) (cap : ℕ) (a : Answer) (is : IsAnswerOf steps db q cap a) where
-  pub told_none : ((tuple : Tuple) → InAnswer a.head.columns a.domain a.store tuple → ⊥) → TellsWitness db q (spot_text a None)
+module _ (stood : StandForTuples) (steps : Steps) (db : List Relation) (q : Question) (cap : ℕ) (a : Answer) (is : IsAnswerOf steps db q cap a) (dates : Bool) where
+  pub told_none : ((tuple : Tuple) → InAnswer a.head.columns a.domain a.store tuple → ⊥) → TellsWitness dates db q (spot_text dates a None)
   told_none none = inl (record { none = λ tuple h. none tuple ((is.answers tuple).1 h); spelled = refl })
 
-  pub told_some : (spot : Spot) → IsLeastSpot a.head.columns a.domain a.store spot → TellsWitness db q (spot_text a (Some spot))
+  pub told_some : (spot : Spot) → IsLeastSpot a.head.columns a.domain a.store spot → TellsWitness dates db q (spot_text dates a (Some spot))
   told_some spot l = inr (record {
     tuple = l.tuple;
     least = record { is = (is.answers l.tuple).0 l.least.is; first = λ other h. l.least.first other ((is.answers other).1 h) };
-    spelled = ap (λ (t : Tuple). codes "Nonempty\n" ++ plain_line t) (stood a.head.columns a.store.shape a.domain spot l.tuple l.least.is.shape l.stands);
+    spelled = ap (λ (t : Tuple). codes "Nonempty\n" ++ least_line dates t) (stood a.head.columns a.store.shape a.domain spot l.tuple l.least.is.shape l.stands);
   })
 
-  pub told_least : (o : Option Spot) → IfNone o ((tuple : Tuple) → InAnswer a.head.columns a.domain a.store tuple → ⊥) → IfSome o (λ spot. IsLeastSpot a.head.columns a.domain a.store spot) → TellsWitness db q (spot_text a o)
+  pub told_least : (o : Option Spot) → IfNone o ((tuple : Tuple) → InAnswer a.head.columns a.domain a.store tuple → ⊥) → IfSome o (λ spot. IsLeastSpot a.head.columns a.domain a.store spot) → TellsWitness dates db q (spot_text dates a o)
   told_least None n s = told_none n
   told_least (Some spot) n s = told_some spot s
 

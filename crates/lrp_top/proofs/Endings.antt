@@ -6,7 +6,7 @@ use Rattle.lrp_outputs.specs.Outcomes.{Outcome, refused_with, status_of, written
 use Rattle.lrp_outputs.specs.declared.status.Status.{Status}
 use Rattle.lrp_outputs.specs.declared.status.Status.TheVariants as status
 use Rattle.lrp_outputs.specs.declared.refusal.Refusal.{Refusal}
-use Rattle.lrp_outputs.specs.declared.refusal.Refusal.TheVariants.{Usage, ReadDatabase, LongDatabase, Database, ReadQuery, LongQuery, Query, PeriodLimit, BoundLimit, TokenForm, TokenShape, TokenStale, Cells, CanonHead, CanonRows, Watch, Memory}
+use Rattle.lrp_outputs.specs.declared.refusal.Refusal.TheVariants.{Usage, ReadDatabase, LongDatabase, Database, ReadQuery, LongQuery, Query, PeriodLimit, BoundLimit, TokenForm, TokenShape, TokenStale, Cells, Head, CanonRows, Watch, Memory}
 use Rattle.lrp_outputs.specs.declared.watch_refusal.WatchRefusal.TheVariants as watch
 use Rattle.lrp_top.specs.Ends.{Ends}
 use Rattle.lrp_top.specs.Seen.{SinkSeen}
@@ -26,7 +26,7 @@ refused_whole TokenForm e = cc
 refused_whole TokenShape e = cc
 refused_whole TokenStale e = cc
 refused_whole (Cells cap step) e = cc
-refused_whole CanonHead e = cc
+refused_whole (Head need) e = cc
 refused_whole (CanonRows cap) e = cc
 refused_whole (Watch watch.NotKept) e = cc
 refused_whole (Watch watch.Read) e = cc

@@ -4,6 +4,7 @@ pub mod AskingLemmas
 pub mod CanonSets
 pub mod CanonTuples
 pub mod CivilSpots
+pub mod Counted
 pub mod Endings
 pub mod FileLemmas
 pub mod HeadCounts

@@ -2,33 +2,36 @@
 use Rattle.std.specs.Prelude.{◌≡◌, ◌≢◌, ℕ, ℤ, Bool, true, false, ◌<◌, ◌≤◌, List, [], ◌∷◌, length, map, Option, Some, None, Result, Ok, Err, String, string_bytes}
 use Rattle.std.specs.List.{AllByRecursion}
 use Rattle.std.specs.declared.alloc.Global.{Global}
-use Rattle.lrp_words.specs.Commands.{Task, command}
-use Rattle.lrp_words.specs.Commands.Task.{ask, decide, list, explain, check, watch, sample}
+use Rattle.lrp_words.specs.Commands.{FilesAsked, Task, command}
+use Rattle.lrp_words.specs.Commands.Task.{ask, decide, list, count, ranges, explain, check, watch, sample}
 use Rattle.lrp_model.specs.AnswerTexts.{IsAnswerText}
 use Rattle.lrp_model.specs.Caps.{IsFirstMany, ManyAt}
 use Rattle.lrp_model.specs.DatabaseReading.{IsDatabase, IsDatabaseFault}
 use Rattle.lrp_model.specs.Formulas.{Question}
 use Rattle.lrp_model.specs.Plans.{IsPlan, HasLongPeriod, HasFarReach, IsWithinLimits}
-use Rattle.lrp_model.specs.Sorts.{time_count}
 use Rattle.lrp_model.specs.Texts.{Identifier, Text}
 use Rattle.lrp_model.specs.declared.plans.Plan.{Plan}
 use Rattle.lrp_model.specs.declared.plans.Planning.{Planning}
 use Rattle.lrp_model.specs.declared.relations.Relation.{Relation}
 use Rattle.lrp_plan_laws.specs.GuardedPlans.{plan_by}
+use Rattle.lrp_kept.specs.KeptForm.{is_kept}
 use Rattle.lrp_token.specs.Files.{files_digest}
 use Rattle.lrp_top.specs.Canonical.{HasCanonicalRows, IsCanonicalText}
 use Rattle.lrp_outputs.specs.Outcomes.{Outcome}
 use Rattle.lrp_top.specs.Ends.{Ends}
+use Rattle.lrp_top.specs.Heads.{IsHeadFit, canon_need}
 use Rattle.lrp_top.specs.Resuming.{IsResumed}
 use Rattle.lrp_top.specs.Sampled.{TellsSample}
 use Rattle.lrp_top.specs.Seen.{ShelfSeen, SinkSeen, HasFailed, IsOverrun}
 use Rattle.lrp_top.specs.Sources.{Source, FromFile}
 use Rattle.lrp_top.specs.Steps.{Then}
-use Rattle.lrp_top.specs.Telling.{TellsPage, TellsPlan, TellsRelations, TellsWitness}
-use Rattle.lrp_top.specs.Watched.{AreEditsRead, IsKeptForm, IsWatched}
+use Rattle.lrp_top.specs.Telling.{TellsNumber, TellsPage, TellsPlan, TellsRanges, TellsRelations, TellsWitness}
+use Rattle.lrp_top.specs.Watched.{AreEditsRead, IsFormFit, IsWatched}
 use Rattle.lrp_top.specs.Written.{IsFaultyAs, IsSortedAs, plain_if}
+use Rattle.lrp_outputs.specs.declared.head.HeadNeed.{HeadNeed}
+use Rattle.lrp_outputs.specs.declared.head.HeadNeed.TheVariants as needs
 use Rattle.lrp_outputs.specs.declared.refusal.Refusal.{Refusal}
-use Rattle.lrp_outputs.specs.declared.refusal.Refusal.TheVariants.{Usage, ReadDatabase, LongDatabase, Database, ReadQuery, LongQuery, Query, PeriodLimit, BoundLimit, Cells, CanonHead, CanonRows, Watch, Memory}
+use Rattle.lrp_outputs.specs.declared.refusal.Refusal.TheVariants.{Usage, ReadDatabase, LongDatabase, Database, ReadQuery, LongQuery, Query, PeriodLimit, BoundLimit, Cells, CanonRows, Watch, Memory}
 use Rattle.lrp_outputs.specs.declared.watch_refusal.WatchRefusal.TheVariants as watch_refusal
 use Rattle.lrp_outputs.specs.declared.status.Status.{Status}
 use Rattle.lrp_model.specs.Limits.{most_bytes}
@@ -61,13 +64,6 @@ IsQueryReadOf tense db seen name bytes (Err _) = ⊥
 abbrev pub IsQueryRead : Bool → List Relation → ShelfSeen → Identifier → Result (Source Question) Refusal → Type 0
 IsQueryRead tense db seen name = FromFile seen name (IsQueryReadOf tense db seen name)
 
--- the head is looked at where a canonical answer is asked for. Ok: it has one time column, or none is asked for. Refused: it has another number of them
-abbrev pub IsHeadFit : Bool → Question → Result (Unit {0}) Refusal → Type 0
-IsHeadFit false q result = result ≡ Ok tt
-IsHeadFit true q (Ok fit) = time_count q.head ≡ 1
-IsHeadFit true q (Err CanonHead) = time_count q.head ≢ 1
-IsHeadFit true q (Err _) = ⊥
-
 -- the query is planned by this way of planning. Ok: its plan. Refused: its period is above the greatest number, or that is not but the reach of its steps is, doubled once and once more for each time column of the head; or want of memory
 abbrev pub IsPlanned : Planning → List Relation → Question → Result Plan Refusal → Type 0
 IsPlanned way db q (Ok p) = IsPlan p (plan_by way db q) db q × IsWithinLimits (plan_by way db q) db q
@@ -76,9 +72,9 @@ IsPlanned way db q (Err BoundLimit) = HasFarReach (plan_by way db q) db q
 IsPlanned way db q (Err Memory) = Unit {0}
 IsPlanned way db q (Err _) = ⊥
 
--- the head is looked at, and then the query is planned; the flag says whether a canonical answer is asked for
-abbrev pub IsPlannedAs : Planning → Bool → List Relation → Question → Result Plan Refusal → Type 0
-IsPlannedAs way canon db q = Then (IsHeadFit canon q) (λ fit. IsPlanned way db q)
+-- the head is looked at for what is needed, and then the query is planned
+abbrev pub IsPlannedAs : Planning → Option HeadNeed → List Relation → Question → Result Plan Refusal → Type 0
+IsPlannedAs way need db q = Then (IsHeadFit need q) (λ fit. IsPlanned way db q)
 
 -- the cells of the steps of the plan by this way are counted. Ok: no step has more than cap. Refused: the first that has is told; or want of memory
 abbrev pub IsCounted : Planning → List Relation → Question → ℕ → Result (Unit {0}) Refusal → Type 0
@@ -113,8 +109,8 @@ IsAnswered way true cap d q p =
     Then (IsCounted way d.says q.says cap) (λ done. Then (AreRowsCounted d.says q.says cap) (λ counted. IsOutput (IsCanonicalText d.says q.says)))
 
 -- the cells are counted, and then the least answer is told, or that there is none
-abbrev pub IsDecided : Planning → ℕ → Source (List Relation) → Source Question → Plan → Outcome → Type 0
-IsDecided way cap d q p = Then (IsCounted way d.says q.says cap) (λ done. IsOutput (TellsWitness d.says q.says))
+abbrev pub IsDecided : Planning → Bool → ℕ → Source (List Relation) → Source Question → Plan → Outcome → Type 0
+IsDecided way dates cap d q p = Then (IsCounted way d.says q.says cap) (λ done. IsOutput (TellsWitness dates d.says q.says))
 
 -- the page begins where its token says, the cells are counted, and then the page of the window is told
 abbrev pub IsListed : Planning → Bool → ℤ → ℤ → ℕ → Option Text → Bool → ℕ → Source (List Relation) → Source Question → Plan → Outcome → Type 0
@@ -122,39 +118,50 @@ IsListed way civil from to limit after json cap d q p =
     let digest = files_digest d.bytes q.bytes in
     Then (IsResumed digest q.says.head after) (λ tuple. Then (IsCounted way d.says q.says cap) (λ done. IsOutput (TellsPage d.says q.says from to tuple limit civil json digest)))
 
+-- the cells are counted, and then the number of answers in the window is told
+abbrev pub IsNumberTold : Planning → ℤ → ℤ → ℕ → Source (List Relation) → Source Question → Plan → Outcome → Type 0
+IsNumberTold way from to cap d q p = Then (IsCounted way d.says q.says cap) (λ done. IsOutput (TellsNumber d.says q.says from to))
+
+-- the cells are counted, and then the answers in the window are told as ranges
+abbrev pub IsRanged : Planning → Bool → ℤ → ℤ → ℕ → Bool → ℕ → Source (List Relation) → Source Question → Plan → Outcome → Type 0
+IsRanged way civil from to limit json cap d q p = Then (IsCounted way d.says q.says cap) (λ done. IsOutput (TellsRanges d.says q.says from to limit civil json))
+
 -- ---- what is due for a task
 
--- a database is read, then a query over its relations, then the query is planned by this way, and then this is due
-abbrev pub IsPlannedFor : {B : Type 0} → Planning → Bool → Bool → Bool → ShelfSeen → Identifier → Identifier → (Source (List Relation) → Source Question → Plan → Result B Refusal → Type 0) → Result B Refusal → Type 0
-IsPlannedFor way canon tense civil seen database query Next result =
-    Then (IsDatabaseRead civil seen database) (λ d. Then (IsQueryRead tense d.says seen query) (λ q. Then (IsPlannedAs way canon d.says q.says) (Next d q))) result
+-- a database is read, then a query over its relations, then the query is planned, whose head is to have what is needed, and then this is due
+abbrev pub IsPlannedFor : {B : Type 0} → FilesAsked → Option HeadNeed → ShelfSeen → (Source (List Relation) → Source Question → Plan → Result B Refusal → Type 0) → Result B Refusal → Type 0
+IsPlannedFor of need seen Next result =
+    Then (IsDatabaseRead of.civil seen of.database) (λ d. Then (IsQueryRead of.tense d.says seen of.query) (λ q. Then (IsPlannedAs of.way need d.says q.says) (Next d q))) result
 
--- a database is read, then a query over its relations, which is to be in kept form, then edits of the database, and then they are made
-abbrev pub IsWatchedFor : ShelfSeen → Identifier → Identifier → Identifier → ℕ → Outcome → Type 0
-IsWatchedFor seen database query edits cap =
-    Then (IsDatabaseRead false seen database) (λ d. Then (IsQueryRead false d.says seen query) (λ q. Then (IsKeptForm q.says) (λ kept. Then (AreEditsRead d.says seen edits) (IsWatched d.says q.says cap))))
+-- a database is read, then a query over its relations, which is to be in kept form or may have another, then edits of the database, and then they are made
+abbrev pub IsWatchedFor : ShelfSeen → Identifier → Identifier → Identifier → ℕ → Planning → Bool → Outcome → Type 0
+IsWatchedFor seen database query edits cap way auto =
+    Then (IsDatabaseRead false seen database) (λ d. Then (IsQueryRead false d.says seen query) (λ q. Then (IsFormFit auto q.says) (λ fit. Then (AreEditsRead d.says seen edits) (IsWatched (is_kept q.says) way d.says q.says cap))))
 
 -- each task; the sample makes its own texts, and is refused for want of memory alone
 abbrev pub IsDueOf : Task → ShelfSeen → Outcome → Type 0
-IsDueOf (ask database query cap way tense canon civil) seen outcome = IsPlannedFor way canon tense civil seen database query (IsAnswered way canon cap) outcome
-IsDueOf (decide database query cap way tense civil) seen outcome = IsPlannedFor way false tense civil seen database query (IsDecided way cap) outcome
-IsDueOf (list database query from to limit after json cap way tense civil) seen outcome =
-    IsPlannedFor way false tense civil seen database query (IsListed way civil from to limit after json cap) outcome
-IsDueOf (explain database query way tense civil) seen outcome = IsPlannedFor way false tense civil seen database query IsExplained outcome
+IsDueOf (ask of cap canon) seen outcome = IsPlannedFor of (canon_need canon) seen (IsAnswered of.way canon cap) outcome
+IsDueOf (decide of cap dates) seen outcome = IsPlannedFor of None seen (IsDecided of.way dates cap) outcome
+IsDueOf (list of from to limit after json cap) seen outcome = IsPlannedFor of None seen (IsListed of.way of.civil from to limit after json cap) outcome
+IsDueOf (count of from to cap) seen outcome = IsPlannedFor of (Some needs.Count) seen (IsNumberTold of.way from to cap) outcome
+IsDueOf (ranges of from to limit json cap) seen outcome = IsPlannedFor of (Some needs.Ranges) seen (IsRanged of.way of.civil from to limit json cap) outcome
+IsDueOf (explain of) seen outcome = IsPlannedFor of None seen IsExplained outcome
 IsDueOf (check database civil) seen outcome = Then (IsDatabaseRead civil seen database) (λ d. IsOutput (TellsRelations d.says)) outcome
-IsDueOf (watch database query edits cap) seen outcome = IsWatchedFor seen database query edits cap outcome
+IsDueOf (watch database query edits cap way auto) seen outcome = IsWatchedFor seen database query edits cap way auto outcome
 IsDueOf (sample seed size) seen outcome = IsOutput (TellsSample seed size) outcome
 
 -- ---- the lengths of files
 
 -- the names of the files that a task reads
 abbrev pub files_of : Task → List Identifier
-files_of (ask database query cap way tense canon civil) = database ∷ query ∷ []
-files_of (decide database query cap way tense civil) = database ∷ query ∷ []
-files_of (list database query from to limit after json cap way tense civil) = database ∷ query ∷ []
-files_of (explain database query way tense civil) = database ∷ query ∷ []
+files_of (ask of cap canon) = of.database ∷ of.query ∷ []
+files_of (decide of cap dates) = of.database ∷ of.query ∷ []
+files_of (list of from to limit after json cap) = of.database ∷ of.query ∷ []
+files_of (count of from to cap) = of.database ∷ of.query ∷ []
+files_of (ranges of from to limit json cap) = of.database ∷ of.query ∷ []
+files_of (explain of) = of.database ∷ of.query ∷ []
 files_of (check database civil) = database ∷ []
-files_of (watch database query edits cap) = database ∷ query ∷ edits ∷ []
+files_of (watch database query edits cap way auto) = database ∷ query ∷ edits ∷ []
 files_of (sample seed size) = []
 
 -- the names of the files that words name: none where they spell no task

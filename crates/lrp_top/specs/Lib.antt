@@ -11,6 +11,7 @@ pub mod Written
 pub mod Sampled
 pub mod Canonical
 pub mod Watched
+pub mod Heads
 pub mod Due
 -- What functions inside say to one another.
 pub mod Lengths

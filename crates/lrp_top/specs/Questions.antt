@@ -27,12 +27,14 @@ use Rattle.lrp_tense.specs.Laws.{KeepsMeaning}
 use Rattle.lrp_tense.specs.Reading.{IsTenseUnread}
 use Rattle.lrp_tense.specs.TenseReading.{IsTenseQuery}
 use Rattle.lrp_tense.specs.Trees.{TenseQuestion}
-use Rattle.lrp_words.specs.Commands.{after_text}
+use Rattle.lrp_words.specs.Commands.{after_text, asked_files}
 use Rattle.lrp_words.specs.Ranges.{IsEnd}
 use Rattle.lrp_words.specs.declared.command.Command.{Command}
-use Rattle.lrp_words.specs.declared.command.Command.TheVariants.{Ask, Decide, List as Page, Explain, Check, Watch, Sample}
+use Rattle.lrp_words.specs.declared.command.Command.TheVariants.{Ask, Decide, List as Page, Count, Ranges, Explain, Check, Watch, Sample}
+use Rattle.lrp_words.specs.declared.command.QuestionFiles.{QuestionFiles}
 use Rattle.lrp_answer_text.specs.Answering.{AreAnswerColumns}
-use Rattle.lrp_top.specs.Due.{IsAnswered, IsDecided, IsExplained, IsListed, IsPlannedFor}
+use Rattle.lrp_top.specs.Due.{IsAnswered, IsDecided, IsExplained, IsListed, IsNumberTold, IsPlannedFor, IsRanged}
+use Rattle.lrp_top.specs.Heads.{canon_need}
 use Rattle.lrp_outputs.specs.Outcomes.{Outcome}
 use Rattle.lrp_outputs.specs.Spots.{answer_tuple}
 use Rattle.lrp_store.specs.Tables.{InAnswer}
@@ -40,9 +42,10 @@ use Rattle.lrp_answers.specs.declared.answer.Answer.{Answer}
 use Rattle.lrp_top.specs.Seen.{ShelfSeen}
 use Rattle.lrp_top.specs.Sources.{Source}
 use Rattle.lrp_top.specs.declared.asking.Asked.{Asked}
-use Rattle.lrp_top.specs.declared.asking.QuestionFiles.{QuestionFiles}
 use Rattle.lrp_top.specs.declared.files.DatabaseFile.{DatabaseFile}
 use Rattle.lrp_top.specs.declared.files.QueryFile.{QueryFile}
+use Rattle.lrp_outputs.specs.declared.head.HeadNeed.{HeadNeed}
+use Rattle.lrp_outputs.specs.declared.head.HeadNeed.TheVariants as needs
 use Rattle.lrp_outputs.specs.declared.refusal.Refusal.{Refusal}
 use Rattle.lrp_outputs.specs.declared.refusal.Refusal.TheVariants.{Memory}
 use Rattle.lrp_top.specs.declared.purpose.Paging.{Paging}
@@ -120,9 +123,9 @@ abbrev pub IsMadeOf : Source (List Relation) → Source Queried → Plan → Res
 IsMadeOf d q p (Ok question) = (database_source question.database ≡ d) × (query_source question.query ≡ q) × (question.plan ≡ p)
 IsMadeOf d q p (Err refusal) = ⊥
 
--- what is due behind the plan of the query in these files by this way of planning; the flag says whether a canonical answer is asked for
-abbrev pub IsAsked : {B : Type 0} → QuestionFiles → Planning → Bool → ShelfSeen → (Source (List Relation) → Source Queried → Plan → Result B Refusal → Type 0) → Result B Refusal → Type 0
-IsAsked files way canon seen = IsPlannedFor way canon files.tense files.civil seen files.database.now files.query.now
+-- what is due behind the plan of the query in these files, whose head is to have what is needed
+abbrev pub IsAsked : {B : Type 0} → QuestionFiles → Option HeadNeed → ShelfSeen → (Source (List Relation) → Source Queried → Plan → Result B Refusal → Type 0) → Result B Refusal → Type 0
+IsAsked files need seen = IsPlannedFor (asked_files files) need seen
 
 -- the values in head order of a tuple that is told by its times and its texts, where one is
 abbrev pub resumed_as : List Column → Result (Option ToldTuple) Refusal → Result (Option Tuple) Refusal
@@ -139,17 +142,17 @@ done_as (Err refusal) = Err refusal
 abbrev pub IsServed : Planning → Purpose → Source (List Relation) → Source Queried → Plan → Outcome → Type 0
 IsServed way purpose.Plan = IsExplained
 IsServed way (purpose.Answer cap canon) = IsAnswered way canon cap
-IsServed way (purpose.Witness cap) = IsDecided way cap
+IsServed way (purpose.Witness cap dates) = IsDecided way dates cap
 IsServed way (purpose.Page paging) = IsListed way paging.civil paging.from paging.to paging.limit (after_text paging.after) paging.json paging.cap
+IsServed way (purpose.Count counting) = IsNumberTold way counting.from counting.to counting.cap
+IsServed way (purpose.Ranges ranging) = IsRanged way ranging.civil ranging.from ranging.to ranging.limit ranging.json ranging.cap
 
--- whether a purpose asks for a canonical answer
-abbrev pub is_canonical : Purpose → Bool
-is_canonical (purpose.Answer cap canon) = canon
-is_canonical _ = false
-
--- where it does, the head of the question has one time column
-abbrev pub HasOneTime : Bool → List Column → Type 0
-HasOneTime canon head = canon ≡ true → time_count head ≡ 1
+-- what the head needs for a purpose, where it needs something
+abbrev pub need_of : Purpose → Option HeadNeed
+need_of (purpose.Answer cap canon) = canon_need canon
+need_of (purpose.Count counting) = Some needs.Count
+need_of (purpose.Ranges ranging) = Some needs.Ranges
+need_of _ = None
 
 -- these spots, and the flag, are the page of an answer that is asked for behind a tuple, where there is one
 abbrev pub IsPageOf : Answer → Paging → Option Tuple → List Spot → Bool → Type 0
@@ -159,18 +162,18 @@ IsPageOf answer paging after spots more =
 -- the ends of its window, where it has one
 abbrev pub HasWindow : Purpose → Type 0
 HasWindow (purpose.Page paging) = IsEnd paging.civil paging.from × IsEnd paging.civil paging.to
+HasWindow (purpose.Count counting) = IsEnd counting.civil counting.from × IsEnd counting.civil counting.to
+HasWindow (purpose.Ranges ranging) = IsEnd ranging.civil ranging.from × IsEnd ranging.civil ranging.to
 HasWindow _ = Unit {0}
 
--- the question that a command asks, where it asks one: of which files, how it is planned, and for what
+-- the question that a command asks, where it asks one: of which files, and for what
 abbrev pub asked_of : Command → Option Asked
-asked_of (Ask db query cap planning tense canon civil) = Some (record { files = record { database = db; query = query; tense = tense; civil = civil }; planning = planning; purpose = purpose.Answer cap canon })
-asked_of (Decide db query cap planning tense civil) = Some (record { files = record { database = db; query = query; tense = tense; civil = civil }; planning = planning; purpose = purpose.Witness cap })
-asked_of (Page db query from to limit after json cap planning tense civil) = Some (record {
-  files = record { database = db; query = query; tense = tense; civil = civil };
-  planning = planning;
-  purpose = purpose.Page (record { from = from; to = to; limit = limit; after = after; json = json; cap = cap; civil = civil });
-})
-asked_of (Explain db query planning tense civil) = Some (record { files = record { database = db; query = query; tense = tense; civil = civil }; planning = planning; purpose = purpose.Plan })
+asked_of (Ask files cap canon) = Some (record { files = files; purpose = purpose.Answer cap canon })
+asked_of (Decide files cap dates) = Some (record { files = files; purpose = purpose.Witness cap dates })
+asked_of (Page files from to limit after json cap) = Some (record { files = files; purpose = purpose.Page (record { from = from; to = to; limit = limit; after = after; json = json; cap = cap; civil = files.civil }) })
+asked_of (Count files from to cap) = Some (record { files = files; purpose = purpose.Count (record { from = from; to = to; cap = cap; civil = files.civil }) })
+asked_of (Ranges files from to limit json cap) = Some (record { files = files; purpose = purpose.Ranges (record { from = from; to = to; limit = limit; json = json; cap = cap; civil = files.civil }) })
+asked_of (Explain files) = Some (record { files = files; purpose = purpose.Plan })
 asked_of (Check db civil) = None
-asked_of (Watch db query edits cap) = None
+asked_of (Watch db query edits cap planning auto) = None
 asked_of (Sample seed size) = None

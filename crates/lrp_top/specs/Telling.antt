@@ -5,13 +5,17 @@ use Rattle.lrp_model.specs.Order.{IsLeast}
 use Rattle.lrp_model.specs.Pages.{IsPage}
 use Rattle.lrp_model.specs.Rows.{Tuple}
 use Rattle.lrp_model.specs.Printed.{database_bytes}
-use Rattle.lrp_model.specs.PrintedPages.{plain_line}
 use Rattle.lrp_model.specs.PrintedPlans.{plan_bytes}
 use Rattle.lrp_model.specs.Satisfaction.{IsAnswer}
 use Rattle.lrp_model.specs.declared.plans.Plan.{Plan}
 use Rattle.lrp_model.specs.declared.relations.Relation.{Relation}
 use Rattle.lrp_print.specs.ReadBack.{ReadsBack}
+use Rattle.lrp_count.specs.Numbers.{HasSize}
+use Rattle.lrp_count.specs.Ranges.{AreRanges, InWindowOf, IsAnswerTime}
+use Rattle.lrp_count.specs.declared.windows.Range.{Range}
+use Rattle.lrp_outputs.specs.First.{least_line}
 use Rattle.lrp_outputs.specs.PageLines.{listed_bytes}
+use Rattle.lrp_outputs.specs.RangeLines.{count_line, ranges_bytes}
 
 -- the text is that of the relations, and reads back as relations that hold the same
 abbrev pub TellsRelations : List Relation → List ℕ → Type 0
@@ -26,15 +30,28 @@ pub record TellsNone (db : List Relation) (q : Question) (bytes : List ℕ) : Ty
   pub none : (tuple : Tuple) → IsAnswer db q tuple → ⊥
   pub spelled : bytes ≡ codes "Empty\n"
 
--- the text has the line of the query's least answer
-pub record TellsLeast (db : List Relation) (q : Question) (bytes : List ℕ) : Type 0 where
+-- the text has the line of the query's least answer, with its times of the years 1 to 9999 as dates where the flag is set
+pub record TellsLeast (dates : Bool) (db : List Relation) (q : Question) (bytes : List ℕ) : Type 0 where
   pub tuple : Tuple
   pub least : IsLeast (IsAnswer db q) tuple
-  pub spelled : bytes ≡ codes "Nonempty\n" ++ plain_line tuple
+  pub spelled : bytes ≡ codes "Nonempty\n" ++ least_line dates tuple
 
 -- the one or the other
-abbrev pub TellsWitness : List Relation → Question → List ℕ → Type 0
-TellsWitness db q bytes = TellsNone db q bytes ⊎ TellsLeast db q bytes
+abbrev pub TellsWitness : Bool → List Relation → Question → List ℕ → Type 0
+TellsWitness dates db q bytes = TellsNone db q bytes ⊎ TellsLeast dates db q bytes
+
+-- the text is that of the number of the query's answers in the window
+pub record TellsNumber (db : List Relation) (q : Question) (from to : ℤ) (bytes : List ℕ) : Type 0 where
+  pub number : ℕ
+  pub is : HasSize (InWindowOf (IsAnswer db q) from to) number
+  pub spelled : bytes ≡ count_line number
+
+-- the text is that of the first ranges of the query's answers in the window
+pub record TellsRanges (db : List Relation) (q : Question) (from to : ℤ) (limit : ℕ) (civil json : Bool) (bytes : List ℕ) : Type 0 where
+  pub ranges : List Range
+  pub more : Bool
+  pub are : AreRanges (IsAnswerTime (IsAnswer db q)) from to limit ranges more
+  pub spelled : bytes ≡ ranges_bytes civil json ranges more
 
 -- the text is that of the page of the query's answers in the window behind a tuple, with tokens of the files' digest
 pub record TellsPage (db : List Relation) (q : Question) (from to : ℤ) (after : Option Tuple) (limit : ℕ) (civil json : Bool) (digest : List ℕ) (bytes : List ℕ) : Type 0 where

@@ -4,7 +4,7 @@ ghost use Rattle.std.specs.List.{AllByRecursion};
 ghost use Rattle.lrp_top.specs.Due.{IsDue, IsDueOf, IsDatabaseRead, IsOutput, IsLengthOrMemory, files_named, files_of};
 ghost use Rattle.lrp_top.specs.Lengths.{TellsLength};
 ghost use Rattle.lrp_outputs.specs.Outputs.{told};
-ghost use Rattle.lrp_top.specs.Questions.{HasWindow, asked_of, IsAsked, IsServed, is_canonical};
+ghost use Rattle.lrp_top.specs.Questions.{HasWindow, IsAsked, IsServed, asked_of, need_of};
 ghost use Rattle.lrp_top.specs.Seen.{IsOverrun};
 ghost use Rattle.lrp_top.specs.Steps.{Then};
 ghost use Rattle.lrp_top.specs.Telling.{TellsRelations};
@@ -17,7 +17,7 @@ use crate::question::question_of;
 use crate::sampling::sample;
 use crate::seeing::Watched;
 use crate::serving::serve;
-use crate::watching::{WatchFiles, watch};
+use crate::watching::{WatchFiles, Watching, watch};
 use lrp_io::Shelf;
 use lrp_outputs::{Output, Refusal};
 use lrp_rel::databases_read_back;
@@ -25,7 +25,7 @@ use lrp_words::{Command, Usage, read_words};
 use std::alloc::Global;
 
 /// The output that the words ask for, or the first refusal that applies.
-pub fn decide<F: Shelf>(alloc: Global, words: &[String], shelf: &mut F) -> Result<Output, Refusal>
+pub fn due<F: Shelf>(alloc: Global, words: &[String], shelf: &mut F) -> Result<Output, Refusal>
     ensures due { IsDue words.now (⟦<F as Watched>⟧.seen shelf.old shelf.new) (told result) }
     ensures unread { files_named words.now ≡ [] → shelf.new ≡ shelf.old }
 {
@@ -50,7 +50,7 @@ fn carry_out<F: Shelf>(
     ensures unread { files_of (task_of command.entry) ≡ [] → shelf.new ≡ shelf.old }
 {
     match asked_by(command) {
-        Some(asked) => ask(alloc, &asked, shelf),
+        Some(asked) => answer_to(alloc, &asked, shelf),
         None => carry_out_other(alloc, command, shelf),
     }
 }
@@ -77,13 +77,20 @@ fn carry_out_other<F: Shelf>(
             query,
             edits,
             cap,
+            planning,
+            auto,
         } => {
             let files = WatchFiles {
                 database,
                 query,
                 edits,
             };
-            watch(alloc, &files, cap, shelf)
+            let how = Watching {
+                cap,
+                planning,
+                auto,
+            };
+            watch(alloc, &files, how, shelf)
         }
         Command::Sample { seed, size } => sample(alloc, seed, size),
         _ => unreachable!(),
@@ -111,15 +118,15 @@ fn check<F: Shelf>(
 }
 
 /// What is told of a query over a database for a purpose.
-fn ask<F: Shelf>(alloc: Global, asked: &Asked<'_>, shelf: &mut F) -> Result<Output, Refusal>
+fn answer_to<F: Shelf>(alloc: Global, asked: &Asked<'_>, shelf: &mut F) -> Result<Output, Refusal>
     requires window { HasWindow asked.now.purpose }
-    ensures due { IsAsked asked.now.files asked.now.planning (is_canonical asked.now.purpose)
+    ensures due { IsAsked asked.now.files (need_of asked.now.purpose)
         (⟦<F as Watched>⟧.seen shelf.old shelf.new)
-        (IsServed asked.now.planning asked.now.purpose) (told result) }
+        (IsServed asked.now.files.planning asked.now.purpose) (told result) }
     ensures long { TellsLength (⟦<F as Watched>⟧.seen shelf.old shelf.new) (told result) }
 {
-    let canon = asked.purpose.is_canonical();
-    match question_of(alloc, &asked.files, asked.planning, canon, shelf) {
+    let need = asked.purpose.need();
+    match question_of(alloc, &asked.files, need, shelf) {
         Ok(question) => serve(alloc, question, &asked.purpose),
         Err(refusal) => Err(refusal),
     }

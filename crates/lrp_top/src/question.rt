@@ -1,5 +1,6 @@
 // Questions: a database, a well-sorted query over it and its plan, or the first refusal.
-ghost use Rattle.std.specs.Prelude.{◌≡◌, ◌↔◌, ◌≤ℤ◌, IfOk, IsTrue, pos};
+ghost use Rattle.std.specs.Prelude.{◌≡◌, ◌↔◌, ◌≤ℤ◌, Err, IfNone, IfOk, IfSome, IsTrue, pos};
+ghost use Rattle.lrp_outputs.specs.declared.refusal.Refusal.TheVariants.{Head};
 ghost use Rattle.std.specs.List.{AllByRecursion};
 ghost use Rattle.lrp_model.specs.Formulas.{form_of, question_of as queried};
 ghost use Rattle.lrp_model.specs.TestPoints.{points};
@@ -7,19 +8,20 @@ ghost use Rattle.lrp_plan_laws.specs.GuardedPlans.{plan_by as steps_by};
 ghost use Rattle.lrp_plan_laws.specs.Settled.{IsSettled, IsSoundPlan};
 ghost use Rattle.lrp_print.specs.Writable.{StepHasPeriods};
 ghost use Rattle.lrp_top.specs.Due.{IsPlanned, IsPlannedAs};
+ghost use Rattle.lrp_top.specs.Heads.{IsHeadFit, IsHeadFor, IsMetBy};
 ghost use Rattle.lrp_top.specs.Lengths.{TellsLength};
-ghost use Rattle.lrp_top.specs.Questions.{HasOneTime, IsAsked, IsMadeOf, IsReady};
+ghost use Rattle.lrp_top.specs.Questions.{IsAsked, IsMadeOf, IsReady};
 
-use crate::asking::QuestionFiles;
 use crate::files::{DatabaseFile, QueryFile, database_of, query_of};
 use crate::resuming::times_of;
 use crate::seeing::Watched;
 use lrp_database::Database;
 use lrp_guarded::plan_by;
 use lrp_io::Shelf;
-use lrp_model::{Plan, Planning, Query};
-use lrp_outputs::Refusal;
+use lrp_model::{Column, Plan, Planning, Query};
+use lrp_outputs::{HeadNeed, Refusal};
 use lrp_plan::PlanFault;
+use lrp_words::QuestionFiles;
 use std::alloc::Global;
 
 /// A database, a query that is well-sorted over it, and its plan by a way of planning.
@@ -42,61 +44,83 @@ impl Question {
     }
 }
 
-/// The question of a database's file and a query's file, or the first refusal of either, of the head where a canonical answer
-/// is asked for, or of the plan.
+/// The question of a database's file and a query's file, or the first refusal of either, of a head without what is needed, or
+/// of the plan.
 pub fn question_of<F: Shelf>(
     alloc: Global,
     files: &QuestionFiles<'_>,
-    planning: Planning,
-    canon: bool,
+    need: Option<HeadNeed>,
     shelf: &mut F,
 ) -> Result<Question, Refusal>
-    ensures question { IsAsked files.now planning canon
-        (⟦<F as Watched>⟧.seen shelf.old shelf.new) IsMadeOf result }
-    ensures planning { IfOk result (λ question. question.planning ≡ planning) }
+    ensures question { IsAsked files.now need (⟦<F as Watched>⟧.seen shelf.old shelf.new) IsMadeOf
+        result }
+    ensures planning { IfOk result (λ question. question.planning ≡ files.now.planning) }
     ensures long { TellsLength (⟦<F as Watched>⟧.seen shelf.old shelf.new) result }
     ensures ready { IfOk result (λ question. IsReady question) }
-    ensures head { IfOk result (λ question. HasOneTime canon question.query.query.head.columns) }
+    ensures head { IfOk result (λ question. IsHeadFor need question.query.query.head.columns) }
 {
     let database = database_of(alloc, files.database, files.civil, shelf)?;
     let query = query_of(alloc, &database.relations, files.query, files.tense, shelf)?;
-    let plan = fit_plan(alloc, &database.relations, &query.query, planning, canon)?;
+    let plan = fit_plan(
+        alloc,
+        &database.relations,
+        &query.query,
+        files.planning,
+        need,
+    )?;
     Ok(Question {
         database,
         query,
-        planning,
+        planning: files.planning,
         plan,
     })
 }
 
-/// The plan of a query over a database, whose head has one time column where a canonical answer is asked for.
+/// The plan of a query over a database, whose head has what is needed.
 fn fit_plan(
     alloc: Global,
     database: &Database,
     query: &Query,
     planning: Planning,
-    canon: bool,
+    need: Option<HeadNeed>,
 ) -> Result<Plan, Refusal>
     requires settled { IsSettled database.now (queried query.now) }
     requires points { AllByRecursion (λ at. pos 1 ≤ℤ at.period) (points (form_of query.now.body)) }
-    ensures planned { IsPlannedAs planning canon database.now (queried query.now) result }
+    ensures planned { IsPlannedAs planning need database.now (queried query.now) result }
     ensures sound { IfOk result (λ _. IsSoundPlan
         (steps_by planning database.now (queried query.now)) database.now (queried query.now)) }
     ensures writable { IfOk result (λ p. AllByRecursion StepHasPeriods p.steps) }
-    ensures head { IfOk result (λ _. HasOneTime canon query.now.head.columns) }
+    ensures head { IfOk result (λ _. IsHeadFor need query.now.head.columns) }
 {
-    if head_fits(query, canon) {
-        plan_of(alloc, database, query, planning)
-    } else {
-        Err(Refusal::CanonHead)
+    match unmet_by(query, need) {
+        None => plan_of(alloc, database, query, planning),
+        Some(unmet) => Err(Refusal::Head(unmet)),
     }
 }
 
-/// Whether the head of a query has one time column, where a canonical answer is asked for.
-fn head_fits(query: &Query, canon: bool) -> bool
-    ensures { IsTrue result ↔ HasOneTime canon query.now.head.columns }
+/// What is needed, where the head of a query hasn't got it.
+fn unmet_by(query: &Query, need: Option<HeadNeed>) -> Option<HeadNeed>
+    ensures fit { IfNone result (IsHeadFor need query.now.head.columns) }
+    ensures unfit { IfSome result (λ unmet. IsHeadFit need (queried query.now) (Err (Head unmet))) }
 {
-    !canon || times_of(query.head.columns.as_slice()) == 1
+    let need = need?;
+    if is_met(need, query.head.columns.as_slice()) {
+        None
+    } else {
+        Some(need)
+    }
+}
+
+/// Whether a head has the columns that are needed.
+fn is_met(need: HeadNeed, head: &[Column]) -> bool
+    ensures { IsTrue result ↔ IsMetBy need head.now }
+{
+    let times = times_of(head);
+    match need {
+        HeadNeed::Canon => times == 1,
+        HeadNeed::Count => times <= 1,
+        HeadNeed::Ranges => times == 1 && head.len() == 1,
+    }
 }
 
 /// The plan of a query over a database by this way of planning, or the limit that it passes.

@@ -4,7 +4,7 @@ ghost use Rattle.lrp_top.specs.Due.{IsRun, files_named};
 ghost use Rattle.lrp_outputs.specs.Outcomes.{status_of};
 ghost use Rattle.lrp_outputs.specs.Outputs.{told};
 
-use crate::deciding::decide;
+use crate::deciding::due;
 use crate::seeing::{Filled, Watched};
 use lrp_io::{Failed, Shelf, Sink};
 use lrp_outputs::{Output, Refusal, Status, write_outcome};
@@ -21,7 +21,7 @@ pub fn run<F: Shelf, S: Sink>(alloc: Global, words: &[String], shelf: &mut F, ou
     // Where the words name no file, none is read.
     ensures unread { files_named words.now ≡ [] → shelf.new ≡ shelf.old }
 {
-    let outcome = decide(alloc, words, shelf);
+    let outcome = due(alloc, words, shelf);
     match write_outcome(out, &outcome) {
         Ok(()) => status_after(&outcome),
         Err(Failed) => Status::Write,

@@ -89,7 +89,7 @@ fn report_of(alloc: Global, answer: Answer, size: u32) -> Result<Report, Memory>
     Ok(Report {
         rows: size,
         cells,
-        first: least_of(answer),
+        first: least_of(answer, false),
         window: found.spots.len() as u64,
     })
 }

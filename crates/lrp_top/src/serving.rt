@@ -9,13 +9,15 @@ ghost use Rattle.lrp_model.specs.declared.relations.Relation.{Relation};
 ghost use Rattle.lrp_store.specs.Least.{HasRoom};
 ghost use Rattle.lrp_store.specs.Stores.{IsStore};
 ghost use Rattle.lrp_top.specs.Canonical.{IsCanonicalText};
+ghost use Rattle.lrp_top.specs.Heads.{IsHeadFor, canon_need};
 ghost use Rattle.lrp_top.specs.Due.{AreRowsCounted, IsAnswered, IsCounted, IsDecided, IsOutput};
 ghost use Rattle.lrp_outputs.specs.Outputs.{least_of as least_tuple, told, witness_text};
-ghost use Rattle.lrp_top.specs.Questions.{HasOneTime, HasWindow, IsReady, IsServed, database_source, done_as, is_canonical, query_source, question_steps};
+ghost use Rattle.lrp_top.specs.Questions.{HasWindow, IsReady, IsServed, database_source, done_as, need_of, query_source, question_steps};
 ghost use Rattle.lrp_outputs.specs.First.{IsFirst};
 ghost use Rattle.lrp_top.specs.Steps.{Then};
 ghost use Rattle.lrp_top.specs.Telling.{TellsWitness};
 
+use crate::counting::{number, range_lines};
 use crate::listing::page;
 use crate::purpose::Purpose;
 use crate::question::Question;
@@ -35,7 +37,7 @@ use std::alloc::Global;
 pub fn serve(alloc: Global, question: Question, purpose: &Purpose<'_>) -> Result<Output, Refusal>
     requires ready { IsReady question }
     requires window { HasWindow purpose.now }
-    requires head { HasOneTime (is_canonical purpose.now) question.query.query.head.columns }
+    requires head { IsHeadFor (need_of purpose.now) question.query.query.head.columns }
     ensures served { IsServed question.planning purpose.now (database_source question.database)
         (query_source question.query) question.plan (told result) }
 {
@@ -45,8 +47,10 @@ pub fn serve(alloc: Global, question: Question, purpose: &Purpose<'_>) -> Result
             Ok(Output::Plan(WritablePlan { plan, query }))
         }
         Purpose::Answer { cap, canon } => whole_answer(alloc, &question, *cap, *canon),
-        Purpose::Witness { cap } => witness(alloc, &question, *cap),
+        Purpose::Witness { cap, dates } => witness(alloc, &question, *cap, *dates),
         Purpose::Page { paging } => page(alloc, question, paging),
+        Purpose::Count { counting } => number(alloc, &question, counting),
+        Purpose::Ranges { ranging } => range_lines(alloc, &question, ranging),
     }
 }
 
@@ -79,7 +83,7 @@ fn whole_answer(
     canon: bool,
 ) -> Result<Output, Refusal>
     requires ready { IsReady question.now }
-    requires head { HasOneTime canon question.now.query.query.head.columns }
+    requires head { IsHeadFor (canon_need canon) question.now.query.query.head.columns }
     ensures due { IsAnswered question.now.planning canon cap (database_source question.now.database)
         (query_source question.now.query) question.now.plan (told result) }
 {
@@ -146,28 +150,32 @@ fn canonical_text(
 }
 
 /// The least answer of a question, or the first step with too many cells.
-fn witness(alloc: Global, question: &Question, cap: u32) -> Result<Output, Refusal>
+fn witness(alloc: Global, question: &Question, cap: u32, dates: bool) -> Result<Output, Refusal>
     requires ready { IsReady question.now }
-    ensures due { IsDecided question.now.planning cap (database_source question.now.database)
+    ensures due { IsDecided question.now.planning dates cap (database_source question.now.database)
         (query_source question.now.query) question.now.plan (told result) }
 {
     match answers(alloc, question, cap) {
-        Ok(answer) => Ok(Output::Witness(least_of(answer))),
+        Ok(answer) => Ok(Output::Witness(least_of(answer, dates))),
         Err(refusal) => Err(refusal),
     }
 }
 
-/// The least of these answers.
-pub fn least_of(answer: Answer) -> Witness
+/// The least of these answers, whose times are shown as dates where the flag is set.
+pub fn least_of(answer: Answer, dates: bool) -> Witness
     requires room { HasRoom answer.store }
     ensures least { (planned : Steps) (db : List Relation) (q : Queried) (cap : ℕ)
         → IsAnswerOf planned db q cap answer
-        → TellsWitness db q (witness_text result) }
+        → TellsWitness dates db q (witness_text result) }
     ensures first { (planned : Steps) (db : List Relation) (q : Queried) (cap : ℕ)
         → IsAnswerOf planned db q cap answer
         → IsFirst db q (least_tuple result) }
 {
     spots_stand_for_tuples();
     let least = answer.least();
-    Witness { answer, least }
+    Witness {
+        answer,
+        least,
+        dates,
+    }
 }

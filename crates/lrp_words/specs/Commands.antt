@@ -1,5 +1,5 @@
 -- The command that words spell: the first word is its name, and each further one gives one of its keys a value.
-use Rattle.std.specs.Prelude.{ℕ, ℤ, List, [], ◌∷◌, Bool, true, false, Option, Some, None, if◌then◌else◌, codes}
+use Rattle.std.specs.Prelude.{ℕ, ℤ, List, [], ◌∷◌, Bool, true, false, ◌&&◌, Option, Some, None, if◌then◌else◌, codes}
 use Rattle.std.specs.Borrow.{Bor}
 use Rattle.std.specs.Option.{option_and_then}
 use Rattle.std.specs.Str.{bytes_eq}
@@ -8,21 +8,32 @@ use Rattle.lrp_model.specs.declared.plans.Planning.{Planning}
 use Rattle.lrp_model.specs.declared.plans.Planning.TheVariants.{Written, Guarded}
 use Rattle.lrp_civil.specs.Minutes.{minute_by}
 use Rattle.lrp_words.specs.declared.keys.Key.{Key}
-use Rattle.lrp_words.specs.declared.keys.Key.TheVariants.{Db, Query, Edits, Cap, Plan, From, To, Limit, After, Form, Tense, Canon, Civil, Seed, Size}
+use Rattle.lrp_words.specs.declared.keys.Key.TheVariants.{Db, Query, Edits, Cap, Plan, From, To, Limit, After, Form, Tense, Canon, Civil, Show, Kept, Seed, Size}
 use Rattle.lrp_words.specs.declared.command.Command.{Command}
-use Rattle.lrp_words.specs.declared.command.Command.TheVariants.{Ask, Decide, List as Page, Explain, Check, Watch, Sample}
+use Rattle.lrp_words.specs.declared.command.QuestionFiles.{QuestionFiles}
+use Rattle.lrp_words.specs.declared.command.Command.TheVariants.{Ask, Decide, List as Page, Count, Ranges, Explain, Check, Watch, Sample}
 use Rattle.lrp_words.specs.Entries.{value_for, are_given}
 use Rattle.lrp_words.specs.Numbers.{natural, within, integer_up_to}
 use Rattle.lrp_model.specs.Limits.{greatest_number}
 
--- what is asked: files by their names, caps and limits, a window, a token, whether the page is in JSON, how the query is planned, a seed and a size; and last, whether the query may have temporal operators, for `ask` whether its canonical answer is told, and whether times are civil ones
+-- what each question of files has: the names of the files of its database and of its query, how the query is planned, whether it may have temporal operators, and whether times are civil ones
+pub record FilesAsked : Type 0 where
+  pub database : Text
+  pub query : Text
+  pub way : Planning
+  pub tense : Bool
+  pub civil : Bool
+
+-- what is asked: files by their names, caps and limits, a window, a token, whether lines are in JSON, a seed and a size; and last, for `ask` whether the canonical answer is told, for `decide` whether times are shown as dates, for `check` whether times are civil ones, and for `watch` how a query that isn't in kept form is planned, and whether one is watched
 pub data Task : Type 0 where
-  ask : Text → Text → ℕ → Planning → Bool → Bool → Bool → Task
-  decide : Text → Text → ℕ → Planning → Bool → Bool → Task
-  list : Text → Text → ℤ → ℤ → ℕ → Option Text → Bool → ℕ → Planning → Bool → Bool → Task
-  explain : Text → Text → Planning → Bool → Bool → Task
+  ask : FilesAsked → ℕ → Bool → Task
+  decide : FilesAsked → ℕ → Bool → Task
+  list : FilesAsked → ℤ → ℤ → ℕ → Option Text → Bool → ℕ → Task
+  count : FilesAsked → ℤ → ℤ → ℕ → Task
+  ranges : FilesAsked → ℤ → ℤ → ℕ → Bool → ℕ → Task
+  explain : FilesAsked → Task
   check : Text → Bool → Task
-  watch : Text → Text → Text → ℕ → Task
+  watch : Text → Text → Text → ℕ → Planning → Bool → Task
   sample : ℕ → ℕ → Task
 
 -- the text of a token, where one is given
@@ -30,14 +41,20 @@ abbrev pub after_text : Option (Bor Text) → Option Text
 after_text None = None
 after_text (Some text) = Some text.now
 
+-- what the program's question of files has
+abbrev pub asked_files : QuestionFiles → FilesAsked
+asked_files files = record { database = files.database.now; query = files.query.now; way = files.planning; tense = files.tense; civil = files.civil }
+
 -- what a command of the program asks; `Page` is its command `List`
 abbrev pub task_of : Command → Task
-task_of (Ask db query cap planning tense canon civil) = ask db.now query.now cap planning tense canon civil
-task_of (Decide db query cap planning tense civil) = decide db.now query.now cap planning tense civil
-task_of (Page db query from to limit after json cap planning tense civil) = list db.now query.now from to limit (after_text after) json cap planning tense civil
-task_of (Explain db query planning tense civil) = explain db.now query.now planning tense civil
+task_of (Ask files cap canon) = ask (asked_files files) cap canon
+task_of (Decide files cap dates) = decide (asked_files files) cap dates
+task_of (Page files from to limit after json cap) = list (asked_files files) from to limit (after_text after) json cap
+task_of (Count files from to cap) = count (asked_files files) from to cap
+task_of (Ranges files from to limit json cap) = ranges (asked_files files) from to limit json cap
+task_of (Explain files) = explain (asked_files files)
 task_of (Check db civil) = check db.now civil
-task_of (Watch db query edits cap) = watch db.now query.now edits.now cap
+task_of (Watch db query edits cap planning auto) = watch db.now query.now edits.now cap planning auto
 task_of (Sample seed size) = sample seed size
 
 -- the same where there may be no command
@@ -81,6 +98,16 @@ abbrev pub json_of : Option Text → Option Bool
 json_of None = Some false
 json_of (Some text) = if bytes_eq text (codes "plain") then Some false else if bytes_eq text (codes "json") then Some true else None
 
+-- whether a query that isn't in kept form is watched too; it is not where it is not given
+abbrev pub auto_of : Option Text → Option Bool
+auto_of None = Some false
+auto_of (Some text) = if bytes_eq text (codes "yes") then Some false else if bytes_eq text (codes "auto") then Some true else None
+
+-- whether times are shown as dates, which they are only where they are civil ones; they are shown as minutes where it is not given
+abbrev pub dates_of : Bool → Option Text → Option Bool
+dates_of civil None = Some false
+dates_of civil (Some text) = if bytes_eq text (codes "minutes") then Some false else if bytes_eq text (codes "dates") && civil then Some true else None
+
 -- how a query is planned; as it is written where it is not given
 abbrev pub planning_of : Option Text → Option Planning
 planning_of None = Some Written
@@ -120,38 +147,52 @@ canon_of words = flag_of (value_for Canon words)
 abbrev pub civil_of : List Text → Option Bool
 civil_of words = flag_of (value_for Civil words)
 
+-- what each question of files has
+abbrev pub files_in : List Text → Option FilesAsked
+files_in words =
+    with_some (database_name words) (λ db. with_some (query_name words) (λ query. with_some (planning_in words) (λ planning. with_some (tense_flag words) (λ tense. with_some (civil_of words) (λ civil.
+    Some (record { database = db; query = query; way = planning; tense = tense; civil = civil }))))))
+
 -- ---- each command from the words behind its name, and its keys
 
 abbrev pub ask_of : List Text → Option Task
-ask_of words =
-    with_some (database_name words) (λ db. with_some (query_name words) (λ query. with_some (cap_of words) (λ cap. with_some (planning_in words) (λ planning.
-    with_some (tense_flag words) (λ tense. with_some (canon_of words) (λ canon. with_some (civil_of words) (λ civil. Some (ask db query cap planning tense canon civil))))))))
+ask_of words = with_some (files_in words) (λ of. with_some (cap_of words) (λ cap. with_some (canon_of words) (λ canon. Some (ask of cap canon))))
 
 abbrev pub ask_keys : List Key
 ask_keys = Db ∷ Query ∷ Cap ∷ Plan ∷ Tense ∷ Canon ∷ Civil ∷ []
 
 abbrev pub decide_of : List Text → Option Task
-decide_of words =
-    with_some (database_name words) (λ db. with_some (query_name words) (λ query. with_some (cap_of words) (λ cap. with_some (planning_in words) (λ planning.
-    with_some (tense_flag words) (λ tense. with_some (civil_of words) (λ civil. Some (decide db query cap planning tense civil)))))))
+decide_of words = with_some (files_in words) (λ of. with_some (cap_of words) (λ cap. with_some (dates_of of.civil (value_for Show words)) (λ dates. Some (decide of cap dates))))
 
 abbrev pub decide_keys : List Key
-decide_keys = Db ∷ Query ∷ Cap ∷ Plan ∷ Tense ∷ Civil ∷ []
+decide_keys = Db ∷ Query ∷ Cap ∷ Plan ∷ Tense ∷ Civil ∷ Show ∷ []
 
 abbrev pub list_of : List Text → Option Task
 list_of words =
-    with_some (tense_flag words) (λ tense. with_some (civil_of words) (λ civil.
-    with_some (database_name words) (λ db. with_some (query_name words) (λ query. with_some (end_of civil (value_for From words)) (λ from. with_some (end_of civil (value_for To words)) (λ to.
-    with_some (limit_of words) (λ limit. with_some (json_of (value_for Form words)) (λ json. with_some (cap_of words) (λ cap.
-    with_some (planning_in words) (λ planning. Some (list db query from to limit (value_for After words) json cap planning tense civil)))))))))))
+    with_some (files_in words) (λ of. with_some (end_of of.civil (value_for From words)) (λ from. with_some (end_of of.civil (value_for To words)) (λ to.
+    with_some (limit_of words) (λ limit. with_some (json_of (value_for Form words)) (λ json. with_some (cap_of words) (λ cap. Some (list of from to limit (value_for After words) json cap)))))))
 
 abbrev pub list_keys : List Key
 list_keys = Db ∷ Query ∷ From ∷ To ∷ Limit ∷ After ∷ Form ∷ Cap ∷ Plan ∷ Tense ∷ Civil ∷ []
 
+abbrev pub counting_of : List Text → Option Task
+counting_of words =
+    with_some (files_in words) (λ of. with_some (end_of of.civil (value_for From words)) (λ from. with_some (end_of of.civil (value_for To words)) (λ to.
+    with_some (cap_of words) (λ cap. Some (count of from to cap)))))
+
+abbrev pub count_keys : List Key
+count_keys = Db ∷ Query ∷ From ∷ To ∷ Cap ∷ Plan ∷ Tense ∷ Civil ∷ []
+
+abbrev pub ranges_of : List Text → Option Task
+ranges_of words =
+    with_some (files_in words) (λ of. with_some (end_of of.civil (value_for From words)) (λ from. with_some (end_of of.civil (value_for To words)) (λ to.
+    with_some (limit_of words) (λ limit. with_some (json_of (value_for Form words)) (λ json. with_some (cap_of words) (λ cap. Some (ranges of from to limit json cap)))))))
+
+abbrev pub ranges_keys : List Key
+ranges_keys = Db ∷ Query ∷ From ∷ To ∷ Limit ∷ Form ∷ Cap ∷ Plan ∷ Tense ∷ Civil ∷ []
+
 abbrev pub explain_of : List Text → Option Task
-explain_of words =
-    with_some (database_name words) (λ db. with_some (query_name words) (λ query. with_some (planning_in words) (λ planning.
-    with_some (tense_flag words) (λ tense. with_some (civil_of words) (λ civil. Some (explain db query planning tense civil))))))
+explain_of words = with_some (files_in words) (λ of. Some (explain of))
 
 abbrev pub explain_keys : List Key
 explain_keys = Db ∷ Query ∷ Plan ∷ Tense ∷ Civil ∷ []
@@ -164,10 +205,11 @@ check_keys = Db ∷ Civil ∷ []
 
 abbrev pub watch_of : List Text → Option Task
 watch_of words =
-    with_some (database_name words) (λ db. with_some (query_name words) (λ query. with_some (edits_name words) (λ edits. with_some (cap_of words) (λ cap. Some (watch db query edits cap)))))
+    with_some (database_name words) (λ db. with_some (query_name words) (λ query. with_some (edits_name words) (λ edits. with_some (cap_of words) (λ cap.
+    with_some (planning_in words) (λ planning. with_some (auto_of (value_for Kept words)) (λ auto. Some (watch db query edits cap planning auto)))))))
 
 abbrev pub watch_keys : List Key
-watch_keys = Db ∷ Query ∷ Edits ∷ Cap ∷ []
+watch_keys = Db ∷ Query ∷ Edits ∷ Cap ∷ Kept ∷ Plan ∷ []
 
 abbrev pub sample_of : List Text → Option Task
 sample_of words = with_some (number_in 0 1000000 (value_for Seed words)) (λ seed. with_some (number_in 1 500 (value_for Size words)) (λ size. Some (sample seed size)))
@@ -186,6 +228,8 @@ command (name ∷ words) =
     if bytes_eq name (codes "ask") then over ask_keys words (ask_of words) else
     if bytes_eq name (codes "decide") then over decide_keys words (decide_of words) else
     if bytes_eq name (codes "list") then over list_keys words (list_of words) else
+    if bytes_eq name (codes "count") then over count_keys words (counting_of words) else
+    if bytes_eq name (codes "ranges") then over ranges_keys words (ranges_of words) else
     if bytes_eq name (codes "explain") then over explain_keys words (explain_of words) else
     if bytes_eq name (codes "check") then over check_keys words (check_of words) else
     if bytes_eq name (codes "watch") then over watch_keys words (watch_of words) else

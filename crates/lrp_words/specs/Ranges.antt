@@ -2,7 +2,7 @@
 use Rattle.std.specs.Prelude.{◌≤◌, ◌≤ℤ◌, ℤ, pos, neg_ℤ, Bool, true, false}
 use Rattle.lrp_civil.specs.Moments.{IsCivilMinute}
 use Rattle.lrp_words.specs.Commands.{Task}
-use Rattle.lrp_words.specs.Commands.Task.{list, sample}
+use Rattle.lrp_words.specs.Commands.Task.{list, count, ranges, sample}
 use Rattle.lrp_model.specs.Limits.{greatest_number}
 
 -- where times are civil ones, a minute of the years 1 to 9999
@@ -18,6 +18,8 @@ pub record IsEnd (civil : Bool) (x : ℤ) : Type 0 where
 
 -- the numbers of a task that has a window, a seed or a size
 abbrev pub IsInRange : Task → Type 0
-IsInRange (list database query from to limit after json cap planning tense civil) = IsEnd civil from × IsEnd civil to
+IsInRange (list of from to limit after json cap) = IsEnd of.civil from × IsEnd of.civil to
+IsInRange (count of from to cap) = IsEnd of.civil from × IsEnd of.civil to
+IsInRange (ranges of from to limit json cap) = IsEnd of.civil from × IsEnd of.civil to
 IsInRange (sample seed size) = (seed ≤ 1000000) × (1 ≤ size) × (size ≤ 500)
 IsInRange _ = Unit {0}

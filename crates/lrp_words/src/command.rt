@@ -2,50 +2,61 @@
 use lrp_model::Planning;
 use thiserror::Error;
 
+/// What each question of files has: the names of the files of its database and of its query, which are not empty, how the
+/// query is planned, whether it may have temporal operators, and whether times are minutes since 1970-01-01 00:00 and
+/// databases may have civil values.
+#[derive(Clone, Copy)]
+pub struct QuestionFiles<'a> {
+    pub database: &'a str,
+    pub query: &'a str,
+    pub planning: Planning,
+    pub tense: bool,
+    pub civil: bool,
+}
+
 /// A command with its values, whose texts are borrowed from the words.
 ///
 /// `db`, `query` and `edits` are names of files, and not empty. `from` and `to` have a magnitude of at most 2^62, and
-/// are minutes of the years 1 to 9999 where `civil` is set. `after` is any text; its form is judged later. `planning` says
-/// how the query is planned. With `tense` a query may have temporal operators, with `canon` the canonical answer is told,
-/// and with `civil` times are minutes since 1970-01-01 00:00, and databases may have civil values.
+/// are minutes of the years 1 to 9999 where times are civil ones. `after` is any text; its form is judged later. With `canon`
+/// the canonical answer is told, with `dates`, which stands only where times are civil ones, they are shown as dates, and with `auto` a query that isn't
+/// in kept form is watched too.
 #[derive(Clone, Copy)]
 pub enum Command<'a> {
     Ask {
-        db: &'a str,
-        query: &'a str,
+        files: QuestionFiles<'a>,
         cap: u32,
-        planning: Planning,
-        tense: bool,
         canon: bool,
-        civil: bool,
     },
     Decide {
-        db: &'a str,
-        query: &'a str,
+        files: QuestionFiles<'a>,
         cap: u32,
-        planning: Planning,
-        tense: bool,
-        civil: bool,
+        dates: bool,
     },
     List {
-        db: &'a str,
-        query: &'a str,
+        files: QuestionFiles<'a>,
         from: i64,
         to: i64,
         limit: u32,
         after: Option<&'a str>,
         json: bool,
         cap: u32,
-        planning: Planning,
-        tense: bool,
-        civil: bool,
+    },
+    Count {
+        files: QuestionFiles<'a>,
+        from: i64,
+        to: i64,
+        cap: u32,
+    },
+    Ranges {
+        files: QuestionFiles<'a>,
+        from: i64,
+        to: i64,
+        limit: u32,
+        json: bool,
+        cap: u32,
     },
     Explain {
-        db: &'a str,
-        query: &'a str,
-        planning: Planning,
-        tense: bool,
-        civil: bool,
+        files: QuestionFiles<'a>,
     },
     Check {
         db: &'a str,
@@ -56,6 +67,8 @@ pub enum Command<'a> {
         query: &'a str,
         edits: &'a str,
         cap: u32,
+        planning: Planning,
+        auto: bool,
     },
     Sample {
         seed: u32,

@@ -18,6 +18,8 @@ pub enum Key {
     Tense,
     Canon,
     Civil,
+    Show,
+    Kept,
     Seed,
     Size,
 }
@@ -41,6 +43,8 @@ impl Key {
             Key::Tense => "tense",
             Key::Canon => "canon",
             Key::Civil => "civil",
+            Key::Show => "show",
+            Key::Kept => "kept",
             Key::Seed => "seed",
             Key::Size => "size",
         }

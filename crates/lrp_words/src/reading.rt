@@ -1,10 +1,10 @@
 // Words as a command: its name, and then the values of its keys.
-ghost use Rattle.std.specs.Prelude.{◌≡◌, ◌<◌, ◌≤◌, ◌^◌, [], ◌∷◌, map, string_bytes, Some, None, IfOk, IfSome, MatchResult};
-ghost use Rattle.lrp_words.specs.Commands.{ask_keys, ask_of, canon_of, cap_of, check_keys, check_of, civil_of, command, decide_keys, decide_of, end_of, explain_keys, explain_of, flag_of, file as file_by, json_of as is_json_by, limit_of, list_keys, list_of, number_in as number_by, number_or as number_or_by, over, planning_in, sample_keys, sample_of, task_of, tasks_of, tense_flag, after_text, watch_keys, watch_of};
+ghost use Rattle.std.specs.Prelude.{◌≡◌, ◌<◌, ◌≤◌, ◌^◌, [], ◌∷◌, map, string_bytes, option_map, Some, None, IfOk, IfSome, MatchResult};
+ghost use Rattle.lrp_words.specs.Commands.{ask_keys, ask_of, auto_of, canon_of, cap_of, check_keys, check_of, civil_of, command, count_keys, counting_of, dates_of, decide_keys, decide_of, end_of, explain_keys, explain_of, flag_of, file as file_by, asked_files, files_in, json_of as is_json_by, limit_of, list_keys, list_of, number_in as number_by, number_or as number_or_by, over, planning_in, ranges_keys, ranges_of, sample_keys, sample_of, task_of, tasks_of, tense_flag, after_text, watch_keys, watch_of};
 ghost use Rattle.lrp_words.specs.Entries.{value_for as value_by};
 ghost use Rattle.lrp_words.specs.Ranges.{IsInRange, IsEnd};
 
-use crate::command::{Command, Usage};
+use crate::command::{Command, QuestionFiles, Usage};
 use crate::entries::{are_given, value};
 use crate::keys::Key;
 use crate::numbers::{integer, within};
@@ -38,6 +38,8 @@ fn named<'a>(name: &str, words: &'a [String]) -> Option<Command<'a>>
         "ask" => ask(words),
         "decide" => decide(words),
         "list" => list(words),
+        "count" => count(words),
+        "ranges" => ranges(words),
         "explain" => explain(words),
         "check" => check(words),
         "watch" => watch(words),
@@ -63,14 +65,11 @@ fn ask(words: &[String]) -> Option<Command<'_>>
     if !are_given(&keys, words) {
         return None;
     }
+    let files = files(words)?;
     Some(Command::Ask {
-        db: file(Key::Db, words)?,
-        query: file(Key::Query, words)?,
+        files,
         cap: cap(words)?,
-        planning: planning(words)?,
-        tense: tense(words)?,
         canon: canon(words)?,
-        civil: civil(words)?,
     })
 }
 
@@ -87,18 +86,17 @@ fn decide(words: &[String]) -> Option<Command<'_>>
             Key::Plan,
             Key::Tense,
             Key::Civil,
+            Key::Show,
         ],
         words,
     ) {
         return None;
     }
+    let files = files(words)?;
     Some(Command::Decide {
-        db: file(Key::Db, words)?,
-        query: file(Key::Query, words)?,
+        files,
         cap: cap(words)?,
-        planning: planning(words)?,
-        tense: tense(words)?,
-        civil: civil(words)?,
+        dates: dates(files.civil, words)?,
     })
 }
 
@@ -123,20 +121,73 @@ fn list(words: &[String]) -> Option<Command<'_>>
     if !are_given(&keys, words) {
         return None;
     }
-    let tense = tense(words)?;
-    let civil = civil(words)?;
+    let files = files(words)?;
     Some(Command::List {
-        db: file(Key::Db, words)?,
-        query: file(Key::Query, words)?,
-        from: end(Key::From, civil, words)?,
-        to: end(Key::To, civil, words)?,
+        files,
+        from: end(Key::From, files.civil, words)?,
+        to: end(Key::To, files.civil, words)?,
         limit: limit(words)?,
         after: value(Key::After, words),
         json: is_json(words)?,
         cap: cap(words)?,
-        planning: planning(words)?,
-        tense,
-        civil,
+    })
+}
+
+fn count(words: &[String]) -> Option<Command<'_>>
+    ensures task { tasks_of result ≡ over count_keys (map string_bytes words.now)
+        (counting_of (map string_bytes words.now)) }
+    ensures range { IfSome result (λ found. IsInRange (task_of found)) }
+{
+    let keys = [
+        Key::Db,
+        Key::Query,
+        Key::From,
+        Key::To,
+        Key::Cap,
+        Key::Plan,
+        Key::Tense,
+        Key::Civil,
+    ];
+    if !are_given(&keys, words) {
+        return None;
+    }
+    let files = files(words)?;
+    Some(Command::Count {
+        files,
+        from: end(Key::From, files.civil, words)?,
+        to: end(Key::To, files.civil, words)?,
+        cap: cap(words)?,
+    })
+}
+
+fn ranges(words: &[String]) -> Option<Command<'_>>
+    ensures task { tasks_of result ≡ over ranges_keys (map string_bytes words.now)
+        (ranges_of (map string_bytes words.now)) }
+    ensures range { IfSome result (λ found. IsInRange (task_of found)) }
+{
+    let keys = [
+        Key::Db,
+        Key::Query,
+        Key::From,
+        Key::To,
+        Key::Limit,
+        Key::Form,
+        Key::Cap,
+        Key::Plan,
+        Key::Tense,
+        Key::Civil,
+    ];
+    if !are_given(&keys, words) {
+        return None;
+    }
+    let files = files(words)?;
+    Some(Command::Ranges {
+        files,
+        from: end(Key::From, files.civil, words)?,
+        to: end(Key::To, files.civil, words)?,
+        limit: limit(words)?,
+        json: is_json(words)?,
+        cap: cap(words)?,
     })
 }
 
@@ -152,11 +203,7 @@ fn explain(words: &[String]) -> Option<Command<'_>>
         return None;
     }
     Some(Command::Explain {
-        db: file(Key::Db, words)?,
-        query: file(Key::Query, words)?,
-        planning: planning(words)?,
-        tense: tense(words)?,
-        civil: civil(words)?,
+        files: files(words)?,
     })
 }
 
@@ -179,7 +226,15 @@ fn watch(words: &[String]) -> Option<Command<'_>>
         (watch_of (map string_bytes words.now)) }
     ensures range { IfSome result (λ found. IsInRange (task_of found)) }
 {
-    if !are_given(&[Key::Db, Key::Query, Key::Edits, Key::Cap], words) {
+    let keys = [
+        Key::Db,
+        Key::Query,
+        Key::Edits,
+        Key::Cap,
+        Key::Kept,
+        Key::Plan,
+    ];
+    if !are_given(&keys, words) {
         return None;
     }
     Some(Command::Watch {
@@ -187,6 +242,8 @@ fn watch(words: &[String]) -> Option<Command<'_>>
         query: file(Key::Query, words)?,
         edits: file(Key::Edits, words)?,
         cap: cap(words)?,
+        planning: planning(words)?,
+        auto: is_auto(words)?,
     })
 }
 
@@ -201,6 +258,19 @@ fn sample(words: &[String]) -> Option<Command<'_>>
     Some(Command::Sample {
         seed: number(Key::Seed, words, 0, 1_000_000)?,
         size: number(Key::Size, words, 1, 500)?,
+    })
+}
+
+/// What each question of files has.
+fn files(words: &[String]) -> Option<QuestionFiles<'_>>
+    ensures { option_map asked_files result ≡ files_in (map string_bytes words.now) }
+{
+    Some(QuestionFiles {
+        database: file(Key::Db, words)?,
+        query: file(Key::Query, words)?,
+        planning: planning(words)?,
+        tense: tense(words)?,
+        civil: civil(words)?,
     })
 }
 
@@ -300,6 +370,30 @@ fn flag(key: Key, words: &[String]) -> Option<bool>
         None => Some(false),
         Some("no") => Some(false),
         Some("yes") => Some(true),
+        Some(_) => None,
+    }
+}
+
+/// Whether times are shown as dates, which they are only where they are civil ones.
+fn dates(civil: bool, words: &[String]) -> Option<bool>
+    ensures { result ≡ dates_of civil (value_by Key.Show (map string_bytes words.now)) }
+{
+    match value(Key::Show, words) {
+        None => Some(false),
+        Some("minutes") => Some(false),
+        Some("dates") if civil => Some(true),
+        Some(_) => None,
+    }
+}
+
+/// Whether a query that isn't in kept form is watched too.
+fn is_auto(words: &[String]) -> Option<bool>
+    ensures { result ≡ auto_of (value_by Key.Kept (map string_bytes words.now)) }
+{
+    match value(Key::Kept, words) {
+        None => Some(false),
+        Some("yes") => Some(false),
+        Some("auto") => Some(true),
         Some(_) => None,
     }
 }

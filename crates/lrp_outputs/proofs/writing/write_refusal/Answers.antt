@@ -28,3 +28,6 @@ returns-in-CanonRows-clause-text g c = written_as _ _ _ _ c.write_rows.result (s
 
 pub returns-in-Watch-clause-text : goal.returns-in-Watch-clause-text
 returns-in-Watch-clause-text g c = written_as _ _ _ _ c.write_watch_refusal.result (sym (ap line_of c.in-Watch.is)) c.write_watch_refusal.ensures.text
+
+pub returns-in-Head-clause-text : goal.returns-in-Head-clause-text
+returns-in-Head-clause-text g c = written_as _ _ _ _ c.write_head.result (sym (ap line_of c.in-Head.is)) c.write_head.ensures.text

@@ -18,6 +18,8 @@ returns c = runs_alike (record {
   tuples = c.tuples_are_times_and_texts.ensures;
   cells = c.counts_are_unique.ensures.cells;
   count = c.counts_are_unique.ensures.answers;
+  size = λ db q from to size other. c.sizes_are_unique.ensures db db q q from to size other (λ t. (λ h. h, λ h. h));
+  ranges = λ db q from to limit ranges other more further. c.ranges_are_unique.ensures db db q q from to limit ranges other more further (λ x. (λ h. h, λ h. h));
   rows = c.row_counts_are_unique.ensures;
   text = c.answer_texts_are_unique.ensures;
 })

@@ -5,14 +5,14 @@ use Rattle.lrp_top.proofs.running.run.Goals as goal
 
 pub returns-in-Ok-clause-run : goal.returns-in-Ok-clause-run
 returns-in-Ok-clause-run g c = record {
-  outcome = told c.decide-outcome.result;
-  due = c.decide-outcome.ensures.due;
-  ends = ends_whole (told c.decide-outcome.result) _ _ c.in-Ok.ensures.text c.status_after.ensures;
+  outcome = told c.due-outcome.result;
+  due = c.due-outcome.ensures.due;
+  ends = ends_whole (told c.due-outcome.result) _ _ c.in-Ok.ensures.text c.status_after.ensures;
 }
 
 pub returns-clause-run : goal.returns-clause-run
 returns-clause-run g c = record {
-  outcome = told c.decide-outcome.result;
-  due = c.decide-outcome.ensures.due;
-  ends = ends_cut (told c.decide-outcome.result) _ c.in-Err.ensures.text (c.in-Err.ensures.cause.failed);
+  outcome = told c.due-outcome.result;
+  due = c.due-outcome.ensures.due;
+  ends = ends_cut (told c.due-outcome.result) _ c.in-Err.ensures.text (c.in-Err.ensures.cause.failed);
 }

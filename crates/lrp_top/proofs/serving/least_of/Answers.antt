@@ -8,6 +8,6 @@ invariant_of-result c = record { known = known_least c.spots_stand_for_tuples.en
 
 pub returns : goal.returns
 returns c = record {
-  least = λ planned db q cap is. told_least c.spots_stand_for_tuples.ensures.tuple planned db q cap c.args.answer is c.least-least.result c.least-least.ensures.none c.least-least.ensures.some;
+  least = λ planned db q cap is. told_least c.spots_stand_for_tuples.ensures.tuple planned db q cap c.args.answer is c.args.dates c.least-least.result c.least-least.ensures.none c.least-least.ensures.some;
   first = λ planned db q cap is. least_is c.spots_stand_for_tuples.ensures.tuple planned db q cap c.args.answer c.least-least.result is c.least-least.ensures.none c.least-least.ensures.some;
 }

@@ -18,3 +18,13 @@ pub returns-in-Page : goal.returns-in-Page
 returns-in-Page c = record {
   served = subst (λ p. IsServed c.args.question.planning p (database_source c.args.question.database) (query_source c.args.question.query) c.args.question.plan (told c.page.result)) (sym c.in-Page.is) c.page.ensures.page;
 }
+
+pub returns-in-Count : goal.returns-in-Count
+returns-in-Count c = record {
+  served = subst (λ p. IsServed c.args.question.planning p (database_source c.args.question.database) (query_source c.args.question.query) c.args.question.plan (told c.number.result)) (sym c.in-Count.is) c.number.ensures.due;
+}
+
+pub returns-in-Ranges : goal.returns-in-Ranges
+returns-in-Ranges c = record {
+  served = subst (λ p. IsServed c.args.question.planning p (database_source c.args.question.database) (query_source c.args.question.query) c.args.question.plan (told c.range_lines.result)) (sym c.in-Ranges.is) c.range_lines.ensures.due;
+}
