@@ -1,0 +1,3 @@
+-- Proofs of calls from C.
+pub mod PackedLemmas
+pub mod RunLemmas

@@ -1,0 +1,3 @@
+-- What contracts say of calls from C.
+pub mod Packed
+pub mod Calls

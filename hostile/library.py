@@ -1,0 +1,148 @@
+"""The library for C, which the variable FIZHEDUL_LIBRARY names: odd bytes, every room, memory refused, threads, and random
+questions one after the other in one process, against the program, which is begun anew for each."""
+
+import ctypes
+import os
+import random
+import resource
+import subprocess
+import threading
+
+from common import HERE, WAIT
+from memory import BUS, example
+from opinion import Case
+
+ROOM = 1 << 16
+ASK = ("ask", "db=db", "query=query")
+INSTANTS = b"{ t: time | bus(t) }"
+
+
+def packed(texts):
+    return b"".join(len(text).to_bytes(8, "little") + text for text in texts)
+
+
+class Library:
+    """The calls of the shared library."""
+
+    def __init__(self, path):
+        size = ctypes.c_size_t
+        self.call = ctypes.CDLL(path).fizhedul_run
+        self.call.argtypes = [*[ctypes.c_char_p, size] * 3, ctypes.POINTER(size)]
+
+    def raw(self, words, files, room=ROOM):
+        """The status, the length, and what stands in the room and in 16 bytes after it."""
+        text, length = ctypes.create_string_buffer(b"?" * (room + 16), room + 16), ctypes.c_size_t(1)
+        status = self.call(words, len(words), files, len(files), text, room, ctypes.byref(length))
+        return status, length.value, text.raw
+
+    def run(self, *words, **files):
+        """The status and the text, as of a run of the program."""
+        held = packed(part for name, text in files.items() for part in (name.encode(), text))
+        status, length, text = self.raw(packed(word.encode() for word in words), held, ROOM)
+        if length > ROOM:
+            status, length, text = self.raw(packed(word.encode() for word in words), held, length)
+        return status, text[:length]
+
+
+def questions(seed):
+    """The words of some questions of a random case, and its files."""
+    case = Case(seed, 10000, is_tense=seed % 5 == 0, is_guarded=seed % 3 == 0)
+    keys = [*(["tense=yes"] if seed % 5 == 0 else []), *(["plan=guarded"] if seed % 3 == 0 else [])]
+    files = {"db": case.database, "query": case.query}
+    yield ["check", "db=db"], {"db": case.database}
+    for command in (["explain"], ["ask"], ["decide"], ["list", "from=-20", "to=60", "limit=7"]):
+        yield [command[0], "db=db", "query=query", *command[1:], *keys], files
+
+
+def same_as_processes(library, program, tally, seeds):
+    for seed in seeds:
+        for words, files in questions(seed):
+            for name, text in files.items():
+                program.write(name, text)
+            wanted = program.run(*words)
+            tally.check(library.run(*words, **files) == wanted, " ".join(words), *files.values(), wanted[1])
+
+
+def odd_bytes(library, tally, count):
+    chance = random.Random(1)
+    words, files = packed(word.encode() for word in ASK), packed([b"db", BUS, b"query", INSTANTS])
+    for _ in range(count):
+        parts = [bytearray(words), bytearray(files)]
+        for part in parts:
+            for _ in range(chance.randrange(3)):
+                part[chance.randrange(len(part))] = chance.choice((0, 1, 7, 127, 128, 255, chance.randrange(256)))
+            if chance.random() < 0.3:
+                del part[chance.randrange(len(part)) :]
+        status, length, text = library.raw(*map(bytes, parts))
+        is_told = status in (0, 2, 3, 4, 5, 6, 8) and 0 < length <= ROOM or (status, length) == (10, 0)
+        tally.check(is_told and set(text[length:]) == {ord("?")}, "odd bytes: %d" % status, *map(bytes, parts))
+
+
+def every_room(library, tally):
+    words, files = packed(word.encode() for word in ASK), packed([b"db", BUS, b"query", INSTANTS])
+    whole = library.run(*ASK, db=BUS, query=INSTANTS)[1]
+    for room in range(len(whole) + 2):
+        wanted = (0, len(whole), (whole[:room] + b"?" * (room + 16))[: room + 16])
+        tally.check(library.raw(words, files, room) == wanted, "room for %d bytes" % room)
+
+
+def in_threads(library, tally, seeds):
+    """Four threads ask at the same time, and get what one gets."""
+    asked = [question for seed in seeds for question in questions(seed)]
+    wanted = [library.run(*words, **files) for words, files in asked]
+    got = [[] for _ in range(4)]
+
+    def ask(into):
+        into += [library.run(*words, **files) for words, files in asked]
+
+    threads = [threading.Thread(target=ask, args=(into,)) for into in got]
+    for thread in threads:
+        thread.start()
+    for thread in threads:
+        thread.join()
+    for into in got:
+        tally.check(into == wanted, "a thread got something else")
+
+
+def growth(library, tally, count):
+    """The process doesn't grow while the same questions are asked again and again."""
+    base, query = example("week", "connections")
+    for _ in range(count):
+        library.run("decide", "db=db", "query=query", db=base, query=query)
+    before = resource.getrusage(resource.RUSAGE_SELF).ru_maxrss
+    for _ in range(10 * count):
+        library.run("decide", "db=db", "query=query", db=base, query=query)
+    grown = resource.getrusage(resource.RUSAGE_SELF).ru_maxrss - before
+    tally.check(grown < 1024, "the process grew by %d KB" % grown)
+
+
+def refused_memory(program, tally, path):
+    """Each request of a call for memory refused in turn, in a program in C."""
+    made = os.path.join(program.room, "refused_calls")
+    folder = os.path.dirname(os.path.realpath(path))
+    wraps = ["-Wl,--wrap=" + name for name in ("malloc", "realloc", "free")]
+    words = ["cc", "-O1", "-I", os.path.join(HERE, "..", "packaging", "library"), "-o", made]
+    archive = os.path.join(folder, "libfizhedul.a")
+    built = subprocess.run([*words, os.path.join(HERE, "refused_calls.c"), archive, *wraps], capture_output=True, check=False)
+    tally.check(built.returncode == 0, "the calls can't be built", built.stderr)
+    for words, (base, query) in ((ASK, (BUS, INSTANTS)), (("decide", *ASK[1:]), example("week", "connections")),
+                                 (("list", *ASK[1:], "from=0", "to=200"), (BUS, INSTANTS)), (("nothing",), (BUS, INSTANTS))):
+        program.write("words", packed(word.encode() for word in words))
+        program.write("files", packed([b"db", base, b"query", query]))
+        ran = subprocess.run([made, "words", "files"], cwd=program.folder, capture_output=True, check=False, timeout=WAIT)
+        tally.check(ran.returncode == 0 and int(ran.stdout) > 1, " ".join(words), ran.stdout)
+
+
+def calls_of_library(program, tally, seeds):
+    """All of that, where there is a library."""
+    path = os.environ.get("FIZHEDUL_LIBRARY")
+    if not path:
+        print("library: FIZHEDUL_LIBRARY names none, so none is called")
+        return
+    library = Library(path)
+    every_room(library, tally)
+    odd_bytes(library, tally, 20 * len(seeds))
+    same_as_processes(library, program, tally, seeds)
+    in_threads(library, tally, seeds[:20])
+    growth(library, tally, 100)
+    refused_memory(program, tally, path)

@@ -1,0 +1,209 @@
+"""The library for C: what it shows, how it is found, and its calls, from C and under the address sanitizer."""
+
+import ctypes
+import re
+import subprocess
+import sys
+import tempfile
+import unittest
+import zipfile
+from pathlib import Path
+
+from made_library import BUILD, library, shared_library
+from support import PROGRAM, TOP, need
+
+BUS = b"relation bus(t: time) { (5+60n); }\n"
+ALL = b"{ t: time | bus(t) }\n"
+ANSWER = b"relation answer(t: time) {\n  (5+60n);\n}\n"
+ASK = ("ask", "db=d", "query=q")
+FLAGS = ["-std=c99", "-Wall", "-Wextra", "-Werror", "-O1"]
+
+
+def packed(texts) -> bytes:
+    """Byte strings in one, each after its length."""
+    return b"".join(len(text).to_bytes(8, "little") + text for text in texts)
+
+
+def call(words: bytes, files: bytes, room: int = 4096) -> tuple[int, int, bytes]:
+    """The status, the number of all bytes, and what stands in the room and eight bytes after it."""
+    size = ctypes.c_size_t
+    run = ctypes.CDLL(str(shared_library())).fizhedul_run
+    run.argtypes = [ctypes.c_char_p, size, ctypes.c_char_p, size, ctypes.c_char_p, size, ctypes.POINTER(size)]
+    text, length = ctypes.create_string_buffer(b"?" * (room + 8), room + 8), size(12345)
+    status = run(words, len(words), files, len(files), text, room, ctypes.byref(length))
+    return status, length.value, text.raw
+
+
+def asked(*words: str, room: int = 4096, **files: bytes) -> tuple[int, int, bytes]:
+    """A call with these words over these files."""
+    held = packed(part for name, text in files.items() for part in (name.encode(), text))
+    return call(packed(word.encode() for word in words), held, room)
+
+
+class Library(unittest.TestCase):
+    """One library, built once."""
+
+    @classmethod
+    def setUpClass(cls):
+        library()
+
+    def test_it_writes_what_the_program_writes(self):
+        status, length, text = asked(*ASK, d=BUS, q=ALL)
+        self.assertEqual((status, length, text[:length]), (0, len(ANSWER), ANSWER))
+        self.assertEqual(set(text[length:]), {ord("?")})
+
+    def test_each_room_holds_a_front_and_no_byte_past_it(self):
+        for room in range(len(ANSWER) + 3):
+            status, length, text = asked(*ASK, room=room, d=BUS, q=ALL)
+            self.assertEqual((status, length), (0, len(ANSWER)))
+            self.assertEqual(text, (ANSWER[:room] + b"?" * (room + 8))[:room + 8])
+
+    def test_a_refusal_has_its_line_and_its_status(self):
+        for wanted, line, words, files in (
+                (2, b"refused: usage\n", (), {}),
+                (3, b"refused: database Syntax at 1:1\n", ASK, {"d": b"x", "q": ALL}),
+                (4, b"refused: query UnknownRelation at 1:13\n", ASK, {"d": BUS, "q": b"{ t: time | buss(t) }"}),
+                (5, b"refused: more than 1 cells at step 1\n", ("decide", "db=d", "query=q", "cap=1"),
+                 {"d": b"relation bus(t: time) { (5+60n); (6+60n); }", "q": ALL}),
+                (6, b"refused: read of query\n", ASK, {"d": BUS}),
+                (6, b"refused: read of database\n", ASK, {"q": ALL})):
+            status, length, text = asked(*words, **files)
+            self.assertEqual((status, text[:length]), (wanted, line))
+
+    def test_of_two_files_of_one_name_the_first_counts(self):
+        held = packed([b"d", BUS, b"q", ALL, b"d", b"nothing", b"q", b"nothing"])
+        status, length, text = call(packed(word.encode() for word in ASK), held)
+        self.assertEqual((status, text[:length]), (0, ANSWER))
+
+    def test_what_is_not_packed_is_refused_and_nothing_is_written(self):
+        words, files = packed(word.encode() for word in ASK), packed([b"d", BUS, b"q", ALL])
+        wrong = [(words[:cut], files) for cut in range(1, len(words)) if cut not in (11, 23)]
+        wrong += [(words, files[:cut]) for cut in range(1, len(files)) if cut not in (9 + 8 + len(BUS), len(files))]
+        wrong += [(words + b"\0", files), (words, files + packed([b"name alone"])), (packed([b"\xff"]), files),
+                  (words, packed([b"\xff", b""])), ((2**64 - 1).to_bytes(8, "little") + b"x", files)]
+        for asked_words, held in wrong:
+            status, length, text = call(asked_words, held)
+            self.assertEqual((status, length, set(text)), (10, 0, {ord("?")}), (asked_words, held))
+
+    def test_a_call_sees_no_file_of_the_one_before(self):
+        self.assertEqual(asked(*ASK, d=BUS, q=ALL)[0], 0)
+        self.assertEqual(asked(*ASK)[0], 6)
+
+    def test_only_the_names_of_the_header_are_seen(self):
+        nm = need("nm")
+        declared = set(re.findall(r"^int32_t (\w+)\(", (BUILD / "fizhedul.h").read_text(), re.MULTILINE))
+        shown = subprocess.run([nm, "-D", "--defined-only", shared_library()], capture_output=True, text=True, check=True)
+        found = {line.split()[2].split("@")[0] for line in shown.stdout.splitlines()} - {"FIZHEDUL_1"}
+        self.assertEqual(found, declared)
+        shown = subprocess.run([nm, "-g", "--defined-only", library() / "lib/libfizhedul.a"], capture_output=True, text=True, check=True)
+        self.assertEqual({line.split()[2] for line in shown.stdout.splitlines() if len(line.split()) == 3}, declared)
+
+    def test_the_version_stands_in_its_name_and_in_what_finds_it(self):
+        version = (TOP / "share/version").read_text().strip()
+        self.assertEqual(shared_library().resolve().name, f"libfizhedul.so.1.{version}")
+        shown = subprocess.run([need("objdump"), "-p", shared_library()], capture_output=True, text=True, check=True).stdout
+        self.assertRegex(shown, r"SONAME +libfizhedul\.so\.1\n")
+        found = subprocess.run([need("pkg-config"), "--modversion", "fizhedul"], capture_output=True, text=True, check=True,
+                               env={"PKG_CONFIG_PATH": str(library() / "lib/pkgconfig"), "PATH": "/usr/bin:/bin"})
+        self.assertEqual(found.stdout.strip(), version)
+
+    def build_example(self, folder: str, *more: str) -> Path:
+        """The example, built as its first lines say, with further words for the compiler."""
+        program = Path(folder, "example")
+        done = subprocess.run([need("cc"), *FLAGS, *more, f"-I{library() / 'include'}", "-o", program, BUILD / "example.c",
+                               library() / "lib/libfizhedul.a"], capture_output=True, text=True, check=False)
+        self.assertEqual((done.returncode, done.stderr), (0, ""))
+        return program
+
+    def test_the_example_runs_and_asks_for_no_byte_that_it_may_not(self):
+        for more in ([], ["-fsanitize=address,undefined", "-g"]):
+            with tempfile.TemporaryDirectory() as folder:
+                program = self.build_example(folder, *more)
+                done = subprocess.run([program], capture_output=True, text=True, check=False)
+                self.assertEqual((done.returncode, done.stdout, done.stderr), (0, "5\n65\n125\nend\n", ""))
+
+    def test_the_header_is_also_one_of_cpp(self):
+        with tempfile.TemporaryDirectory() as folder:
+            source = Path(folder, "uses.cc")
+            source.write_text('#include <fizhedul.h>\nint main() { return fizhedul_packed(0) == 8 ? 0 : 1; }\n')
+            done = subprocess.run([need("c++"), "-Wall", "-Wextra", "-Werror", f"-I{BUILD}", "-o", Path(folder, "uses"), source],
+                                  capture_output=True, text=True, check=False)
+            self.assertEqual((done.returncode, done.stderr), (0, ""))
+
+    def test_it_says_the_same_as_the_program_on_every_example(self):
+        for cases in sorted(TOP.glob("examples/*/cases"))[:8]:
+            folder = cases.parent
+            for path in sorted(folder.glob("*.lrq")):
+                databases = sorted(folder.glob("*.lrp"))[:1]
+                for base in databases:
+                    words = ["decide", f"db={base.name}", f"query={path.name}"]
+                    ran = subprocess.run([PROGRAM, *words], cwd=folder, capture_output=True, check=False)
+                    status, length, text = asked(*words, **{base.name: base.read_bytes(), path.name: path.read_bytes()})
+                    self.assertEqual((status, text[:length]), (ran.returncode, ran.stdout), (folder.name, words))
+
+
+class Packages(unittest.TestCase):
+    """The Debian packages and the wheel: unpacked, and used from there."""
+
+    ASKED = "import fizhedul; print(fizhedul.Database('relation r(t: time) { (7); }').query('{ t: time | r(t) }').decide())"
+
+    @classmethod
+    def setUpClass(cls):
+        for tool in ("dpkg-deb", "dpkg-architecture"):
+            need(tool)
+        library()
+        cls.temporary = tempfile.TemporaryDirectory()
+        cls.addClassCleanup(cls.temporary.cleanup)
+        cls.folder = Path(cls.temporary.name)
+        done = subprocess.run([BUILD / "packages", cls.folder], capture_output=True, text=True, check=False)
+        if done.returncode:
+            raise AssertionError(done.stderr)
+        cls.packages = [Path(line) for line in done.stdout.splitlines()]
+        cls.root = cls.folder / "root"
+        for package in cls.packages:
+            subprocess.run(["dpkg-deb", "-x", package, cls.root], check=True)
+        triplet = subprocess.run(["dpkg-architecture", "-qDEB_HOST_MULTIARCH"], capture_output=True, text=True, check=True)
+        cls.libraries = cls.root / "usr/lib" / triplet.stdout.strip()
+
+    def test_there_are_three(self):
+        self.assertEqual([package.name.split("_")[0] for package in self.packages],
+                         ["libfizhedul1", "libfizhedul-dev", "python3-fizhedul"])
+
+    def test_a_program_is_built_and_run_with_them(self):
+        program = self.folder / "example"
+        source = self.root / "usr/share/doc/libfizhedul-dev/examples/example.c"
+        done = subprocess.run([need("cc"), *FLAGS, f"-I{self.root / 'usr/include'}", "-o", program, source, f"-L{self.libraries}",
+                               "-lfizhedul"], capture_output=True, text=True, check=False)
+        self.assertEqual((done.returncode, done.stderr), (0, ""))
+        done = subprocess.run([program], capture_output=True, text=True, check=False, env={"LD_LIBRARY_PATH": str(self.libraries)})
+        self.assertEqual((done.returncode, done.stdout), (0, "5\n65\n125\nend\n"))
+
+    def test_python_finds_the_library_of_the_system(self):
+        done = subprocess.run([sys.executable, "-c", self.ASKED], cwd=self.folder, capture_output=True, text=True, check=False,
+                              env={"LD_LIBRARY_PATH": str(self.libraries), "PYTHONPATH": str(self.root / "usr/lib/python3/dist-packages")})
+        self.assertEqual((done.returncode, done.stdout, done.stderr), (0, "(7,)\n", ""))
+
+    def test_lintian_finds_nothing(self):
+        lintian = need("lintian")
+        done = subprocess.run([lintian, "--allow-root", "--fail-on", "error,warning", *self.packages], capture_output=True, text=True,
+                              check=False)
+        self.assertEqual((done.returncode, done.stdout), (0, ""))
+
+    def test_a_wheel_has_the_library_in_it(self):
+        python = "/usr/bin/python3"
+        if subprocess.run([python, "-c", "import setuptools, pip, wheel"], capture_output=True, check=False).returncode:
+            self.skipTest("pip, setuptools or wheel is missing")
+        done = subprocess.run([TOP / "bindings/python/wheel", self.folder], capture_output=True, text=True, check=False,
+                              env={"PATH": "/usr/bin:/bin", "PYTHON": python, "FIZHEDUL_LIBRARY": str(shared_library())})
+        self.assertEqual(done.returncode, 0, done.stderr)
+        wheel = Path(done.stdout.strip())
+        self.assertRegex(wheel.name, r"^fizhedul-[0-9.]+-py3-none-linux_\w+\.whl$")
+        with zipfile.ZipFile(wheel) as opened:
+            opened.extractall(self.folder / "unpacked")
+        done = subprocess.run([sys.executable, "-c", self.ASKED], cwd=self.folder / "unpacked", capture_output=True, text=True,
+                              check=False, env={"PATH": "/usr/bin:/bin"})
+        self.assertEqual((done.returncode, done.stdout, done.stderr), (0, "(7,)\n", ""))
+
+
+if __name__ == "__main__":
+    unittest.main()
