@@ -12,12 +12,22 @@ def test_no_module_has_more_than_300_lines() -> None:
     assert [str(source) for source, length in lengths.items() if length > 300] == []
 
 
-@pytest.mark.parametrize("module, package", [("icalendar", "python3-icalendar"), ("dateutil", "python3-dateutil")])
-def test_a_missing_package_is_one_line(tmp_path_factory: pytest.TempPathFactory, module: str, package: str) -> None:
+@pytest.mark.parametrize(
+    "module, package, words",
+    [
+        ("icalendar", "python3-icalendar", ["import", "ics", "a.ics"]),
+        ("dateutil", "python3-dateutil", ["import", "ics", "a.ics"]),
+        ("starlette", "python3-starlette", ["page", "db=a.lrp"]),
+        ("uvicorn", "python3-uvicorn", ["page", "db=a.lrp"]),
+    ],
+)
+def test_a_missing_package_is_one_line(
+    tmp_path_factory: pytest.TempPathFactory, module: str, package: str, words: list[str]
+) -> None:
     folder = tmp_path_factory.mktemp("empty")
     source = TOP / "workbench" / "src" / "fizhedul_workbench"
     hidden = f"import sys; sys.modules[{module!r}] = None; sys.path.insert(0, {str(source.parent)!r})\n"
-    hidden += "from fizhedul_workbench.__main__ import main; sys.exit(main(['import', 'ics', 'a.ics']))"
+    hidden += f"from fizhedul_workbench.__main__ import main; sys.exit(main({words!r}))"
     done = subprocess.run(["/usr/bin/python3", "-c", hidden], capture_output=True, text=True, cwd=folder, timeout=60)
     assert done.returncode == 1 and done.stdout == ""
     assert done.stderr == f"refused: the Debian package {package} is missing (apt-get install {package})\n"
@@ -26,4 +36,4 @@ def test_a_missing_package_is_one_line(tmp_path_factory: pytest.TempPathFactory,
 def test_the_first_word_names_a_tool() -> None:
     done = tool()
     assert done.returncode == 2
-    assert done.stderr == "refused: usage: the first word is one of shell, draw, import, export, spread\n"
+    assert done.stderr == "refused: usage: the first word is one of shell, draw, page, import, export, spread\n"

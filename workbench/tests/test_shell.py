@@ -84,8 +84,8 @@ def test_refusals_are_shown_in_place(bus: Path) -> None:
         "This step of the plan has tuples in more cells than 'cap' allows: a cell is a remainder of each\n"
         "time by the step's period, and a text for each other variable.\n"
         "The step is '1 scan bus(t, l) [period 60, reach 60]'.\n"
-        "See the steps by '.explain'; tie the variables together by a relation or use\n"
-        "shorter periods; or give a higher cap by '.cap N'; a cell may take 750 bytes and 10 microseconds.\n"
+        "See the steps by '.explain'; tie the variables together by a relation or use shorter periods; or\n"
+        "give a higher cap by '.cap N'; a cell may take 750 bytes and 10 microseconds.\n"
     )
 
 

@@ -7,7 +7,15 @@ from pathlib import Path
 import pytest
 from fizhedul_workbench.spread.lengths import reach_of
 from fizhedul_workbench.spread.lines import Form, Head, head_of, least_first, rank
-from fizhedul_workbench.spread.merging import is_answered, is_page, least, merge_by_order, merge_windows
+from fizhedul_workbench.spread.merging import (
+    is_answered,
+    is_number,
+    is_page,
+    least,
+    merge_by_order,
+    merge_windows,
+    total,
+)
 from fizhedul_workbench.spread.windows import Reach, Window, cut, seen
 from fizhedul_workbench.words import Refused
 from tools import tool
@@ -198,3 +206,23 @@ def test_words_are_checked(tmp_path: Path, words: list[str], wanted: str) -> Non
 
 def test_a_file_that_is_not_there_is_told(rides: Path) -> None:
     assert asked(rides, "none.lrq") == "refused: none.lrq: No such file or directory"
+
+
+def test_numbers_of_windows_are_added_up(tmp_path: Path) -> None:
+    numbers = [0, 9, 153_722_867_280_912_930, 9_223_372_036_854_775_809]
+    paths = files(tmp_path, *(f"{number}\n" for number in numbers))
+    assert total(paths) == b"%d\n" % sum(numbers) and total(paths[:1]) == b"0\n"
+    odd = files(tmp_path, "", "5", "05\n", "-5\n", "5\n5\n", "refused: memory\n", "end\n")
+    assert not any(map(is_number, odd)) and all(map(is_number, files(tmp_path, "0\n", "10\n")))
+
+
+def test_only_windows_are_counted_in_parts() -> None:
+    words = ["spread", "count", "db=a", "query=b", "from=0", "to=9", "parts=2", "engine=parallel", "out=c"]
+    for more, why in (
+        ("overlap=5", "there is no key 'overlap' here"),
+        ("by=line", "there is no key 'by' here"),
+        ("limit=5", "there is no key 'limit' here"),
+    ):
+        done = tool(*words, more)
+        assert done.returncode == 2 and why in done.stderr
+    assert "the key 'parts' is missing" in tool(*words[:6], *words[7:]).stderr

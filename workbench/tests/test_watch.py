@@ -1,8 +1,10 @@
 """Edits that are watched, in the shell."""
 
+import time
 from pathlib import Path
 
 import pytest
+from test_shell import terminal
 from tools import shell
 
 BUS = "relation bus(t: time) { (5+60n); }"
@@ -41,14 +43,42 @@ def test_its_refusals_have_a_sentence_and_a_place(bus: Path) -> None:
     out, status = piped(
         bus,
         f"{ALL}\n.watch tram.lre\n.watch two.lre\n.watch none.lre\n.cap 59\n.watch moves.lre\n"
-        "{ t: time | not bus(t) }\n.watch moves.lre\n",
+        "{ t: time | bus(t) }\n.watch moves.lre\n",
     )
-    assert status == 4
+    assert status == 5
     for lines in (
         "refused: edits UnknownRelation at 2:3\ntram.lre:2:3\n  + tram (1);\n    ^~~~\nThe database has no",
         "refused: edits Arity at 1:7\ntwo.lre:1:7\n  + bus (0, 1);\n        ^\nThe relation 'bus' has 1 column",
         "refused: read of edits\nThe file that 'edits=' names can't be read: none.lre: No such file or directory.\n",
         "refused: more than 59 cells at edit 1\nWith this edit, some rows of the query's",
-        "refused: query not kept\nThe query is not in kept form, which 'watch' needs",
     ):
         assert lines in out, out
+
+
+def test_every_query_is_watched(bus: Path) -> None:
+    (bus / "night.lre").write_text("+ bus (0+2n);\n+ bus (1+2n);\n")
+    page = "t\n-\n0\n1\n2\n3\n4\n(5 answers; the last from 0 to 5)\n"
+    assert piped(bus, "{ t: time | not bus(t) }\n.watch night.lre\n") == (page + "0\n1\nnone\n", 0)
+
+
+def test_at_a_terminal_a_file_is_followed_as_it_grows(bus: Path) -> None:
+    with terminal(bus) as end:
+        end.read_until("fizhedul>")
+        end.type(b"{ t: time | not bus(t) }\r")
+        end.read_until("fizhedul>")
+        edits = bus / "night.lre"
+        edits.write_text("+ bus (0+2n);\n")
+        end.type(b".watch night.lre\r")
+        end.read_until("following night.lre; Ctrl-C ends that")
+        # Half an edit waits for its end.
+        with edits.open("a") as file:
+            file.write("+ bus (1+")
+            file.flush()
+            time.sleep(1)
+            file.write("2n);\n")
+        assert "refused" not in end.read_until("none")
+        edits.write_text("# Anew.\n+ bus (0+2n);\n")
+        end.read_until("the edits before have changed; anew:")
+        end.type(b"\x03")
+        end.read_until("interrupted")
+        end.read_until("fizhedul>")

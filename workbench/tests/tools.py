@@ -30,9 +30,9 @@ def shell(folder: Path, text: str, *words: str) -> tuple[str, int]:
     return done.stdout, done.returncode
 
 
-def program(*words: str) -> str:
-    """The output of the program, which has to be whole."""
-    done = subprocess.run([PROGRAM, *words], capture_output=True, text=True, timeout=TIME, stdin=subprocess.DEVNULL)
+def program(*words: str, text: str = "") -> str:
+    """The output of the program, which has to be whole; the text is its standard input."""
+    done = subprocess.run([PROGRAM, *words], capture_output=True, text=True, timeout=TIME, input=text)
     assert done.returncode == 0, done.stdout
     return done.stdout
 

@@ -1,0 +1,1 @@
+"""The page: a query, a database, their picture and table in a browser."""

@@ -1,0 +1,52 @@
+// What the page knows, and who is told when it changes.
+
+export const LIMIT = 4611686018427387904n;
+
+export const state = {
+  tab: crypto.randomUUID(),
+  texts: { db: "", query: "", base: "", pinned: "" },
+  versions: { db: 1, query: 1, base: 1, pinned: 1 },
+  digests: { db: "", query: "" },
+  saved: { db: "", query: "" },
+  names: { db: null, query: null },
+  settings: { civil: false, tense: false, written: false, dates: false, cap: 1000000, limit: 500 },
+  window: { from: 0n, to: 1439n },
+  first: { from: 0n, to: 1439n },
+  columns: [],
+  answers: [],
+  more: null,
+  lanes: [],
+  chosen: -1,
+  isPinned: false,
+  canCount: true,
+  schema: { relations: [], texts: {} },
+};
+
+const listeners = new Map();
+
+export function on(event, act) {
+  listeners.set(event, [...(listeners.get(event) ?? []), act]);
+}
+
+export function tell(event, detail) {
+  for (const act of listeners.get(event) ?? []) act(detail);
+}
+
+export function setText(kind, text) {
+  state.texts[kind] = text;
+  state.versions[kind] += 1;
+}
+
+export function isChanged(kind) {
+  return state.texts[kind] !== state.saved[kind];
+}
+
+// A span of at least four steps of time, inside of the times that there are.
+export function setWindow(from, to) {
+  let first = from < -LIMIT ? -LIMIT : from;
+  let last = to > LIMIT ? LIMIT : to;
+  if (last < first + 4n) last = first + 4n > LIMIT ? LIMIT : first + 4n;
+  if (last - first < 4n) first = last - 4n;
+  state.window = { from: first, to: last };
+  tell("window");
+}

@@ -1,0 +1,171 @@
+"""A served page, and what a browser does on it."""
+
+import http.client
+import json
+import os
+import signal
+import subprocess
+import time
+from collections.abc import Iterator
+from contextlib import contextmanager
+from dataclasses import dataclass, field
+from pathlib import Path
+from typing import Any
+
+from devtools import Tab
+from tools import RUN, TOP, environment
+
+SECONDS = 180
+EXAMPLES = TOP / "examples"
+WEEK = (EXAMPLES / "week/week.lrp").read_text()
+CONNECTIONS = (EXAMPLES / "week/connections.lrq").read_text()
+SHOWN = "Number(document.documentElement.dataset.shown || 0)"
+
+
+@dataclass
+class Served:
+    """A page that is served: its link in parts, and the versions of the texts that were sent."""
+
+    link: str
+    process: subprocess.Popen[str]
+    texts: dict[str, str] = field(default_factory=dict)
+
+    @property
+    def host(self) -> str:
+        return self.link.split("/")[2]
+
+    @property
+    def token(self) -> str:
+        return self.link.split("/")[3]
+
+    def work(self) -> float:
+        """The seconds of a processor that the server and the programs that it ran have taken."""
+        parts = Path(f"/proc/{self.process.pid}/stat").read_text().rsplit(")", 1)[1].split()
+        return sum(int(part) for part in parts[11:15]) / os.sysconf("SC_CLK_TCK")
+
+    def raw(
+        self, method: str, path: str, body: bytes | None = None, headers: dict[str, str] | None = None
+    ) -> tuple[int, dict[str, str], bytes]:
+        """A request as it is given; status, headers and body of the answer."""
+        connection = http.client.HTTPConnection(self.host, timeout=SECONDS)
+        try:
+            connection.request(method, path, body, headers or {})
+            answer = connection.getresponse()
+            return answer.status, {key.lower(): value for key, value in answer.getheaders()}, answer.read()
+        finally:
+            connection.close()
+
+    def post(self, name: str, body: Any, **headers: str) -> tuple[int, Any]:
+        """A call as the page makes it."""
+        given = {"Content-Type": "application/json", "Origin": f"http://{self.host}", **headers}
+        content = body if isinstance(body, bytes) else json.dumps(body).encode()
+        status, _, answer = self.raw("POST", f"/{self.token}/api/{name}", content, given)
+        return status, json.loads(answer)
+
+    def ask(self, name: str, db: str, query: str, **more: Any) -> Any:
+        """A question about these texts."""
+        texts = {"db": {"version": 1, "text": db}, "query": {"version": 1, "text": query}}
+        if "base" in more:
+            texts["base"] = {"version": 1, "text": more.pop("base")}
+        body = {"tab": "test", "lane": name, "texts": texts, "from": "0", "to": "1439", **more}
+        status, found = self.post(name, body)
+        assert status == 200, found
+        return found
+
+
+@contextmanager
+def served(folder: Path, *words: str, **more: str) -> Iterator[Served]:
+    """A page for the words, which ends with the block."""
+    process = subprocess.Popen(
+        [str(RUN), "page", *words],
+        stdout=subprocess.PIPE,
+        stderr=subprocess.PIPE,
+        text=True,
+        cwd=folder,
+        env=environment(**more),
+    )
+    assert process.stdout is not None and process.stderr is not None
+    try:
+        link = process.stdout.readline().strip()
+        assert link.startswith("http://127.0.0.1:"), process.stderr.read()
+        yield Served(link, process)
+    finally:
+        process.send_signal(signal.SIGINT)
+        try:
+            process.wait(20)
+        except subprocess.TimeoutExpired:
+            process.kill()
+        process.stdout.close()
+        process.stderr.close()
+
+
+def wait_for(page: Tab, script: str, wanted: Any = True) -> Any:
+    """The value of an expression in the page once it is the wanted one."""
+    begin = time.monotonic()
+    found = page.value(script)
+    while found != wanted:
+        assert time.monotonic() - begin < SECONDS, (script, found, page.errors)
+        time.sleep(0.03)
+        found = page.value(script)
+    return found
+
+
+def open_page(page: Tab, link: str) -> None:
+    """Opens a page, and waits for its first answer."""
+    page.open(link)
+    wait_for(page, f"{SHOWN} > 0")
+
+
+def editor(kind: str) -> str:
+    return f"document.querySelector('#{kind}-editor .CodeMirror').CodeMirror"
+
+
+def set_text(page: Tab, kind: str, text: str) -> None:
+    """A text in place of the editor's, and the answer to it where there is one."""
+    page.value(f"{editor(kind)}.setValue({json.dumps(text)})")
+
+
+def answered(page: Tab, kind: str, text: str) -> None:
+    """Sets a text, and waits for its answer."""
+    before = page.value(SHOWN)
+    set_text(page, kind, text)
+    wait_for(page, f"{SHOWN} > {before}")
+
+
+def typed(page: Tab, text: str) -> None:
+    """Types into what has the focus, key by key."""
+    for letter in text:
+        page.key(letter, letter)
+
+
+def text_of(page: Tab, selector: str) -> str:
+    return str(page.value(f"document.querySelector({json.dumps(selector)}).textContent"))
+
+
+def rows(page: Tab) -> list[list[str]]:
+    """The rows of the table."""
+    script = "[...document.querySelectorAll('#answers tbody tr')].map((r) => [...r.cells].map((c) => c.textContent))"
+    found: list[list[str]] = page.value(script)
+    return found
+
+
+def click(page: Tab, selector: str) -> None:
+    """A click of the pointer in the middle of an element."""
+    script = (
+        f"(() => {{ const e = document.querySelector({json.dumps(selector)}); e.scrollIntoView({{ block: 'nearest' }});"
+        " const b = e.getBoundingClientRect(); return [b.x + b.width / 2, b.y + b.height / 2]; })()"
+    )
+    x, y = page.value(script)
+    for kind in ("mousePressed", "mouseReleased"):
+        page.call("Input.dispatchMouseEvent", type=kind, x=x, y=y, button="left", clickCount=1)
+
+
+def forget(page: Tab) -> None:
+    """What was changed is forgotten, so that the next page opens without a question."""
+    page.value("['db', 'query'].forEach((kind) => { fizhedul.state.saved[kind] = fizhedul.state.texts[kind]; })")
+
+
+def press(page: Tab, key: str, code: int, modifiers: int = 0) -> None:
+    """A key with the number by which the editor knows it."""
+    for kind in ("rawKeyDown", "keyUp"):
+        page.call("Input.dispatchKeyEvent", type=kind, key=key, windowsVirtualKeyCode=code, modifiers=modifiers)
