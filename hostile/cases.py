@@ -8,10 +8,11 @@ import civil
 from answers import answer_fault
 from canon import NEEDS_ONE, canonical_rows, canonical_text, has_one
 from common import EXAMPLES, digest
+from counted import refusal_of_head, text_of_window
 from guarded import GuardedPlan
 from language import Fault, read_database, relation_text
 from meaning import Meaning, TooHard
-from opinion import page, plain
+from opinion import nearest, page
 from plan import Plan
 from tense import read_tense
 from watch import judged
@@ -80,6 +81,8 @@ class Judge:
             return 4, ("refused: query %s\n" % fault).encode()
         if self.is_canon and not has_one(parsed):
             return 4, NEEDS_ONE
+        if refusal_of_head(self.words[0], parsed):
+            return 4, refusal_of_head(self.words[0], parsed)
         planner = GuardedPlan if self.keys.get("plan") == "guarded" else Plan
         plan = planner(relations, plain, self.budget)
         return self.planned(plan, Meaning(relations, parsed, self.budget), digest(database, query), text)
@@ -88,7 +91,10 @@ class Judge:
         texts = [content(self.folder, self.keys[key]) for key in ("db", "query", "edits")]
         if len(texts[0] or b"") > 2000:
             return None
-        return judged(*texts, int(self.keys.get("cap", 1000000)), self.budget)
+        planner = (
+            (GuardedPlan if self.keys.get("plan") == "guarded" else Plan) if self.keys.get("kept") == "auto" else None
+        )
+        return judged(*texts, int(self.keys.get("cap", 1000000)), self.budget, planner)
 
     def planned(self, plan, meaning, files, text):
         refused = plan.refusal()
@@ -107,8 +113,10 @@ class Judge:
             fault = answer_fault(text, meaning)
             return 0, text if fault is None else fault.encode()
         if self.words[0] == "decide":
-            least = meaning.least()
-            return 0, b"Empty\n" if least is None else ("Nonempty\n%s\n" % plain(least)).encode()
+            return 0, nearest(meaning.least(), civil.shown_or_number if self.keys.get("show") == "dates" else str)
+        if self.words[0] in ("count", "ranges"):
+            limit, form = int(self.keys.get("limit", 1000)), self.keys.get("form", "plain")
+            return 0, text_of_window(self.words[0], meaning, self.window(), limit, form, self.is_civil)
         return None if "after" in self.keys else (0, self.page(meaning, files))
 
     def canonical(self, meaning):
@@ -117,8 +125,11 @@ class Judge:
             return 5, b"refused: more than %d canonical rows\n" % most
         return 0, canonical_text(meaning, rows)
 
+    def window(self):
+        return [civil.minute_of(self.keys[it]) if self.is_civil else int(self.keys[it]) for it in ("from", "to")]
+
     def page(self, meaning, files):
-        start, end = (civil.minute_of(self.keys[it]) if self.is_civil else int(self.keys[it]) for it in ("from", "to"))
+        start, end = self.window()
         if end - start > 100000:
             raise TooHard
         answers = [meaning.tuple_of(env) for env in meaning.answers(start, end)]

@@ -30,6 +30,11 @@ def shown(number):
     return moment(number).isoformat(" ", "minutes")
 
 
+def shown_or_number(number):
+    """A time as `decide` has it by its date; outside the years 1 to 9999 it stands as its minutes."""
+    return shown(number) if FIRST <= number <= LAST else str(number)
+
+
 def as_end(number):
     """A time as the end of a window."""
     return moment(number).isoformat("T", "minutes")

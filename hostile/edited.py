@@ -4,10 +4,12 @@ import random
 import re
 
 from common import LONGEST
+from guarded import GuardedPlan
 from invent import Inventor
 from language import Fault, read_database, read_query
 from meaning import TooHard
 from mistakes import POOL, mistaken
+from plan import Plan
 from watch import LONG, UNREAD, disjuncts_of, judged
 
 EDIT_POOL = POOL + (b"+ r (", b"- s (", b"+ tram (1);", b"+", b"-", b"+ r (0+1n);", b"- ()")
@@ -83,29 +85,39 @@ POINT = re.compile(r"(-?\d+)\+(\d+)n")
 
 
 class Watched:
-    """One random database, kept query and list of edits."""
+    """One random database, query and list of edits. The query is kept, but where all are decided that are not."""
 
-    def __init__(self, seed, budget):
-        self.chance, self.budget = random.Random("watch %d" % seed), budget
+    def __init__(self, seed, budget, is_anew=False):
+        self.chance, self.budget = random.Random("watch %d%s" % (seed, " anew" * is_anew)), budget
         editor = Editor(self.chance)
         database = editor.database()
-        self.database, self.query = database.encode(), editor.kept_query().encode()
+        is_kept = not is_anew or self.chance.random() < 0.1
+        self.database, self.query = database.encode(), (editor.kept_query() if is_kept else editor.query()).encode()
         self.edits = editor.edits(database).encode()
+        self.planner, self.keys = None, self.chance.choice(([], ["kept=yes"], ["plan=guarded"]))
+        if is_anew:
+            name, self.planner = self.chance.choice((("written", Plan), ("guarded", GuardedPlan)))
+            self.keys = ["kept=auto", "plan=" + name]
 
     def compare(self, program, edits=None, cap=None):
         """Whether the program writes what the second opinion says; its status and output."""
         edits = self.edits if edits is None else edits
-        status, wanted = judged(self.database, self.query, edits, cap or 1000000, self.budget)
+        status, wanted = judged(self.database, self.query, edits, cap or 1000000, self.budget, self.planner)
         program.write("edits", edits)
-        words = ["watch", "edits=edits", *(["cap=%d" % cap] if cap else [])]
+        words = ["watch", "edits=edits", *self.keys, *(["cap=%d" % cap] if cap else [])]
         program.expect(wanted, status, *words, database=self.database, query=self.query)
         return status, wanted
 
 
-def watching(program, tally, seeds, budget):
+def watching_anew(program, tally, seeds, budget):
+    """The same with queries of every form, each planned in one of both ways."""
+    watching(program, tally, seeds, budget, is_anew=True)
+
+
+def watching(program, tally, seeds, budget, is_anew=False):
     """Random edits to random databases, small caps, and edits with mistakes."""
     for seed in seeds:
-        case = Watched(seed, budget)
+        case = Watched(seed, budget, is_anew)
         try:
             case.compare(program)
             for cap in case.chance.sample(range(1, 13), 2):

@@ -40,9 +40,14 @@ def runs():
     yield ["list", "from=0", "to=130", "after=T1/05/"], BUS, departures
     yield ["list", "from=0", "to=130", "limit=1", "form=json"], ZURICH, b"{ c: data, t: time | tram(t, c) }"
     yield ["list", "from=0", "to=1439"], *example("week", "connections")
+    yield ["count", "from=-130", "to=130"], SORTS, b"{ l: line, t: time | exists c: city trip(t, l, c) }"
+    yield ["ranges", "from=-130", "to=130", "limit=3"], BUS, b"{ t: time | not bus(t) }"
+    yield ["ranges", "from=0", "to=1439", "form=json"], BUS, departures
     yield ["watch", "edits=edits"], BUS, departures
     yield ["watch", "edits=edits", "cap=6"], BUS, b"{ t: time | exists u: time (bus(t) and bus(u) and t <= u and u in 0+2n) }"
     yield ["watch", "edits=edits"], BUS, b"{ t: time | not bus(t) }"
+    yield ["watch", "edits=edits", "kept=auto"], BUS, b"{ t: time | not bus(t) }"
+    yield ["watch", "edits=edits", "kept=auto", "cap=6", "plan=guarded"], BUS, b"{ t: time | (bus(t) and not bus(t + 1)) }"
     yield ["explain"], SORTS, left
     yield ["explain"], *example("guard", "always")
     yield ["check"], example("week", "connections")[0], None
@@ -54,6 +59,7 @@ def runs():
     dated = ["list", "from=2024-02-26T00:00", "to=2024-03-10T23:59", "civil=yes"]
     yield dated, b"relation bus(t: time) { (weekly mon 08:15); }", departures
     yield ["decide", "cap=1"], SORTS, left
+    yield ["decide", "civil=yes", "show=dates"], b"relation bus(t: time) { (weekly mon 08:15); }", departures
     yield ["sample", "seed=0", "size=20"], None, None
     yield ["check", "check"], None, None
 

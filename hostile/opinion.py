@@ -70,9 +70,9 @@ class Case:
         return ["plan=guarded"] if self.is_guarded else self.chance.choice(([], ["plan=written"]))
 
     def keys(self, command):
-        """The keys of a run. Where no civil value stands, civil=yes changes only how a page shows its times; where no
-        operator stands, tense=yes changes nothing."""
-        wider = [] if command == "list" else ["civil=yes"]
+        """The keys of a run. Where no civil value stands, civil=yes changes only how a window and its times are
+        spelled; where no operator stands, tense=yes changes nothing."""
+        wider = [] if command in ("list", "count", "ranges") else ["civil=yes"]
         civil_keys = ["civil=yes"] if self.is_civil else self.chance.choice(([], [], ["civil=no"], wider))
         tense_keys = ["tense=yes"] if self.is_tense else self.chance.choice(([], ["tense=no"], ["tense=yes"]))
         return civil_keys + (tense_keys + self.plan_keys() if command != "check" else [])
@@ -88,10 +88,16 @@ class Case:
         return page(answers, limit, digest(self.database, self.query), form, self.is_civil)
 
 
+def nearest(least, show=str):
+    """What decide writes of the least answer, or of none."""
+    return ("Empty\n" if least is None else "Nonempty\n%s\n" % plain(least, show)).encode()
+
+
 def decide(program, case):
-    least = case.meaning().least()
-    wanted = "Empty\n" if least is None else "Nonempty\n%s\n" % plain(least)
-    program.expect(wanted.encode(), 0, "decide", *case.keys("decide"), **case.files)
+    least, keys = case.meaning().least(), case.keys("decide")
+    program.expect(nearest(least), 0, "decide", *keys, *case.chance.choice(([], ["show=minutes"])), **case.files)
+    if "civil=yes" in keys:
+        program.expect(nearest(least, civil.shown_or_number), 0, "decide", *keys, "show=dates", **case.files)
 
 
 def window(case):

@@ -150,8 +150,33 @@ class Kept:
                 del rows[at]
 
 
-def judged(database, query, edits, cap=1000000, budget=400000):
-    """The status and the output of `watch` for these texts. None stands for a file that can't be read."""
+class Anew:
+    """The rows now held, over which a query that is not kept is planned and decided after each edit."""
+
+    change = Kept.change
+    least = Kept.least
+
+    def __init__(self, relations, query, planner, cap, budget):
+        self.relations, self.query, self.planner = relations, query, planner
+        self.cap, self.budget = cap, budget
+
+    def raised(self, name, row):
+        """Rows that were held once don't count."""
+
+    def limit(self):
+        """The limit that the plan passes, where it passes one."""
+        plan = self.planner(self.relations, self.query, self.budget)
+        refused = plan.refusal()
+        if refused:
+            return refused.removeprefix("refused: ").rstrip()
+        if any(plan.cells(number) > self.cap for number in range(1, len(plan.steps) + 1)):
+            return "more than %d cells" % self.cap
+        return None
+
+
+def judged(database, query, edits, cap=1000000, budget=400000, planner=None):
+    """The status and the output of `watch` for these texts. None stands for a file that can't be read. With a planner, a
+    query that is not kept is decided anew by its plan."""
     if database is None:
         return 6, UNREAD["database"]
     try:
@@ -165,7 +190,7 @@ def judged(database, query, edits, cap=1000000, budget=400000):
     except Fault as fault:
         return 4, refusal("query", fault)
     disjuncts = disjuncts_of(relations, parsed)
-    if disjuncts is None:
+    if disjuncts is None and planner is None:
         return 4, NOT_KEPT
     if edits is None:
         return 6, UNREAD["edits"]
@@ -175,6 +200,8 @@ def judged(database, query, edits, cap=1000000, budget=400000):
         changes = read_edits(edits, relations)
     except Fault as fault:
         return 3, refusal("edits", fault)
+    if disjuncts is None:
+        return watched(Anew(relations, parsed, planner, cap, budget), changes)
     return watched(Kept(relations, parsed, disjuncts, cap, budget), changes)
 
 
@@ -184,7 +211,8 @@ def watched(kept, changes):
     for number, edit in enumerate([None, *changes]):
         if edit:
             kept.change(edit)
-        refused = kept.limit() if edit is None or edit.is_added else None
+        is_limited = edit is None or edit.is_added or isinstance(kept, Anew)
+        refused = kept.limit() if is_limited else None
         if refused:
             return 5, ("refused: %s at edit %d\n" % (refused, number)).encode()
         lines.append(kept.least() + "\n")

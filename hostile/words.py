@@ -11,6 +11,8 @@ REQUIRED = {
     "ask": {"db", "query"},
     "decide": {"db", "query"},
     "list": {"db", "query", "from", "to"},
+    "count": {"db", "query", "from", "to"},
+    "ranges": {"db", "query", "from", "to"},
     "explain": {"db", "query"},
     "check": {"db"},
     "sample": {"seed", "size"},
@@ -18,12 +20,14 @@ REQUIRED = {
 }
 FURTHER = {
     "ask": {"cap", "civil", "tense", "canon", "plan"},
-    "decide": {"cap", "civil", "tense", "plan"},
+    "decide": {"cap", "civil", "tense", "plan", "show"},
     "list": {"limit", "after", "form", "cap", "civil", "tense", "plan"},
+    "count": {"cap", "civil", "tense", "plan"},
+    "ranges": {"limit", "form", "cap", "civil", "tense", "plan"},
     "explain": {"civil", "tense", "plan"},
     "check": {"civil"},
     "sample": set(),
-    "watch": {"cap"},
+    "watch": {"cap", "kept", "plan"},
 }
 RANGES = {
     "cap": (1, 10**9),
@@ -39,6 +43,8 @@ CHOICES = {
     "tense": ("yes", "no"),
     "canon": ("yes", "no"),
     "plan": ("written", "guarded"),
+    "show": ("minutes", "dates"),
+    "kept": ("yes", "auto"),
 }
 VALUES = (
     "",
@@ -66,6 +72,9 @@ VALUES = (
     "json",
     "written",
     "guarded",
+    "minutes",
+    "dates",
+    "auto",
     "Plain",
     "yes",
     "no",
@@ -105,7 +114,7 @@ def is_command(words):
         if not found or key not in known or key in seen or not is_value(key, value, "civil=yes" in words[1:]):
             return False
         seen.add(key)
-    return required <= seen
+    return required <= seen and ("show=dates" not in words[1:] or "civil=yes" in words[1:])
 
 
 def random_words(chance):
