@@ -730,6 +730,40 @@ def edits_on_texts(size):
     return Case(["watch"], database, text, units=size, unit="edits", output="\n".join([*found, ""]), edits="".join(changes))
 
 
+def held_case(size, changes):
+    """Edits of N instants beside one row of the even ones: each even instant is a choice that is kept."""
+    instants = range(2, 2 * size + 2, 2)
+    database = relation("a", times("t"), ["(0+2n)"]) + relation("b", times("t"), ["(%d)" % at for at in instants])
+    held, lines = set(instants), ["%d\n" % min(instants)]
+    for sign, at in changes:
+        held.symmetric_difference_update({at})
+        lines.append("%d\n" % next(it for it in range(2, 4 * size + 400, 2) if it in held))
+    return Case(
+        ["watch"],
+        database,
+        query(times("t"), "(a(t) and b(t))"),
+        units=len(changes),
+        unit="edits",
+        output="".join(lines),
+        edits="".join("%s b (%d);\n" % change for change in changes),
+    )
+
+
+@family("held choices, joined", "two", (100, 1000, 100000), "100 edits that each add a choice beside N")
+def held_choices_joined(size):
+    return held_case(size, [("+", 2 * size + 2 + 2 * i) for i in range(100)])
+
+
+@family("held choices, apart", "two", (100, 1000, 100000), "100 edits that add no choice beside N")
+def held_choices_apart(size):
+    return held_case(size, [("+", 2 * i + 1) for i in range(100)])
+
+
+@family("held choices, least removed", "two", (100, 1000, 100000), "99 edits that each take out the least of N choices")
+def held_choices_least_removed(size):
+    return held_case(size, [("-", 2 + 2 * i) for i in range(99)])
+
+
 # Canonical answers
 
 
