@@ -136,6 +136,16 @@ class Cases(FewCases):
         self.assertEqual(sorted(told["files"]), ["silence.lrq", "sky.lrp"])
         self.assertFalse((self.folder / "out.parts").exists())
 
+    def test_the_number_of_a_window_is_the_sum_of_those_of_its_parts(self):
+        words = ["count", "db=sky.lrp", "query=silence.lrq", "from=-1440", "to=4319"]
+        done = self.spread(*words, "parts=7")
+        self.assertEqual((done.status, done.out), (0, ""), done.err)
+        self.assertEqual(self.out(), self.one_run(*words))
+        # The passes repeat by the day, and so does what is left between them.
+        self.assertEqual(self.out(), f"{4 * (passes()['silence'].count(chr(10)) - 1)}\n")
+        done = self.spread(*words[:2], "query=conflicts.lrq", *words[3:], "parts=2")
+        self.assertEqual((done.status, done.err.splitlines()[-1]), (4, "refused: count needs at most one time column"))
+
     def test_many_questions_are_answered_by_name(self):
         done = self.spread("decide", "db=sky.lrp", "queries=.")
         self.assertEqual(done.status, 0, done.err)

@@ -55,7 +55,7 @@ class Guide(unittest.TestCase):
                     self.assertEqual((FOLDER / named[0]).read_text(), block)
                     files.add(named[0])
         self.assertEqual(files, {"line.lrp", "departures.lrq", "uncovered.lrq", "hourly.lrq", "trips.lrq", "costly.lrq", "within.lrq",
-                                 "pause.lrq", "road.lrq", "doubled.lrq", "changes.lre", "dates.lrp", "shifts.lrq"})
+                                 "pause.lrq", "road.lrq", "nobody.lrq", "doubtful.lrq", "doubled.lrq", "changes.lre", "closing.lre", "dates.lrp", "shifts.lrq"})
 
 
 class Formats(unittest.TestCase):
@@ -72,6 +72,38 @@ class Formats(unittest.TestCase):
             self.assertEqual(len(re.findall(r"\+120n", answer)), 6)
             answer = run("ask", "db=a.lrp", "query=b.lrq", "canon=yes", folder=Path(name)).out
             self.assertEqual(answer, re.sub(r"(?m)^    ", "", wanted))
+
+
+    def test_numbers_and_ranges_are_as_they_are_shown(self):
+        page = (TOP / "docs/formats.md").read_text()
+        database = re.findall(r"(?m)^Over `(relation bus.*)`, for", page)[0]
+        count = 0
+        for command, after in re.findall(r"(?ms)^`(count|ranges) db=F query=G from=A to=B` (.*?)(?=^`|^With `civil=yes` the times)", page):
+            query = re.findall(r"[Ff]or `(\{.*?\})`", after)[0]
+            with tempfile.TemporaryDirectory() as name:
+                Path(name, "a.lrp").write_text(database)
+                Path(name, "b.lrq").write_text(query)
+                for words, shown in re.findall(r"(?m)^\| `(from=[^`]*)` \| (`.*`).* \|$", after):
+                    with self.subTest(f"{command} {words}"):
+                        wanted = "".join(line + "\n" for line in re.findall("`([^`]*)`", shown))
+                        said = run(command, "db=a.lrp", "query=b.lrq", *words.split(), folder=Path(name))
+                        self.assertEqual(said.out, wanted)
+                        count += 1
+        self.assertEqual(count, 12)
+
+
+    def test_lines_of_what_is_decided_anew_are_as_they_are_shown(self):
+        section = (TOP / "docs/formats.md").read_text().split("With `kept=auto` a query")[1].split("### Canonical answers")[0]
+        query, database = re.findall(r"(?m)^For `(\{.*?\})` over `(relation .*?)`:$", section)[0]
+        rows = re.findall(r"(?m)^\| (?:`(.*?)`|none) \| (`.*`) \|$", section)
+        self.assertEqual(len(rows), 4)
+        with tempfile.TemporaryDirectory() as name:
+            Path(name, "a.lrp").write_text(database)
+            Path(name, "b.lrq").write_text(query)
+            for edits, shown in rows:
+                Path(name, "c.lre").write_text(edits)
+                said = run("watch", "db=a.lrp", "query=b.lrq", "edits=c.lre", "kept=auto", folder=Path(name))
+                self.assertEqual(said.out.splitlines(), re.findall("`([^`]*)`", shown))
 
 
 BUS = "relation bus(dep: time, arr: time) { (5+60n, 30+60n)%s; }"
@@ -108,7 +140,7 @@ class Scale(unittest.TestCase):
     """How work is spread."""
 
     def setUp(self):
-        for name in ("answers", "silence", "conflicts"):
+        for name in ("answers", "silence", "conflicts", "minutes"):
             for path in (Path("/tmp", name), Path("/tmp", f"{name}.how")):
                 path.unlink(missing_ok=True)
                 self.addCleanup(path.unlink, missing_ok=True)
@@ -116,7 +148,7 @@ class Scale(unittest.TestCase):
     def test_each_command_writes_what_is_shown(self):
         need("parallel", "GNU parallel")
         lines = [each for _, block in blocks_of(TOP / "docs/scale.md") for each in commands_of(block)]
-        self.assertEqual(len(lines), 4)
+        self.assertEqual(len(lines), 5)
         for line, wanted in lines:
             with self.subTest(line):
                 self.assertEqual(shell(line, TOP / "examples/passes").out, wanted)
@@ -126,6 +158,7 @@ class Scale(unittest.TestCase):
         # The passes repeat by the day, so the last lines of three days are those of the first one, two days later.
         silence, conflicts = (counted[name].splitlines()[:-1] for name in ("silence", "conflicts"))
         self.assertIn(f"wc -l </tmp/silence\n    {3 * len(silence) + 1}\n", page)
+        self.assertIn(f"cat /tmp/minutes\n    {365 * len(silence)}\n", page)
         self.assertIn(f"\n    {int(silence[-1]) + 2880}\n    end\n", page)
         rise, over, names = conflicts[-1].split(", ", 2)
         self.assertIn(f"\n    {int(rise) + 2880}, {int(over) + 2880}, {names}\n    end\n", page)
@@ -151,7 +184,7 @@ class Definitions(unittest.TestCase):
                 self.assertRegex(text, rf"(?m)^ *(?:\w+ )*{name} ")
 
     def test_each_crate_has_its_rows(self):
-        crates = re.findall(r"(?m)^(lrp_\w+):", (TOP / "crates.txt").read_text())
+        crates = re.findall(r"(?m)^(lrp_\w+)(?: staticlib)?:", (TOP / "crates.txt").read_text())
         for document in ("docs/architecture.md", "docs/proved.md"):
             rows = re.findall(r"(?m)^\| (`lrp_[^|]*) \|", (TOP / document).read_text())
             self.assertEqual(sorted(crates), sorted(re.findall(r"lrp_\w+", " ".join(rows))), document)
@@ -220,7 +253,7 @@ class Links(unittest.TestCase):
         documents = [page for folder in (".", "docs", "bench", "examples", "examples/*", "editors/*") for page in TOP.glob(f"{folder}/*.md")]
         self.assertGreater(len(documents), 20)
         for document in documents:
-            for name in re.findall(r"`((?:docs|examples|tests|share|tools|packaging|editors|bench|hostile|crates)/[\w./-]*)`",
+            for name in re.findall(r"`((?:docs|examples|tests|share|tools|packaging|bindings|editors|bench|hostile|crates)/[\w./-]*)`",
                                    document.read_text()):
                 # Definitions and proofs are named without their ending.
                 self.assertTrue((TOP / name).exists() or (TOP / f"{name}.antt").exists(), f"{document.name}: {name}")

@@ -14,7 +14,7 @@ from support import environment, fake
 PROBLEMS = {**BY_NUMBERS, "dates": dates}
 FOLDERS = {**PROBLEMS, **RULES}
 # Plans, refusals and normal forms, which follow from the rules of the formats and not from a count.
-NOT_COUNTED = {"dates": {"rides", "unread", "boat_plan", "no_such_day"}, "maintenance": {"unattended", "far", "far_asked", "few_cells"}, "guide": {"check", "dates", "costly", "not_kept"}, "roster": {"not_kept"},
+NOT_COUNTED = {"dates": {"rides", "unread", "boat_plan", "no_such_day"}, "maintenance": {"unattended", "far", "far_asked", "few_cells"}, "guide": {"check", "dates", "costly", "not_kept"}, "roster": {"not_kept"}, "counting": {"one_time_at_most", "one_time", "sort_before_the_head", "period", "cells", "no_file", "usage"},
                "canon": {"two_rows", "a_million_rows", "one_cell", "three_cells", "needs_one", "no_file", "three_terms", "period", "bound", "a_pair"}}
 
 
@@ -51,7 +51,7 @@ class Check(unittest.TestCase):
     def call(self, program: str | Path) -> subprocess.CompletedProcess[str]:
         """Runs it with a program."""
         return subprocess.run([EXAMPLES / "check"], stdin=subprocess.DEVNULL, capture_output=True, text=True, check=False,
-                              env=environment(FIZHEDUL_PROGRAM=str(program)), timeout=120)
+                              env=environment(FIZHEDUL_PROGRAM=str(program)), timeout=600)
 
     def test_without_a_program_it_stops_at_once(self):
         done = self.call("/nowhere/program")

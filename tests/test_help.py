@@ -186,7 +186,7 @@ class Launcher(unittest.TestCase):
             tool = folder / "workbench/run"
             tool.write_text('#!/bin/sh\nprintf "<%s>" "$@"\nexit 5\n')
             tool.chmod(0o755)
-            for word in ("shell", "draw", "import", "export"):
+            for word in ("shell", "draw", "page", "import", "export"):
                 said = shell(f"./fizhedul {word} 'db=a b' x", folder)
                 self.assertEqual((said.status, said.out, said.err), (5, f"<{word}><db=a b><x>", ""))
 

@@ -111,14 +111,18 @@ OTHERS = [
          "{ t: time, u: time | r(t, u) }", more=("canon=yes",), command="ask"),
     Case("refused: more than 2 canonical rows", "relation r(t: time) { (0+2n) where t >= 0, t <= 4; }",
          "{ t: time | r(t) }", more=("canon=yes", "cap=2"), command="ask"),
+    Case("refused: count needs at most one time column", "relation r(t: time, u: time) { (0+7n, 0+7n); }",
+         "{ t: time, u: time | r(t, u) }", more=("from=0", "to=9"), command="count"),
+    Case("refused: ranges needs one time column", TRIP, "{ t: time, l: line | trip(t, l) }", more=("from=0", "to=9"),
+         command="ranges"),
     Case("refused: token form", BUS, more=("from=0", "to=9", "after=5"), command="list"),
     Case("refused: token shape", BUS, more=("from=0", "to=9", "after=T1/5,6/"), command="list"),
     Case("refused: token stale", BUS, more=("from=0", "to=9", "after=" + TOKEN), command="list"),
 ]
 USAGE = [
-    ((), "", "A command is missing.", "ask, decide, watch, list, explain, check, sample"),
+    ((), "", "A command is missing.", "ask, decide, watch, list, count, ranges, explain, check, sample"),
     (("lst", "db=a"), "lst", "'lst' is no command.", "'list'"),
-    (("xyzzy",), "xyzzy", "'xyzzy' is no command.", "ask, decide, watch, list, explain, check, sample, shell, draw, "),
+    (("xyzzy",), "xyzzy", "'xyzzy' is no command.", "ask, decide, watch, list, count, ranges, explain, check, sample, shell, draw, "),
     (("shel", "db=a"), "shel", "'shel' is no command.", "'shell'"),
     (("drw", "db=a"), "drw", "'drw' is no command.", "'draw'"),
     (("list", "db=a", "query=b", "from=2026-12-24", "to=9"), "from=2026", "'2026-12-24' has no time of day.",
@@ -145,9 +149,20 @@ USAGE = [
     (("list", "db=a", "query=b", "from=0", "to=9", "limit=1e3"), "limit=1e3", "'1e3' is no value", "whole number"),
     (("list", "db=a", "query=b", "from=0", "to=9", "form=xml"), "form=xml", "'xml' is no value", "plain or json"),
     (("list", "db=a", "query=b", "from=0", "to=9", "form=csv"), "form=csv", "'csv' is no value", "'fizhedul export csv'"),
+    (("decide", "db=a", "query=b", "show=dates"), "show=dates", "Dates are shown of civil times alone.", "Add civil=yes"),
+    (("decide", "db=a", "query=b", "show=date", "civil=yes"), "show=date", "'date' is no value of 'show'.", "minutes or dates"),
+    (("list", "db=a", "query=b", "from=0", "to=9", "show=dates"), "show=dates", "'list' has no key 'show'.", "civil"),
+    (("watch", "db=a", "query=b", "edits=c", "kept=no"), "kept=no", "'no' is no value of 'kept'.", "yes or auto"),
+    (("decide", "db=a", "query=b", "kept=auto"), "kept=auto", "'decide' has no key 'kept'.", "db, query"),
+    (("cuont", "db=a"), "cuont", "'cuont' is no command.", "'count'"),
+    (("range", "db=a"), "range", "'range' is no command.", "'ranges'"),
+    (("count", "db=a", "query=b", "from=0", "to=9", "limit=5"), "limit=5", "'count' has no key 'limit'.", "db, query, from, to, cap"),
+    (("ranges", "db=a", "query=b", "from=0", "to=9", "after=5"), "after=5", "'ranges' has no key 'after'.", "limit, form"),
+    (("ranges", "db=a", "query=b", "from=0"), "", "'ranges' needs the key 'to'.", "to=NUMBER"),
+    (("count", "db=a", "query=b", "from=2024-02-29", "civil=yes"), "from=2024", "no time of day.", "Write from=2024-02-29T00:00."),
     (("check", "db=a", "tense=yes"), "tense=yes", "'check' has no key 'tense'.", "db, civil"),
     (("ask", "db=a", "query=b", "tense=on"), "tense=on", "'on' is no value of 'tense'.", "no or yes"),
-    (("decide", "db=a", "query=b", "canon=yes"), "canon=yes", "'decide' has no key 'canon'.", "db, query, cap, plan, tense, civil"),
+    (("decide", "db=a", "query=b", "canon=yes"), "canon=yes", "'decide' has no key 'canon'.", "db, query, cap, plan, tense, civil, show"),
     (("ask", "db=a", "query=b", "canon=on"), "canon=on", "'on' is no value of 'canon'.", "no or yes"),
     (("ask", "db=a", "query=b", "cannon=yes"), "cannon=yes", "'ask' has no key 'cannon'.", "'canon'"),
     (("check", "db=a", "civil=true"), "civil=true", "'true' is no value of 'civil'.", "no or yes"),
@@ -161,7 +176,7 @@ USAGE = [
     (("ask", "db=a"), "", "'ask' needs the key 'query'.", "query=FILE.lrq"),
     (("watch", "db=a", "query=b"), "", "'watch' needs the key 'edits'.", "edits=FILE.lre"),
     (("watch", "db=a", "query=b", "c.lre"), "c.lre", "'c.lre' is no KEY=VALUE.", "edits=c.lre"),
-    (("watch", "db=a", "query=b", "edits=c", "civil=yes"), "civil=yes", "'watch' has no key 'civil'.", "db, query, edits, cap"),
+    (("watch", "db=a", "query=b", "edits=c", "civil=yes"), "civil=yes", "'watch' has no key 'civil'.", "db, query, edits, cap, kept, plan"),
 ]
 
 
@@ -355,6 +370,15 @@ class Explained(unittest.TestCase):
                 self.assertEqual(told.out, "refused: canon needs one time column\n")
                 self.assertEqual(re.findall(r"Its columns [^.]*\.", " ".join(told.err.split())), wanted)
 
+    def test_the_columns_of_a_head_without_ranges(self):
+        for head, wanted in (("d: data,\n t: time", "Its columns are d: data, t: time."), ("", "The head has no column.")):
+            with self.subTest(head), tempfile.TemporaryDirectory() as name:
+                Path(name, "a.lrp").write_text("relation r() { (); } relation s(t: time, d: data) { }")
+                Path(name, "b.lrq").write_text("{ %s | r() }" % head)
+                told = run("ranges", "db=a.lrp", "query=b.lrq", "from=0", "to=5", folder=Path(name), explain="always")
+                self.assertEqual(told.out, "refused: ranges needs one time column\n")
+                self.assertIn(wanted, " ".join(told.err.split()))
+
     def test_the_step_and_the_numbers_of_a_civil_database(self):
         folder = TOP / "examples/dates"
         words = ["decide", "db=rides.lrp", "query=connections.lrq", "civil=yes"]
@@ -480,9 +504,12 @@ class Usage(unittest.TestCase):
                       "list db=a query=b from=0 to=0 limit=1000000 after= form=json cap=1", "decide db=a=b query=b",
                       "list db=a query=b from=-4611686018427387904 to=4611686018427387904",
                       "ask db=a query=b tense=yes civil=no", "ask canon=yes db=a query=b cap=1", "ask db=a query=b canon=no", "explain db=a query=b tense=no",
-                      "list db=a query=b from=0001-01-01T00:00 to=9999-12-31T23:59 civil=yes", "check civil=no db=a",
+                      "list db=a query=b from=0001-01-01T00:00 to=9999-12-31T23:59 civil=yes", "count db=a query=b from=0 to=-9 plan=guarded",
+                      "count db=a query=b from=2024-02-29T00:00 to=2024-02-29T08:15 civil=yes cap=5 tense=yes",
+                      "ranges db=a query=b from=0 to=0 limit=1000000 form=json cap=1 plan=written tense=no civil=no", "check civil=no db=a",
                       "list db=a query=b civil=yes from=2024-02-29T23:59 to=1969-12-31T00:00", "explain db=a query=b civil=yes",
-                      "sample seed=0 size=1", "sample size=500 seed=1000000", "watch db=a query=b edits=c", "watch cap=1 edits=a query=a db=a"):
+                      "decide db=a query=b show=dates civil=yes", "decide show=minutes db=a query=b",
+                      "sample seed=0 size=1", "sample size=500 seed=1000000", "watch db=a query=b edits=c", "watch cap=1 edits=a query=a db=a", "watch db=a query=b edits=c kept=auto plan=guarded", "watch kept=yes db=a query=b edits=c"):
             self.assertIsNone(find_fault(words.split()), words)
             self.assertNotEqual(run(*words.split()).out, "refused: usage\n", words)
 

@@ -4,9 +4,10 @@ import re
 
 from table import SHARE, Key
 
-TOPICS = ["language", "refusals", "spread", "workbench"]
-TOOLS = {"shell": "a prompt over one database", "draw": "a picture of a window", "import": "a database from other data",
-         "export": "a window as a table", "spread": "many questions or windows on many machines"}
+TOPICS = ["language", "page", "refusals", "spread", "workbench"]
+TOOLS = {"shell": "a prompt over one database", "draw": "a picture of a window", "page": "a page to work on, in a browser",
+         "import": "a database from other data", "export": "a window as a table",
+         "spread": "many questions or windows on many machines"}
 
 
 def help_of_commands() -> dict[str, str]:

@@ -5,14 +5,17 @@ _fizhedul_keys() {
     local keys=
     case $1 in
         ask) keys='db query cap plan tense canon civil' ;;
-        decide) keys='db query cap plan tense civil' ;;
-        watch) keys='db query edits cap' ;;
+        decide) keys='db query cap plan tense civil show' ;;
+        watch) keys='db query edits cap kept plan' ;;
         list) keys='db query from to limit after form cap plan tense civil' ;;
+        count) keys='db query from to cap plan tense civil' ;;
+        ranges) keys='db query from to limit form cap plan tense civil' ;;
         explain) keys='db query plan tense civil' ;;
         check) keys='db civil' ;;
         sample) keys='seed size' ;;
         shell) keys='db from to limit cap plan tense canon civil' ;;
-        draw) keys='db query from to format grid marks hour out cap plan tense civil' ;;
+        draw) keys='db query from to format grid marks hour out ranges tree cap plan tense civil' ;;
+        page) keys='db query from to cap plan tense civil dates hour engine port open' ;;
         spread) keys='db query queries from to parts by overlap engine out jobs tries hosts scheduler options limit form cap plan tense civil' ;;
     esac
     echo "$keys"
@@ -41,10 +44,16 @@ _fizhedul_values() {
         tense) values='no yes' ;;
         canon) values='no yes' ;;
         civil) values='no yes' ;;
+        show) values='minutes dates' ;;
+        kept) values='yes auto' ;;
         form) values='plain json' ;;
         format) values='html svg png' ;;
         grid) values='numbers dates' ;;
+        ranges) values='no yes' ;;
+        tree) values='no yes' ;;
+        dates) values='no yes' ;;
         engine) values='parallel slurm dask' ;;
+        open) values='yes no' ;;
     esac
     if [ -n "$endings" ]; then
         compopt -o filenames 2>/dev/null
@@ -74,13 +83,13 @@ _fizhedul() {
     [[ $line == *[[:blank:]] ]] || { word=${words[-1]}; unset 'words[-1]'; }
     COMPREPLY=()
     if [ ${#words[@]} -le 1 ]; then
-        mapfile -t COMPREPLY < <(compgen -W 'check ask decide watch list explain sample shell draw import export spread help --version' -- "$word")
+        mapfile -t COMPREPLY < <(compgen -W 'check ask decide watch list count ranges explain sample shell draw page import export spread help --version' -- "$word")
     elif [ "${words[1]}" = help ]; then
-        [ ${#words[@]} -gt 2 ] || mapfile -t COMPREPLY < <(compgen -W 'ask decide watch list explain check sample language refusals spread workbench' -- "$word")
+        [ ${#words[@]} -gt 2 ] || mapfile -t COMPREPLY < <(compgen -W 'ask decide watch list count ranges explain check sample language page refusals spread workbench' -- "$word")
     elif [ "${words[1]}" = import ] || [ "${words[1]}" = export ]; then
         _fizhedul_kinds_or_files "${words[1]}" "$word" ${#words[@]}
     elif [ "${words[1]}" = spread ] && [ ${#words[@]} -eq 2 ]; then
-        mapfile -t COMPREPLY < <(compgen -W 'list decide' -- "$word")
+        mapfile -t COMPREPLY < <(compgen -W 'list count decide' -- "$word")
     elif [[ $word == *=* ]]; then
         _fizhedul_values "${word%%=*}" "${word#*=}"
         # Where bash cuts words at '=', only what stands behind it is completed.

@@ -68,6 +68,8 @@ def said_of(refusal: Refusal) -> Said:
         ("query UnknownSort", sorts_of),
         ("query Unbound", wildcard_or_text),
         ("canon needs", times_of),
+        ("count needs", times_of),
+        ("ranges needs", columns_of_head),
         ("more than", cells_of),
         ("period above", lambda refusal: numbers_of(refusal, "periods", PERIOD)),
         ("bound above", lambda refusal: numbers_of(refusal, "numbers", NUMBER)),
@@ -282,6 +284,13 @@ def times_of(refusal: Refusal) -> Said:
     head = HEAD.search(text_of(refusal.file("query")))
     names = TIME.findall(head.group(1)) if head else []
     return Said("Its columns of sort time are " + ", ".join(names) + "." if names else "")
+
+
+def columns_of_head(refusal: Refusal) -> Said:
+    """All columns that the head of a query has."""
+    head = HEAD.search(text_of(refusal.file("query")))
+    columns = [" ".join(column.split()) for column in head.group(1).split(",")] if head else []
+    return Said("Its columns are " + ", ".join(columns) + "." if any(columns) else "The head has no column." if head else "")
 
 
 def numbers_of(refusal: Refusal, what: str, pattern: re.Pattern[str]) -> Said:

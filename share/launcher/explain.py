@@ -35,22 +35,26 @@ def explain(program: str, words: list[str], line: str, width: int, given: dict[s
 
     `given` has the files of texts that have no name of their own, by their keys.
     """
+    shown, parts = explanation(program, words, line, width, given or {})
+    return shown + wrapped(parts, width)
+
+
+def explanation(program: str, words: list[str], line: str, width: int, given: dict[str, str]) -> tuple[str, list[str]]:
+    """What is shown of the place that a refusal speaks of, and the paragraphs that explain it."""
     found = find_entry(line)
     if found is None:
-        return ""
+        return "", []
     entry, numbers = found
     if line == "refused: usage":
-        return explain_usage(words, width, given or {})
+        return explain_usage(words, width, given)
     files = dict(word.split("=", 1) for word in words[1:] if "=" in word)
     shown = ""
     place = numbers.groupdict()
     which = key_of(line)
     if place.get("line"):
-        name = which if given and which in given else files.get(which, "")
+        name = which if which in given else files.get(which, "")
         shown = show_place(Place(files.get(which, ""), int(place["line"]), int(place["column"])), width, name)
-    told = sentences(entry, said_of(Refusal(program, files, line, place)), width)
-    # What was done already isn't asked for.
-    return shown + (told.replace("Ask with plan=guarded; see", "See") if files.get("plan") == "guarded" else told)
+    return shown, paragraphs_on(Refusal(program, files, line, place), entry)
 
 
 def key_of(line: str) -> str:
@@ -62,28 +66,39 @@ def key_of(line: str) -> str:
 def explain_unwritten(width: int) -> str:
     """The explanation of an output that could not be written."""
     found = find_entry("no line, status 7")
-    return sentences(found[0], Said(""), width) if found else ""
+    return wrapped(paragraphs(found[0], Said("")), width) if found else ""
 
 
-def explain_usage(words: list[str], width: int, given: dict[str, str]) -> str:
+def explain_usage(words: list[str], width: int, given: dict[str, str]) -> tuple[str, list[str]]:
     """The words with a caret under the wrong one, and what is wrong with it."""
     fault = find_fault(words)
     if fault is None:
-        return ""
+        return "", []
     words = [f"{word.split('=')[0]}=.." if word in (f"{key}={file}" for key, file in given.items()) else word for word in words]
     before = " ".join(["fizhedul", *words[:fault.word]]) + " "
     wrong = words[fault.word] if fault.word < len(words) else ""
     # A blank in a word would end the caret's tail.
     text = before + wrong.replace(" ", "_") + " " + " ".join(words[fault.word + 1:])
     shown = caret_line(text.encode(errors="replace"), len(before.encode(errors="replace")), width, WORD)
-    return shown + wrap(clean(fault.means), width) + wrap(clean(fault.to_do), width)
+    return shown, [clean(fault.means), clean(fault.to_do)]
 
 
-def sentences(entry: Entry, said: Said, width: int) -> str:
+def paragraphs(entry: Entry, said: Said) -> list[str]:
     """What is known of this case, and of the entry's two sentences what that doesn't say better."""
     parts = [] if said.is_all else [entry.means]
     parts += [clean(said.text)] if said.text else []
-    parts += [] if said.is_all or said.has_remedy else [entry.to_do]
+    return parts + ([] if said.is_all or said.has_remedy else [entry.to_do])
+
+
+def paragraphs_on(refusal: Refusal, entry: Entry) -> list[str]:
+    """The paragraphs that explain a refusal. What was done already isn't asked for."""
+    parts = paragraphs(entry, said_of(refusal))
+    is_guarded = refusal.files.get("plan") == "guarded"
+    return [part.replace("Ask with plan=guarded; see", "See") if is_guarded else part for part in parts]
+
+
+def wrapped(parts: list[str], width: int) -> str:
+    """Paragraphs in lines of at most `width`."""
     return "".join(wrap(part, width) for part in parts)
 
 

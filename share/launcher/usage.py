@@ -41,6 +41,8 @@ def find_fault(words: list[str]) -> Fault | None:
     for key in table[command].values():
         if key.needed and key.name not in seen:
             return Fault(len(words), f"'{command}' needs the key '{key.name}'.", f"Add {key.name}={sample(key)}.")
+    if "show=dates" in pairs and not is_civil:
+        return Fault(words.index("show=dates"), "Dates are shown of civil times alone.", "Add civil=yes, or leave out show=dates.")
     return None
 
 

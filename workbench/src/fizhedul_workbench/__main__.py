@@ -13,6 +13,8 @@ PACKAGES = {
     "icalendar": "python3-icalendar",
     "prompt_toolkit": "python3-prompt-toolkit",
     "pygments": "python3-pygments",
+    "starlette": "python3-starlette",
+    "uvicorn": "python3-uvicorn",
 }
 
 
@@ -40,6 +42,12 @@ def exports(words: Sequence[str]) -> None:
     export_tool(words)
 
 
+def page(words: Sequence[str]) -> None:
+    from .page.tool import page_tool
+
+    page_tool(words)
+
+
 def spread(words: Sequence[str]) -> None:
     from .spread.tool import spread_tool
 
@@ -49,6 +57,7 @@ def spread(words: Sequence[str]) -> None:
 TOOLS: dict[str, Callable[[Sequence[str]], None]] = {
     "shell": shell,
     "draw": draw,
+    "page": page,
     "import": imports,
     "export": exports,
     "spread": spread,

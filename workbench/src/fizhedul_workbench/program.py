@@ -7,15 +7,15 @@ import signal
 import subprocess
 import sys
 from collections.abc import Iterator, Sequence
-from dataclasses import dataclass
+from dataclasses import dataclass, replace
 from pathlib import Path
 
-from .civil import window_end
+from .civil import minute_of, window_end
 from .words import MISSING, Refused
 
 WIDTH = 100
 # The commands that make a plan of a query, by either way.
-PLANNED = ("ask", "decide", "list", "explain")
+PLANNED = ("ask", "decide", "list", "count", "ranges", "explain", "watch")
 LAST_STEP = re.compile(r"\[period (\d+), reach \d+\]\s*\Z")
 
 # The times of an answer are numbers, or with civil times dates.
@@ -45,6 +45,21 @@ class Page:
 
 
 @dataclass(frozen=True)
+class Ranges:
+    """Some ranges of answers in order, each by its first and its last time, and whether more are left."""
+
+    ranges: list[Answer]
+    is_cut: bool
+
+    def after(self) -> int:
+        """The time after the last one of all, from which on more are left."""
+        time = self.ranges[-1][1]
+        minute = minute_of(time) if isinstance(time, str) else time
+        assert minute is not None
+        return minute + 1
+
+
+@dataclass(frozen=True)
 class Question:
     """A query over a database, by their files, in a window of time; with or without civil times, which have dates,
     temporal operators, and whole answers in their one form; planned under guards, or as it is written."""
@@ -64,14 +79,23 @@ class Question:
         cap = [f"cap={self.cap}"] if self.cap and command != "explain" else []
         canon = ["canon=yes"] if self.is_canon and command == "ask" else []
         plan = ["plan=guarded"] if self.is_guarded and command in PLANNED else []
-        keys = plan + ["tense=yes"] * self.is_tense + canon + ["civil=yes"] * self.is_civil
+        dates = ["show=dates"] if self.is_civil and command == "decide" else []
+        keys = plan + ["tense=yes"] * self.is_tense + canon + ["civil=yes"] * self.is_civil + dates
         return [command, f"db={self.database}", f"query={self.query}", *cap, *keys]
+
+    def windowed(self, command: str) -> list[str]:
+        """The words of a command on the window."""
+        first, last = (window_end(end) if self.is_civil else str(end) for end in (self.first, self.last))
+        return [*self.words(command), f"from={first}", f"to={last}"]
 
     def listing(self, limit: int, after: str | None) -> list[str]:
         """The words that list a page of the window, in JSON form."""
-        first, last = (window_end(end) if self.is_civil else str(end) for end in (self.first, self.last))
-        words = [*self.words("list"), f"from={first}", f"to={last}", f"limit={limit}", "form=json"]
+        words = [*self.windowed("list"), f"limit={limit}", "form=json"]
         return words if after is None else [*words, f"after={after}"]
+
+    def ranging(self, limit: int) -> list[str]:
+        """The words that write the first ranges of the window, in JSON form."""
+        return [*self.windowed("ranges"), f"limit={limit}", "form=json"]
 
 
 def program_path() -> str:
@@ -152,6 +176,23 @@ def pages(question: Question, limit: int) -> Iterator[Page]:
         after = found.more
         if after is None:
             return
+
+
+def ranges_of(text: str) -> Ranges:
+    """The ranges that lines in JSON form hold."""
+    lines = text.splitlines()
+    found: list[Answer] = [json.loads(line) for line in lines[:-1]]
+    return Ranges(found, bool(json.loads(lines[-1])["more"]))
+
+
+def all_ranges(question: Question, limit: int) -> Iterator[Ranges]:
+    """All ranges of the window, some at a time."""
+    while True:
+        found = ranges_of(answered(question.ranging(limit)))
+        yield found
+        if not found.is_cut:
+            return
+        question = replace(question, first=found.after())
 
 
 def period(question: Question) -> int:

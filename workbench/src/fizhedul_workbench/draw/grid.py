@@ -24,9 +24,10 @@ def steps(hour: int, with_dates: bool) -> list[int]:
     return found
 
 
-def step_for(span: int, hour: int, with_dates: bool) -> int:
-    """The least distance that gives few lines; dates need more room than numbers."""
-    return next(step for step in steps(hour, with_dates) if span <= step * MOST_LINES[with_dates])
+def step_for(span: int, hour: int, with_dates: bool, most: int = 14) -> int:
+    """The least distance that gives few lines, at most `most`; dates need more room than numbers."""
+    count = min(most, MOST_LINES[with_dates])
+    return next(step for step in steps(hour, with_dates) if span <= step * count)
 
 
 def lines(first: int, last: int, step: int) -> list[int]:
@@ -35,7 +36,7 @@ def lines(first: int, last: int, step: int) -> list[int]:
     return list(range(begin, last + 1, step))
 
 
-def month_lines(first: int, last: int, hour: int) -> list[int]:
+def month_lines(first: int, last: int, hour: int, most: int = 14) -> list[int]:
     """The beginnings of months or years in a window, few of them; none where dates do not reach."""
     day = 24 * hour
     try:
@@ -43,7 +44,7 @@ def month_lines(first: int, last: int, hour: int) -> list[int]:
         EPOCH + timedelta(days=last // day + 1)
     except OverflowError:
         return []
-    wanted = (last - first) / (DAYS_OF_MONTH * day * MOST_LINES[True])
+    wanted = (last - first) / (DAYS_OF_MONTH * day * min(most, MOST_LINES[True]))
     step = next((months for months in MONTHS if wanted <= months), MONTHS[-1])
     month = (12 * start.year + start.month - 1) // step * step
     found: list[int] = []
@@ -57,10 +58,10 @@ def month_lines(first: int, last: int, hour: int) -> list[int]:
     return found
 
 
-def grid_of(first: int, last: int, hour: int, with_dates: bool) -> list[int]:
-    """The times at which a window has lines."""
-    step = step_for(max(1, last - first), hour, with_dates)
-    found = month_lines(first, last, hour) if with_dates and step > 168 * hour else []
+def grid_of(first: int, last: int, hour: int, with_dates: bool, most: int = 14) -> list[int]:
+    """The times at which a window has lines, where there is room for `most` of them."""
+    step = step_for(max(1, last - first), hour, with_dates, most)
+    found = month_lines(first, last, hour, most) if with_dates and step > 168 * hour else []
     return found or lines(first, last, step)
 
 

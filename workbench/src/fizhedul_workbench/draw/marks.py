@@ -1,5 +1,6 @@
 """The answers of a window as marks in lanes."""
 
+from collections.abc import Iterable, Sequence
 from dataclasses import dataclass
 from pathlib import Path
 
@@ -24,7 +25,8 @@ class Mark:
 
 @dataclass(frozen=True)
 class Picture:
-    """A window of a query's answers: a lane for each combination of texts, and the marks in order."""
+    """A window of a query's answers: a lane for each combination of texts, and the marks in order; `caption` says what
+    is shown where it isn't each answer."""
 
     question: Question
     query: str
@@ -34,6 +36,7 @@ class Picture:
     levels: list[int]
     marks: list[Mark]
     is_cut: bool
+    caption: str = ""
 
     @property
     def span(self) -> int:
@@ -82,10 +85,22 @@ def picture_of(question: Question, most: int) -> Picture:
     """Asks the program for the answers, and puts each into its lane."""
     answers, is_cut = answers_of(question, most)
     query = Path(question.query).read_text(encoding="utf-8")
+    return laid_out(question, query, answers, is_cut, period=period(question))
+
+
+def laid_out(
+    question: Question,
+    query: str,
+    answers: list[Answer],
+    is_cut: bool,
+    lanes: Iterable[Sequence[str]] = (),
+    period: int = 0,
+) -> Picture:
+    """The picture of these answers; `lanes` are the texts of lanes that are there even without a mark."""
     columns = head_of(query)
     is_time = [sort == "time" for _, sort in columns]
     keys = [tuple(str(v) for v, time in zip(answer, is_time) if not time) for answer in answers]
-    order = {key: place for place, key in enumerate(sorted(set(keys)))}
+    order = {key: place for place, key in enumerate(sorted({*keys, *(tuple(lane) for lane in lanes)}))}
     ends: list[list[int]] = [[] for _ in order]
     marks = []
     for number, (answer, key) in enumerate(zip(answers, keys)):
@@ -96,7 +111,7 @@ def picture_of(question: Question, most: int) -> Picture:
     return Picture(
         question=question,
         query=query,
-        period=period(question),
+        period=period,
         columns=columns,
         lanes=[label_of(list(key), columns) for key in order],
         levels=[max(1, len(taken)) for taken in ends],

@@ -55,8 +55,8 @@ BUTTONS = [
 ]
 
 
-def page_of(picture: Picture, look: Look) -> str:
-    """One page without anything from elsewhere."""
+def page_of(picture: Picture, look: Look, more: str = "") -> str:
+    """One page without anything from elsewhere; `more` is markup that comes after the table."""
     buttons = "".join(
         f'<button type="button" data-act="{act}" aria-label="{name}" title="{name}">{sign}</button>'
         for act, name, sign in BUTTONS
@@ -89,7 +89,7 @@ n and p go from mark to mark">
 {svg_of(picture, look, "")}</div>
 <p id="told" role="status" aria-live="polite">\N{NO-BREAK SPACE}</p>
 <div id="answers" tabindex="0" role="region" aria-label="The answers in order">{table_of(picture)}</div>
-</main>
+{more}</main>
 <script id="facts" type="application/json">{facts(picture, look)}</script>
 <script>
 {asset("page.js")}

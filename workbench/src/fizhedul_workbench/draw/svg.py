@@ -10,7 +10,6 @@ from .grid import grid_of, label
 from .look import Look
 from .marks import Mark, Picture
 
-WIDTH = 1200
 TOP = 34
 LEVEL = 14
 PAD = 10
@@ -18,6 +17,8 @@ RIGHT = 60
 CHUNK = 200
 LETTER = 7
 MOST_LABEL = 36
+# The room that a date or a number of eight digits takes beside a line of the grid.
+DATE, NUMBER = 106, 60
 BAD = {0xFFFE: 0xFFFD, 0xFFFF: 0xFFFD}
 
 
@@ -31,16 +32,21 @@ def shown(answer: Answer, columns: list[tuple[str, str]]) -> str:
     return ", ".join(f"{name} = {value}" for value, (name, _) in zip(answer, columns)) or "()"
 
 
-def shortened(lane: str) -> str:
+def most_letters(look: Look) -> int:
+    """How long the name of a lane may be."""
+    return min(MOST_LABEL, look.width // 30)
+
+
+def shortened(lane: str, most: int) -> str:
     """The front of a name that fits beside its lane."""
-    end = next(end for end in range(len(lane)) if width(lane[: end + 1]) > MOST_LABEL - 1)
+    end = next(end for end in range(len(lane)) if width(lane[: end + 1]) > most - 1)
     return lane[:end] + "…"
 
 
-def gutter(picture: Picture) -> int:
+def gutter(picture: Picture, look: Look) -> int:
     """The room on the left for the names of the lanes."""
     longest = max((width(lane) for lane in picture.lanes), default=0)
-    return 24 + LETTER * min(MOST_LABEL, longest)
+    return max(look.least_gutter, 24 + LETTER * min(most_letters(look), longest))
 
 
 def lane_tops(picture: Picture) -> list[int]:
@@ -86,24 +92,32 @@ def chunks(picture: Picture, tops: list[int], room: int) -> str:
     return "".join(groups)
 
 
+def label_room(first: int, last: int, look: Look) -> int:
+    """The room that a label of the grid takes."""
+    letters = max(len(str(first)), len(str(last)))
+    return DATE if look.with_dates else max(NUMBER, letters * 13 // 2 + 8)
+
+
 def grid_shapes(picture: Picture, look: Look, left: int, room: int, bottom: int) -> str:
     """The lines of hours and days with their labels."""
     question = picture.question
     shapes = []
-    for time in grid_of(question.first, question.last, look.hour, look.with_dates):
+    lines = max(1, room // label_room(question.first, question.last, look))
+    for time in grid_of(question.first, question.last, look.hour, look.with_dates, lines):
         x = left + place(picture, time, room)
         shapes.append(f'<line x1="{x:.2f}" y1="{TOP - 6}" x2="{x:.2f}" y2="{bottom}"/>')
         shapes.append(f'<text x="{x:.2f}" y="{TOP - 14}">{label(time, look.hour, look.with_dates)}</text>')
     return "".join(shapes)
 
 
-def lane_shapes(picture: Picture, tops: list[int]) -> str:
+def lane_shapes(picture: Picture, look: Look, tops: list[int]) -> str:
     """A stripe and a name for each lane."""
     shapes = []
+    most = most_letters(look)
     for number, (lane, top, bottom) in enumerate(zip(picture.lanes, tops, tops[1:])):
-        name = lane if width(lane) <= MOST_LABEL else shortened(lane)
+        name = lane if width(lane) <= most else shortened(lane, most)
         if number % 2 == 0:
-            shapes.append(f'<rect class="stripe" x="0" y="{top}" width="{WIDTH}" height="{bottom - top}"/>')
+            shapes.append(f'<rect class="stripe" x="0" y="{top}" width="{look.width}" height="{bottom - top}"/>')
         middle = (top + bottom) // 2 + 4
         shapes.append(f'<text class="lane" x="10" y="{middle}"><title>{safe(lane)}</title>{safe(name)}</text>')
     return "\n".join(shapes)
@@ -111,6 +125,8 @@ def lane_shapes(picture: Picture, tops: list[int]) -> str:
 
 def summary(picture: Picture) -> str:
     """One sentence on what the picture shows."""
+    if picture.caption:
+        return picture.caption
     count = len(picture.marks)
     first, last = (
         dated(end) if picture.question.is_civil else end for end in (picture.question.first, picture.question.last)
@@ -125,19 +141,21 @@ def summary(picture: Picture) -> str:
 
 def svg_of(picture: Picture, look: Look, style: str) -> str:
     """The picture; `style` holds the rules of its colours, where it stands alone."""
-    left = gutter(picture)
-    room = WIDTH - left - RIGHT
+    left = gutter(picture, look)
+    room = look.width - left - RIGHT
     tops = lane_tops(picture)
     bottom = tops[-1]
     marks = chunks(picture, tops, room)
     sheet = f"<style>{style}</style>" if style else ""
     name = quoteattr(summary(picture).translate(BAD))
     return (
-        f'<svg id="timeline" xmlns="http://www.w3.org/2000/svg" viewBox="0 0 {WIDTH} {bottom + 10}"'
-        f' role="group" aria-label={name} data-left="{left}" data-width="{room}" data-bottom="{bottom}">\n'
+        f'<svg id="timeline" class="timeline" xmlns="http://www.w3.org/2000/svg"'
+        f' viewBox="0 0 {look.width} {bottom + 10}" role="group" aria-label={name}'
+        f' data-left="{left}" data-width="{room}" data-bottom="{bottom}">\n'
         f"{sheet}<title>{safe(summary(picture))}</title><desc>{safe(picture.query.strip())}</desc>\n"
-        f'<rect class="ground" width="{WIDTH}" height="{bottom + 10}"/>\n{lane_shapes(picture, tops)}\n'
+        f'<rect class="ground" width="{look.width}" height="{bottom + 10}"/>\n{lane_shapes(picture, look, tops)}\n'
         f'<clipPath id="inside"><rect x="{left - 4}" y="0" width="{room + 8}" height="{bottom + 10}"/></clipPath>\n'
-        f'<g id="grid">{grid_shapes(picture, look, left, room, bottom)}</g>\n'
-        f'<g clip-path="url(#inside)"><g transform="translate({left} 0)"><g id="marks">\n{marks}</g></g></g>\n</svg>\n'
+        f'<g id="grid" class="grid">{grid_shapes(picture, look, left, room, bottom)}</g>\n'
+        f'<g clip-path="url(#inside)"><g transform="translate({left} 0)">'
+        f'<g id="marks" class="marks">\n{marks}</g></g></g>\n</svg>\n'
     )

@@ -9,7 +9,7 @@ from typing import Any
 
 from ..civil import minute_of
 from ..lrp import LIMIT, MOST_COLUMNS, Point, Relation, Row, Value, fault_of_text, is_name
-from ..program import Question, pages
+from ..program import Question, all_ranges, pages
 from ..queries import head_of
 from ..words import FAILED_READ, Refused, refused_at
 from .imported import Imported
@@ -133,4 +133,14 @@ def pieces_of(question: Question, kind: str) -> Iterator[str]:
                 head = head_of(file.read())
             writer.writerow(f"{name}: {sort}" for name, sort in head)
         writer.writerows(page.answers)
+        yield piece.getvalue()
+
+
+def pieces_of_ranges(question: Question, kind: str) -> Iterator[str]:
+    """The ranges of a window as lines of their first and last times, after a line of columns, some at a time."""
+    front: list[list[str]] = [["from: time", "to: time"]]
+    for some in all_ranges(question, PAGE):
+        piece = io.StringIO(newline="")
+        writer_of(piece, kind).writerows([*front, *some.ranges])
+        front = []
         yield piece.getvalue()

@@ -12,7 +12,7 @@ from .gtfs import read_gtfs
 from .gtfs_wanted import Clock
 from .gtfs_wanted import Wanted as WantedOfFeed
 from .imported import Imported
-from .plain_csv import pieces_of, read_csv
+from .plain_csv import pieces_of, pieces_of_ranges, read_csv
 
 IMPORTS = """fizhedul import gtfs FOLDER-or-ZIP [out=FILE] [local=yes] [line=NAME,..] [service=ID,..] [relation=NAME,..]
                 [skip=TRIP,..] [unit=minute|second] [round=down] [headway=as-exact]
@@ -20,7 +20,8 @@ fizhedul import ics FILE [out=FILE] [local=yes] [zone=NAME] [uid=UID,..] [from=D
 fizhedul import csv FILE [out=FILE] [name=NAME]
 each with civil=yes, if wanted, for civil values"""
 EXPORTS = (
-    "fizhedul export csv|tsv db=FILE query=FILE from=A to=B [out=FILE] [cap=N] [plan=written] [tense=yes] [civil=yes]"
+    "fizhedul export csv|tsv db=FILE query=FILE from=A to=B [out=FILE] [ranges=yes] [cap=N]\n"
+    "                [plan=written] [tense=yes] [civil=yes]"
 )
 
 
@@ -101,14 +102,15 @@ def import_tool(words: Sequence[str]) -> None:
 
 
 def export_tool(words: Sequence[str]) -> None:
-    """Writes the answers of a window as values with commas or tabs between them."""
+    """Writes the answers of a window, or their ranges, as values with commas or tabs between them."""
     if not words or words[0] not in ("csv", "tsv"):
         raise usage("an export is\n" + EXPORTS)
     keys = ["db", "query", "from", "to"]
-    found = keyed(words[1:], [*keys, "out", "cap", "civil", "tense", "plan"], keys)
+    found = keyed(words[1:], [*keys, "out", "ranges", "cap", "civil", "tense", "plan"], keys)
     is_civil = is_chosen(found, "civil")
     first, last = read_window(found, 0, 0, is_civil)
     cap = whole(found, "cap", 1_000_000, 1, 1_000_000_000)
     chosen = is_civil, is_chosen(found, "tense"), False, is_guarded(found)
     question = Question(found["db"], found["query"], first, last, cap, *chosen)
-    put("".join(pieces_of(question, words[0])), found.get("out"))
+    pieces = pieces_of_ranges if is_chosen(found, "ranges") else pieces_of
+    put("".join(pieces(question, words[0])), found.get("out"))

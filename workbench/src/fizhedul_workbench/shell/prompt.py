@@ -17,7 +17,7 @@ from ..queries import variables
 from .session import Session
 
 # The commands that take a file, with the ending of the files that they read.
-FILES = {".open": ".lrp", ".read": ".lrq", ".watch": ".lre", ".save": "", ".draw": ""}
+FILES = {".open": ".lrp", ".read": ".lrq", ".watch": ".lre", ".save": "", ".draw": "", ".tree": ""}
 WORD = re.compile(r"\.?[A-Za-z0-9_]*$")
 
 

@@ -1,13 +1,12 @@
 """What a session holds, and what its lines do; whatever is shown was written by the program."""
 
-import json
 from dataclasses import dataclass, field
 from pathlib import Path
 
 from ..civil import dated
 from ..days import MINUTES, WEEK
 from ..lexer import coloured
-from ..lrp import put_file, written_value
+from ..lrp import put_file
 from ..program import Output, Page, Question, page_of, run_program
 from ..queries import head_of
 from ..words import Refused
@@ -19,7 +18,8 @@ FIRST_WEEK = (0, WEEK * MINUTES - 1)
 
 @dataclass
 class Session:
-    """One database, a window, limits, and the last query with the token of its next page."""
+    """One database, a window, limits, and the last query; what comes next of its answers is named by a token, or by a
+    time where ranges are shown."""
 
     database: str
     folder: Path
@@ -33,7 +33,7 @@ class Session:
     is_guarded: bool = True
     is_colourful: bool = False
     query: str = ""
-    more: str | None = None
+    more: str | int | None = None
     status: int = 0
     names: list[str] = field(default_factory=list)
     sorts: list[str] = field(default_factory=list)
@@ -114,15 +114,7 @@ def say_nearest(session: Session) -> None:
     if lines[0] == "Empty":
         say(f"({where}, and none at any other time)")
     else:
-        say(f"({where}; the least answer of all is {shown_line(session, lines[1])})")
-
-
-def shown_line(session: Session, line: str) -> str:
-    """A line of an answer, whose times are shown as dates where the session has civil times."""
-    if not session.is_civil or line == "()":
-        return line
-    values = json.loads(f"[{line}]")
-    return ", ".join(session.shown_time(each) if isinstance(each, int) else written_value(each) for each in values)
+        say(f"({where}; the least answer of all is {lines[1]})")
 
 
 def ask(session: Session, text: str) -> None:
@@ -138,34 +130,10 @@ def set_query(session: Session, text: str) -> None:
     (session.folder / "query.lrq").write_bytes(text.encode())
 
 
-def next_page(session: Session, _: str) -> None:
-    if session.more is None:
-        say("there is no next page")
-    else:
-        show_page(session, session.more)
-
-
 def write_output(session: Session, command: str) -> None:
     """What a command of the program writes on the last query."""
     if need_query(session):
         output = run_program(session.question().words(command))
-        if output.status:
-            say_refusal(session, output)
-        elif command == "decide":
-            word, *witness = output.text.splitlines()
-            say_code(session, "\n".join([word, *(shown_line(session, line) for line in witness)]))
-        else:
-            say_code(session, output.text)
-
-
-def watch(session: Session, rest: str) -> None:
-    """The least answer of the last query, and after each edit of a file the one that it then has."""
-    if not rest:
-        say("which edits? as in .watch moves.lre")
-    elif session.is_tense or session.is_civil:
-        say("edits are watched without temporal operators and civil times; .tense off and .civil off")
-    elif need_query(session):
-        output = run_program([*session.question().words("watch"), f"edits={rest}"])
         if output.status:
             say_refusal(session, output)
         else:

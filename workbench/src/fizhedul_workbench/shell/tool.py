@@ -9,13 +9,17 @@ from pathlib import Path
 from ..civil import is_chosen, read_window
 from ..queries import open_brackets, pieces
 from ..words import FAILED_READ, Refused, is_guarded, keyed, whole
+from . import reports
 from . import session as acts
 from . import settings
 from .session import Session, say
+from .watching import watch
 
 HELP = """A line is a query, as { t: time | bus(t) }; it goes on while a bracket is open.
-.next           the next page
+.next           the next page, or the next ranges
 .window A B     the times that are shown, from A to B
+.count          how many answers the window has
+.ranges         the answers of the window as ranges, from .. to ..
 .tense on|off   whether queries may have temporal operators
 .canon on|off   whether whole answers are written in their one form
 .plan guarded|written
@@ -24,9 +28,11 @@ HELP = """A line is a query, as { t: time | bus(t) }; it goes on while a bracket
 .decide         the least answer of all, or Empty
 .ask            the whole answer, as a relation
 .explain        the plan of the query
-.watch FILE     the least answer, and after each edit of FILE the one then
+.tree [FILE]    the plan as a tree; its picture where a FILE is named
+.watch FILE     the least answer, and after each edit of FILE the one then;
+                at a terminal FILE is followed up to Ctrl-C
 .cap N          the most cells of a step; each may take 750 bytes and 10 µs
-.limit N        the most answers of a page
+.limit N        the most answers of a page, or ranges
 .tables         the relations of the database, with their rows and periods
 .schema         the relations of the database, with their columns
 .read FILE      what FILE has, as if it were typed
@@ -38,12 +44,15 @@ HELP = """A line is a query, as { t: time | bus(t) }; it goes on while a bracket
 
 Act = Callable[[Session, str], None]
 COMMANDS: dict[str, Act] = {
-    ".next": acts.next_page,
+    ".next": reports.next_page,
     ".window": settings.set_window,
+    ".count": reports.count,
+    ".ranges": reports.ranges,
     ".decide": lambda session, _: acts.write_output(session, "decide"),
     ".ask": lambda session, _: acts.write_output(session, "ask"),
     ".explain": lambda session, _: acts.write_output(session, "explain"),
-    ".watch": acts.watch,
+    ".tree": reports.tree,
+    ".watch": watch,
     ".civil": settings.set_civil,
     ".tense": settings.set_tense,
     ".canon": settings.set_canon,

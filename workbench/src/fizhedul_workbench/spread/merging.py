@@ -1,6 +1,7 @@
 """Puts the outputs of parts together. Each of them is whole: its last line said so."""
 
 import heapq
+import re
 import shutil
 from collections.abc import Iterable, Iterator, Sequence
 from itertools import groupby
@@ -13,6 +14,7 @@ from .run_part import CHUNK
 from .windows import Window
 
 EMPTY, NONEMPTY = b"Empty\n", b"Nonempty\n"
+NUMBER = re.compile(rb"(0|[1-9][0-9]*)\n")
 
 
 def is_page(output: Path, form: Form) -> bool:
@@ -91,6 +93,16 @@ def least(decisions: Iterable[Path], form: Form) -> bytes:
     if not lines:
         return EMPTY
     return NONEMPTY + min(lines, key=lambda line: least_first(form.order(line.decode())))
+
+
+def is_number(output: Path) -> bool:
+    """Whether an output is that of `count`."""
+    return NUMBER.fullmatch(output.read_bytes()) is not None
+
+
+def total(counts: Iterable[Path]) -> bytes:
+    """What `count` writes of windows that touch: the sum of what it writes of each."""
+    return b"%d\n" % sum(int(output.read_bytes()) for output in counts)
 
 
 def is_answered(output: Path, names: Sequence[str]) -> bool:

@@ -13,7 +13,17 @@ from .asked import MOST_PARTS, Asked
 from .by_sort import cut_database
 from .lengths import reach_of
 from .lines import Form, head_of
-from .merging import is_answered, is_decision, is_page, join, least, merge_by_order, merge_windows
+from .merging import (
+    is_answered,
+    is_decision,
+    is_number,
+    is_page,
+    join,
+    least,
+    merge_by_order,
+    merge_windows,
+    total,
+)
 from .rounds import Run
 from .store import Folder
 from .windows import Reach, Window, cut, seen
@@ -81,11 +91,27 @@ def plan_windows(asked: Asked, form: Form, files: Mapping[str, str], window: Win
     )
 
 
+def ends_of(asked: Asked, window: Window) -> list[str]:
+    """The words of a window."""
+    first, last = (window_end(end) if asked.is_civil else str(end) for end in (window.first, window.last))
+    return [f"from={first}", f"to={last}"]
+
+
 def listing(asked: Asked, window: Window) -> list[str]:
     """The words of `list` for a window, with as large pages as may be where nothing else is said."""
-    first, last = (window_end(end) if asked.is_civil else str(end) for end in (window.first, window.last))
     limit = [] if "limit" in asked.found else [f"limit={LARGEST}"]
-    return [f"from={first}", f"to={last}", *limit, *asked.handed_on("list")]
+    return [*ends_of(asked, window), *limit, *asked.handed_on("list")]
+
+
+def plan_count(asked: Asked, form: Form, files: Mapping[str, str], window: Window) -> Plan:
+    """A part for each window. Without times an answer is in all windows, so there is one part."""
+    windows = cut(window, whole(asked.found, "parts", 1, 1, MOST_PARTS)) if form.head.times else [window]
+    runs = []
+    for number, part in enumerate(windows, 1):
+        words = [*ends_of(asked, part), *asked.handed_on("count")]
+        runs.append(asked.run(number, shown(part, asked.is_civil), files, words))
+    paths = outputs(asked.folder, runs)
+    return Plan(runs, {"cut": "windows"}, is_number, lambda sink: put(sink, total(paths)))
 
 
 def plan_by_sort(asked: Asked, form: Form, query: bytes, words: Sequence[str]) -> Plan:
@@ -163,4 +189,6 @@ def plan_of(asked: Asked) -> Plan:
         return plan_by_sort(
             asked, form, query, listing(asked, window) if asked.command == "list" else asked.handed_on("decide")
         )
+    if asked.command == "count":
+        return plan_count(asked, form, files, window)
     return plan_windows(asked, form, files, window)

@@ -20,23 +20,26 @@ from .told import table
 
 USES = """fizhedul spread list db=FILE query=FILE from=A to=B parts=N engine=parallel|slurm|dask out=FILE [overlap=N]
 fizhedul spread list db=FILE query=FILE from=A to=B by=SORT parts=N engine=.. out=FILE
+fizhedul spread count db=FILE query=FILE from=A to=B parts=N engine=.. out=FILE
 fizhedul spread decide db=FILE queries=FOLDER [parts=N] engine=.. out=FILE
 fizhedul spread decide db=FILE query=FILE by=SORT parts=N engine=.. out=FILE"""
 MOST_TRIES = 100
 ENGINES = ["parallel", "slurm", "dask"]
 OWN_KEYS = ["db", "query", "out", "engine", "jobs", "hosts", "scheduler", "options", "tries"]
-LIST_KEYS = ["from", "to", "parts", "overlap", "by"]
-DECIDE_KEYS = ["queries", "parts", "by"]
+KEYS = {
+    "list": ["from", "to", "parts", "overlap", "by"],
+    "count": ["from", "to", "parts"],
+    "decide": ["queries", "parts", "by"],
+}
 
 
 def read_words(words: Sequence[str]) -> tuple[str, dict[str, str]]:
     """The command that is spread, and the words by their keys."""
-    if not words or words[0] not in ("list", "decide"):
+    if not words or words[0] not in KEYS:
         raise usage("what is spread is one of\n" + USES)
     command = words[0]
-    own = LIST_KEYS if command == "list" else DECIDE_KEYS
-    needed = ["db", "engine", "out", *(["query", "from", "to", "parts"] if command == "list" else [])]
-    found = keyed(words[1:], [*OWN_KEYS, *own, *keys_of_program(command)], needed)
+    needed = ["db", "engine", "out", *([] if command == "decide" else ["query", "from", "to", "parts"])]
+    found = keyed(words[1:], [*OWN_KEYS, *KEYS[command], *keys_of_program(command)], needed)
     if command == "decide":
         if ("queries" in found) == ("query" in found):
             raise usage("'decide' is spread over queries=FOLDER, or query=FILE with by=SORT and parts=N")
