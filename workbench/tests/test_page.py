@@ -10,7 +10,9 @@ from pages import (
     SHOWN,
     WEEK,
     answered,
+    at_rest,
     click,
+    drawn,
     editor,
     press,
     rows,
@@ -23,6 +25,9 @@ from test_draw import needs_browser
 from tools import program
 
 pytestmark = needs_browser
+
+
+NOBODY = "{ t: time | not exists a: time exists s: data exists g: data trip(t, a, s, g) }"
 
 
 def shown_times(page: Tab) -> list[str]:
@@ -56,6 +61,7 @@ def test_typing_a_query_is_followed(page: Tab) -> None:
     page.value(f"{editor('query')}.focus()")
     typed(page, "{ t: time | exists a: time exists s: data exists g: data trip(t, a, s, g) ")
     wait_for(page, "document.querySelectorAll('#answers thead th').length", 1)
+    at_rest(page)
     assert rows(page)[0] == ["5"] and page.value(f"{editor('query')}.getValue()").endswith("trip(t, a, s, g) }")
     assert page.value("document.getElementById('query-fault').hidden")
     styles = page.value("[...document.querySelectorAll('#query-editor .cm-keyword')].map((each) => each.textContent)")
@@ -84,6 +90,28 @@ def test_a_fault_of_the_database_stands_there(page: Tab) -> None:
     wait_for(page, "document.getElementById('db-fault').hidden")
 
 
+def test_what_is_seldom_meant_is_noted_at_its_place(page: Tab) -> None:
+    answered(page, "query", CONNECTIONS.replace('"Zoo"', '"Zo"'))
+    wait_for(page, "document.getElementById('query-notes').hidden", False)
+    assert (
+        'Did you mean "Zoo"?' in text_of(page, "#query-notes") and text_of(page, "#query-editor .note-mark") == '"Zo"'
+    )
+    assert page.value("document.getElementById('db-notes').hidden")
+    click(page, "#query-notes button")
+    line, column = page.value(f"(({{line, ch}}) => [line, ch])({editor('query')}.getCursor())")
+    assert CONNECTIONS.splitlines()[line][column:].startswith('"Zo')
+    answered(page, "db", WEEK.replace("where arr = dep + 25", "where arr = dep + 26"))
+    wait_for(page, "document.getElementById('db-notes').hidden", False)
+    assert "did you mean 'arr = dep + 25'?" in text_of(page, "#db-notes")
+    # A refusal stands alone, and what is mended isn't noted.
+    set_text(page, "query", "{ t: time | trap(t) }")
+    wait_for(page, "document.getElementById('query-fault').hidden", False)
+    assert page.value("document.getElementById('query-notes').hidden && document.getElementById('db-notes').hidden")
+    set_text(page, "db", WEEK)
+    answered(page, "query", CONNECTIONS)
+    assert page.value("document.getElementById('query-notes').hidden && !document.querySelector('.note-mark')")
+
+
 def test_relations_columns_and_texts_complete(page: Tab) -> None:
     set_text(page, "query", "{ when: time | tr")
     script = f"(() => {{ const e = {editor('query')}; e.focus(); e.setCursor(e.lastLine(), 999); }})()"
@@ -107,6 +135,7 @@ def test_zoom_and_move_by_keys_and_wheel(page: Tab) -> None:
     before = page.value(SHOWN)
     page.key("+", "+")
     wait_for(page, f"{SHOWN} > {before}")
+    at_rest(page)
     first, last = window(page)
     assert 890 <= last - first <= 910 and abs((first + last) / 2 - 720) < 4
     assert all(first <= int(d) and int(a) <= last for d, a in rows(page)) and len(rows(page)) > 5
@@ -114,6 +143,8 @@ def test_zoom_and_move_by_keys_and_wheel(page: Tab) -> None:
     wait_for(page, "Number(fizhedul.state.window.from)", first + (last - first) // 4)
     page.key("0", "0")
     wait_for(page, "document.getElementById('to').value", "1439")
+    at_rest(page)
+    assert len(rows(page)) == 18
     box = page.value(
         "(() => { const b = document.getElementById('frame').getBoundingClientRect(); return [b.x, b.y, b.width]; })()"
     )
@@ -121,8 +152,9 @@ def test_zoom_and_move_by_keys_and_wheel(page: Tab) -> None:
         "Input.dispatchMouseEvent", type="mouseWheel", x=box[0] + box[2] / 2, y=box[1] + 40, deltaX=0, deltaY=-400
     )
     wait_for(page, "fizhedul.state.window.to - fizhedul.state.window.from < 700n")
+    at_rest(page)
     first, last = window(page)
-    wait_for(page, "document.querySelectorAll('#answers tbody tr').length < 12")
+    assert 0 < len(rows(page)) < 12 and all(first <= int(d) and int(a) <= last for d, a in rows(page))
     assert shown_times(page) == [f"d = {d}, a = {a}" for d, a in rows(page)]
 
 
@@ -134,6 +166,7 @@ def test_a_window_is_typed(page: Tab) -> None:
     before = page.value(SHOWN)
     click(page, "#window button")
     wait_for(page, f"{SHOWN} > {before}")
+    at_rest(page)
     assert rows(page)[0] == [str(begin + 305), str(begin + 375)] and len(rows(page)) == 18
     page.value("document.getElementById('from').value = 'noon'")
     click(page, "#window button")
@@ -141,27 +174,32 @@ def test_a_window_is_typed(page: Tab) -> None:
     assert len(rows(page)) == 18
 
 
+# How many rows the table has, what it tells of their number, and whether there are no more.
+TOLD = """[document.querySelectorAll('#answers tbody tr').length,
+  document.getElementById('count').textContent, document.getElementById('more').hidden]"""
+
+
 def test_pages_are_loaded_as_one_goes(page: Tab) -> None:
     page.value("fizhedul.state.settings.limit = 100")
-    answered(page, "query", "{ t: time | not exists a: time exists s: data exists g: data trip(t, a, s, g) }")
-    assert 100 <= len(rows(page)) < 1300
-    wait_for(page, "/^100 answers of [0-9]+$/.test(document.getElementById('count').textContent)")
-    total = text_of(page, "#count")
-    count = len(rows(page))
-    for _ in range(40):
+    answered(page, "query", NOBODY)
+    # The number of all comes by itself, before the next page or after it.
+    wait_for(page, "/^[0-9]+ answers of [0-9]+$/.test(document.getElementById('count').textContent)")
+    total = text_of(page, "#count").split()[-1]
+    is_all = False
+    while not is_all:
+        count, told, is_all = page.value(TOLD)
+        assert 100 <= count <= int(total) and told == (f"{count} answers" if is_all else f"{count} answers of {total}")
+        # The end has to be out of view before it comes into view again.
+        drawn(page)
         page.value("(() => { const a = document.getElementById('answers'); a.scrollTop = a.scrollHeight; })()")
-        grown = f"document.querySelectorAll('#answers tbody tr').length > {count}"
-        wait_for(page, f"{grown} || document.getElementById('more').hidden")
-        count = len(rows(page))
-        if page.value("document.getElementById('more').hidden"):
-            break
+        wait_for(page, f"{TOLD}[0] > {count} || {TOLD}[2]")
     times = [int(row[0]) for row in rows(page)]
     trips = "{ t: time | exists a: time exists s: data exists g: data trip(t, a, s, g) }"
     answered(page, "query", trips)
     page.value("fizhedul.state.settings.limit = 500")
     taken = {int(row[0]) for row in rows(page)}
     assert times == [time for time in range(1440) if time not in taken]
-    assert total == f"100 answers of {len(times)}"
+    assert total == str(len(times))
 
 
 def test_an_answer_that_is_clicked_tells_why(page: Tab) -> None:
@@ -187,8 +225,12 @@ def test_edits_move_the_least_answer_and_are_undone(page: Tab) -> None:
     new = WEEK.replace("(5+60n, 30+60n", "(6+60n, 31+60n")
     answered(page, "db", new)
     wait_for(page, "document.querySelectorAll('#moves tbody tr').length", 3)
-    found = page.value("[...document.querySelectorAll('#moves tbody tr')].map((r) => r.cells[0].textContent)")
-    assert found == ["-115, -45", "none", "-114, -45"]
+    least = "[...document.querySelectorAll('#moves tbody tr')].map((r) => r.cells[0].textContent).join(' / ')"
+    assert page.value(least) == "-115, -45 / none / -114, -45"
+    # A query that isn't in kept form is watched, too.
+    answered(page, "query", NOBODY)
+    wait_for(page, least, "0 / 0 / 0")
+    answered(page, "query", CONNECTIONS)
     assert page.value("document.getElementById('db-file').classList.contains('changed')")
     click(page, "#moves button")
     wait_for(page, f"{editor('db')}.getValue() === fizhedul.state.saved.db")
@@ -233,11 +275,15 @@ def test_two_queries_are_compared(page: Tab) -> None:
 def test_the_plan_is_a_tree(page: Tab) -> None:
     click(page, "#tab-plan")
     wait_for(page, "document.querySelectorAll('#plan [role=treeitem]').length", 7)
+    at_rest(page)
     page.value("document.querySelector('#plan [role=treeitem]').focus()")
     for key in ("ArrowDown", "ArrowDown", "ArrowLeft"):
         page.key(key)
     assert page.value("document.activeElement.getAttribute('aria-expanded')") == "false"
     assert page.value("document.activeElement.querySelector('code').textContent") == "5 drop c"
     click(page, "#plan button")
-    wait_for(page, "document.querySelectorAll('#plan .cells').length > 0")
-    assert re.search(r"\d+ cells", text_of(page, "#plan .cells"))
+    wait_for(page, "document.querySelectorAll('#plan .cells').length", 7)
+    told = page.value("[...document.querySelectorAll('#plan .cells')].map((each) => each.textContent)")
+    pattern = r"\d+ cells?, after \d+ ms|at most \d+ cells?"
+    assert all(re.fullmatch(pattern, each) for each in told)
+    assert re.fullmatch(r"The whole query took \d+ ms\.", text_of(page, "#plan p"))
