@@ -17,3 +17,4 @@ pub mod Unique
 pub mod FirstFault
 pub mod Everywhere
 pub mod NoFaults
+pub mod Resolved

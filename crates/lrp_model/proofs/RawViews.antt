@@ -1,10 +1,14 @@
--- The raw formula of a node whose members stand in a vector.
-use Rattle.std.proofs.Common.{◌≡◌, ℕ, ◌+◌, ◌<◌, List, [], ◌∷◌, ◌++◌, Vec, Global, refl, ap, sym, ◌∙◌, rules, length, take, get_or}
+-- The raw formulas of nodes, and of those whose members stand in a vector.
+use Rattle.std.proofs.Common.{◌≡◌, ℕ, ℤ, ◌+◌, ◌<◌, List, [], ◌∷◌, ◌++◌, Vec, Box, Global, refl, ap, sym, ◌∙◌, rules, length, take, get_or}
 use Rattle.std.proofs.lemmas.List.{take_more}
-use Rattle.lrp_model.specs.RawQueries.{RawForms, raw_kind, raw_form_of, raw_forms_of, row_raws, raw_and, raw_or, no_raws, raw}
+use Rattle.lrp_model.specs.RawQueries.{RawForms, raw_kind, raw_form_of, raw_forms_of, row_raws, raw_not, raw_and, raw_or, raw_implies, raw_group, raw_exists, raw_forall, raw_ranged, raw_paired, operator_at, no_raws, raw}
 use Rattle.lrp_model.specs.declared.tokens.Place.{Place}
+use Rattle.lrp_model.specs.Texts.{Identifier}
+use Rattle.lrp_model.specs.declared.raw.RawColumn.{RawColumn}
+use Rattle.lrp_model.specs.declared.raw.Ranged.{Ranged}
+use Rattle.lrp_model.specs.declared.raw.Paired.{Paired}
 use Rattle.lrp_model.specs.declared.raw.RawFormula.{RawFormula}
-use Rattle.lrp_model.specs.declared.raw.RawKind.{And, Or, the_lemmas, Row_of-RawFormula, end_of-RawFormula, more_of-RawFormula, items-the_row-RawFormula}
+use Rattle.lrp_model.specs.declared.raw.RawKind.{Not, And, Or, Implies, Group, Exists, Forall, Ranged as RangedKind, Paired as PairedKind, the_lemmas, Row_of-RawFormula, end_of-RawFormula, more_of-RawFormula, items-the_row-RawFormula}
 
 -- the first list and then the second
 joined_raws : RawForms → RawForms → RawForms
@@ -37,3 +41,33 @@ raw_and_form f v fs e h = sym (ap (λ k. raw_kind k f.place) e ∙ raw_kind-And 
 
 pub raw_or_form : (f : RawFormula) (v : Vec RawFormula Global) (fs : List RawFormula) → f.kind ≡ Or v → fs ≡ v.items → raw_or f.place (raw_forms_of fs) ≡ raw_form_of f
 raw_or_form f v fs e h = sym (ap (λ k. raw_kind k f.place) e ∙ raw_kind-Or v f.place ∙ ap (λ xs. raw_or f.place (raw_forms_of xs)) (sym h))
+
+-- ---- nodes of the tree in memory
+
+-- a `not`
+pub raw_kind-Not : (b : Box RawFormula Global) (p : Place) → raw_kind (Not b) p ≡ raw_not p (raw_form_of b.value)
+raw_kind-Not b p = search (rules, the_lemmas)
+
+-- a formula in parentheses
+pub raw_kind-Group : (b : Box RawFormula Global) (p : Place) → raw_kind (Group b) p ≡ raw_group p (raw_form_of b.value)
+raw_kind-Group b p = search (rules, the_lemmas)
+
+-- an operator with an interval
+pub raw_kind-Ranged : (word : Ranged) (n : Identifier) (at : Place) (from to : ℤ) (b : Box RawFormula Global) (p : Place) → raw_kind (RangedKind word n at from to b) p ≡ raw_ranged word (operator_at p n at) from to (raw_form_of b.value)
+raw_kind-Ranged word n at from to b p = search (rules, the_lemmas)
+
+-- one over two formulas
+pub raw_kind-Paired : (word : Paired) (n : Identifier) (at : Place) (b d : Box RawFormula Global) (p : Place) → raw_kind (PairedKind word n at b d) p ≡ raw_paired word (operator_at p n at) (raw_form_of b.value) (raw_form_of d.value)
+raw_kind-Paired word n at b d p = search (rules, the_lemmas)
+
+-- an `implies`
+pub raw_kind-Implies : (b d : Box RawFormula Global) (p : Place) → raw_kind (Implies b d) p ≡ raw_implies p (raw_form_of b.value) (raw_form_of d.value)
+raw_kind-Implies b d p = search (rules, the_lemmas)
+
+-- an `exists`
+pub raw_kind-Exists : (c : RawColumn) (b : Box RawFormula Global) (p : Place) → raw_kind (Exists c b) p ≡ raw_exists p c (raw_form_of b.value)
+raw_kind-Exists c b p = search (rules, the_lemmas)
+
+-- a `forall`
+pub raw_kind-Forall : (c : RawColumn) (b : Box RawFormula Global) (p : Place) → raw_kind (Forall c b) p ≡ raw_forall p c (raw_form_of b.value)
+raw_kind-Forall c b p = search (rules, the_lemmas)

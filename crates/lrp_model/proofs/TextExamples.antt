@@ -27,6 +27,7 @@ use Rattle.lrp_model.specs.Refused.{TextOf}
 use Rattle.lrp_model.specs.Databases.{database_text, FitsDatabase}
 use Rattle.lrp_model.specs.DatabaseReading.{IsDatabase, IsNoDatabaseText, HasDatabaseFault}
 use Rattle.lrp_model.specs.Queries.{WrittenTerm, WrittenQuery}
+use Rattle.lrp_model.specs.Queries.Language.{first_order}
 use Rattle.lrp_model.specs.Queries.WrittenTerm.{variable, text_term}
 use Rattle.lrp_model.specs.Queries.WrittenFormula.{atom_formula, compared, all_of, some}
 use Rattle.lrp_model.specs.Queries.FurtherMembers.{last}
@@ -147,7 +148,7 @@ ended = record {
 
 -- the bytes are a query with this first sort fault
 pub record HasSortFault (db : List Relation) (bytes : List ℕ) (kind : QueryKind) (place : Place) : Type 0 where
-  pub tree : WrittenQuery
+  pub tree : WrittenQuery first_order
   pub text : IsQueryText bytes tree
   pub found : IsSortFault db (raw_question tree) (record { kind = kind; place = place })
 

@@ -1,16 +1,21 @@
 -- The grammar of queries: written trees, what spells them, and which are lawful.
 -- Behind 64 `not` only a formula of depth 65 can stand, so these 64 words begin no query that is shallow enough, and yet the fault belongs to the token behind them. So a lawful tree may be cut off at depth 65 by a hole, which no bytes spell: then the 64 words begin a lawful text, and the token behind them is the first with which it does not go on.
-use Rattle.std.specs.Prelude.{◌≤◌, ℕ, zero, suc, Bool, List, [], ◌∷◌, ◌++◌, length}
+use Rattle.std.specs.Prelude.{◌≤◌, ℕ, zero, suc, Bool, List, [], ◌∷◌, ◌++◌, length, codes}
 use Rattle.std.specs.List.{AllByRecursion}
 use Rattle.lrp_model.specs.Texts.{Text, Identifier}
 use Rattle.lrp_model.specs.declared.tokens.Symbol.{Symbol}
-use Rattle.lrp_model.specs.declared.tokens.Symbol.TheVariants.{Open, Close, OpenBrace, CloseBrace, Bar, Plus, Le as le_sign, Ge as ge_sign, Lt as lt_sign, Gt as gt_sign, Equals}
+use Rattle.lrp_model.specs.declared.tokens.Symbol.TheVariants.{Open, Close, OpenBrace, CloseBrace, Comma, Bar, Plus, Le as le_sign, Ge as ge_sign, Lt as lt_sign, Gt as gt_sign, Equals}
 use Rattle.lrp_model.specs.declared.tokens.Word.{Word}
 use Rattle.lrp_model.specs.declared.tokens.Word.TheVariants.{Letter, Exists, Forall, Not, And, Or, Implies, In}
 use Rattle.lrp_model.specs.declared.tokens.Place.{Place}
 use Rattle.lrp_model.specs.declared.written.Located.{Located}
 use Rattle.lrp_model.specs.declared.written.Integer.{Integer}
 use Rattle.lrp_model.specs.declared.raw.RawColumn.{RawColumn}
+use Rattle.lrp_model.specs.declared.raw.Ranged.{Ranged}
+use Rattle.lrp_model.specs.declared.raw.Ranged.TheVariants.{Once, Always}
+use Rattle.lrp_model.specs.declared.raw.Paired.{Paired}
+use Rattle.lrp_model.specs.declared.raw.Paired.TheVariants.{Since, Until}
+use Rattle.lrp_model.specs.RawQueries.{Operator}
 use Rattle.lrp_model.specs.declared.formulas.Op.{Op}
 use Rattle.lrp_model.specs.declared.formulas.Op.TheVariants.{Le, Lt, Ge, Gt, Eq}
 use Rattle.lrp_model.specs.Tokens.{Part, located_text, separated}
@@ -19,6 +24,17 @@ use Rattle.lrp_model.specs.Tokens.Part.{at, any}
 use Rattle.lrp_model.specs.Limits.{greatest_number}
 use Rattle.lrp_model.specs.Columns.{column_text}
 use Rattle.lrp_model.specs.Databases.{integer_text, shift, comma}
+
+-- ---- languages
+
+-- what a language takes: formulas of first-order logic alone, or temporal operators beside them
+pub data Language : Type 0 where
+  first_order : Language
+  temporal : Language
+
+abbrev pub TakesOperators : Language → Type 0
+TakesOperators first_order = ⊥
+TakesOperators temporal = Unit {0}
 
 -- ---- written trees
 
@@ -29,29 +45,31 @@ pub data WrittenTerm : Type 0 where
   variable : Identifier → WrittenTerm
   shifted : Identifier → Bool → ℕ → WrittenTerm
 
--- a formula with the place of its first token, where no term has it; the members of an `and` or `or` are two at least
+-- a formula of a language with the place of its first token, where no term has it; the members of an `and` or `or` are two at least
 mutual
-  pub data WrittenFormula : Type 0 where
-    atom_formula : Place → Identifier → List (Located WrittenTerm) → WrittenFormula
-    compared : Located WrittenTerm → Op → Located WrittenTerm → WrittenFormula
-    member : Located WrittenTerm → Integer → ℕ → WrittenFormula
-    denied : Place → WrittenFormula → WrittenFormula
-    all_of : Place → WrittenFormula → FurtherMembers → WrittenFormula
-    any_of : Place → WrittenFormula → FurtherMembers → WrittenFormula
-    implied : Place → WrittenFormula → WrittenFormula → WrittenFormula
-    group : Place → WrittenFormula → WrittenFormula
-    some : Place → RawColumn → WrittenFormula → WrittenFormula
-    every : Place → RawColumn → WrittenFormula → WrittenFormula
+  pub data WrittenFormula (l : Language) : Type 0 where
+    atom_formula : Place → Identifier → List (Located WrittenTerm) → WrittenFormula l
+    compared : Located WrittenTerm → Op → Located WrittenTerm → WrittenFormula l
+    member : Located WrittenTerm → Integer → ℕ → WrittenFormula l
+    denied : Place → WrittenFormula l → WrittenFormula l
+    all_of : Place → WrittenFormula l → FurtherMembers l → WrittenFormula l
+    any_of : Place → WrittenFormula l → FurtherMembers l → WrittenFormula l
+    implied : Place → WrittenFormula l → WrittenFormula l → WrittenFormula l
+    group : Place → WrittenFormula l → WrittenFormula l
+    some : Place → RawColumn → WrittenFormula l → WrittenFormula l
+    every : Place → RawColumn → WrittenFormula l → WrittenFormula l
+    ranged : TakesOperators l → Ranged → Operator → Integer → Integer → WrittenFormula l → WrittenFormula l
+    paired : TakesOperators l → Paired → Operator → WrittenFormula l → WrittenFormula l → WrittenFormula l
     -- stands for a formula that would be too deep; no bytes spell one
-    hole : Place → WrittenFormula
+    hole : Place → WrittenFormula l
 
-  pub data FurtherMembers : Type 0 where
-    last : WrittenFormula → FurtherMembers
-    more : WrittenFormula → FurtherMembers → FurtherMembers
+  pub data FurtherMembers (l : Language) : Type 0 where
+    last : WrittenFormula l → FurtherMembers l
+    more : WrittenFormula l → FurtherMembers l → FurtherMembers l
 
-pub record WrittenQuery : Type 0 where
+pub record WrittenQuery (l : Language) : Type 0 where
   pub head : List RawColumn
-  pub body : WrittenFormula
+  pub body : WrittenFormula l
 
 -- ---- what spells a tree
 
@@ -70,8 +88,25 @@ op_symbol Lt = lt_sign
 op_symbol Gt = gt_sign
 op_symbol Eq = Equals
 
+-- the first words of operators, which are no reserved words: no other formula begins with two names, so where a second name follows they begin an operator
+abbrev pub ranged_word : Ranged → Identifier
+ranged_word Once = codes "once"
+ranged_word Always = codes "always"
+
+abbrev pub paired_word : Paired → Identifier
+paired_word Since = codes "since"
+paired_word Until = codes "until"
+
+-- the first word of an operator, and its variable
+abbrev pub operator_text : Identifier → Operator → List Part
+operator_text word o = at o.place (name_token word) ∷ at o.name_place (name_token o.name) ∷ any (symbol_token Open) ∷ []
+
+-- integer "," integer ")"
+abbrev pub interval_text : Integer → Integer → List Part
+interval_text from to = integer_text from ++ any (symbol_token Comma) ∷ (integer_text to ++ any (symbol_token Close) ∷ [])
+
 abbrev mutual
-  pub formula_text : WrittenFormula → List Part
+  pub formula_text : {l : Language} → WrittenFormula l → List Part
   -- name "(" [ term { "," term } ] ")"
   formula_text (atom_formula p n ts) = at p (name_token n) ∷ any (symbol_token Open) ∷ (separated comma (located_text term_text) ts ++ any (symbol_token Close) ∷ [])
   -- term ( "<=" | ">=" | "<" | ">" | "=" ) term
@@ -88,14 +123,18 @@ abbrev mutual
   -- ( "exists" | "forall" ) name ":" sort formula
   formula_text (some p c f) = at p (word_token Exists) ∷ (column_text c ++ formula_text f)
   formula_text (every p c f) = at p (word_token Forall) ∷ (column_text c ++ formula_text f)
+  -- ( "once" | "always" ) name "(" integer "," integer ")" formula
+  formula_text (ranged t word o from to f) = operator_text (ranged_word word) o ++ (interval_text from to ++ formula_text f)
+  -- ( "since" | "until" ) name "(" formula "," formula ")"
+  formula_text (paired t word o f g) = operator_text (paired_word word) o ++ (formula_text f ++ any (symbol_token Comma) ∷ (formula_text g ++ any (symbol_token Close) ∷ []))
   formula_text (hole p) = at p hole_token ∷ []
 
-  pub members_text : Word → FurtherMembers → List Part
+  pub members_text : {l : Language} → Word → FurtherMembers l → List Part
   members_text w (last f) = any (word_token w) ∷ formula_text f
   members_text w (more f fs) = any (word_token w) ∷ (formula_text f ++ members_text w fs)
 
 -- query = "{" [ column { "," column } ] "|" formula "}", and behind it the end
-abbrev pub query_text : WrittenQuery → List Part
+abbrev pub query_text : {l : Language} → WrittenQuery l → List Part
 query_text q = any (symbol_token OpenBrace) ∷ (separated comma column_text q.head ++ any (symbol_token Bar) ∷ (formula_text q.body ++ any (symbol_token CloseBrace) ∷ any end_token ∷ []))
 
 -- ---- what makes a tree lawful beyond the grammar
@@ -111,7 +150,7 @@ IsZero (suc n) = ⊥
 
 -- at most this deep, the formula itself counted; holes stand just below
 abbrev mutual
-  pub FitsDepth : WrittenFormula → ℕ → Type 0
+  pub FitsDepth : {l : Language} → WrittenFormula l → ℕ → Type 0
   FitsDepth (atom_formula p n ts) d = Deeper d (λ m. Unit {0})
   FitsDepth (compared l op r) d = Deeper d (λ m. Unit {0})
   FitsDepth (member t i k) d = Deeper d (λ m. Unit {0})
@@ -122,9 +161,11 @@ abbrev mutual
   FitsDepth (group p f) d = Deeper d (FitsDepth f)
   FitsDepth (some p c f) d = Deeper d (FitsDepth f)
   FitsDepth (every p c f) d = Deeper d (FitsDepth f)
+  FitsDepth (ranged t word o from to f) d = Deeper d (FitsDepth f)
+  FitsDepth (paired t word o f g) d = Deeper d (λ m. FitsDepth f m × FitsDepth g m)
   FitsDepth (hole p) d = IsZero d
 
-  pub FitDepth : FurtherMembers → ℕ → Type 0
+  pub FitDepth : {l : Language} → FurtherMembers l → ℕ → Type 0
   FitDepth (last f) d = FitsDepth f d
   FitDepth (more f fs) d = FitsDepth f d × FitDepth fs d
 
@@ -136,7 +177,7 @@ FitsTerm (shifted n down k) = k ≤ greatest_number
 
 -- the sizes of numbers and texts, and periods that are not 0
 abbrev mutual
-  pub FitsSizes : WrittenFormula → Type 0
+  pub FitsSizes : {l : Language} → WrittenFormula l → Type 0
   FitsSizes (atom_formula p n ts) = AllByRecursion (λ t. FitsTerm t.item) ts
   FitsSizes (compared l op r) = FitsTerm l.item × FitsTerm r.item
   FitsSizes (member t i k) = FitsTerm t.item × (i.size ≤ greatest_number) × (1 ≤ k) × (k ≤ greatest_number)
@@ -147,13 +188,15 @@ abbrev mutual
   FitsSizes (group p f) = FitsSizes f
   FitsSizes (some p c f) = FitsSizes f
   FitsSizes (every p c f) = FitsSizes f
+  FitsSizes (ranged t word o from to f) = (from.size ≤ greatest_number) × (to.size ≤ greatest_number) × FitsSizes f
+  FitsSizes (paired t word o f g) = FitsSizes f × FitsSizes g
   FitsSizes (hole p) = Unit {0}
 
-  pub FitSizes : FurtherMembers → Type 0
+  pub FitSizes : {l : Language} → FurtherMembers l → Type 0
   FitSizes (last f) = FitsSizes f
   FitSizes (more f fs) = FitsSizes f × FitSizes fs
 
 -- lawful: the sizes fit, and no formula is deeper than 64
-pub record FitsQuery (q : WrittenQuery) : Type 0 where
+pub record FitsQuery {l : Language} (q : WrittenQuery l) : Type 0 where
   pub sizes : FitsSizes q.body
   pub depth : FitsDepth q.body 64

@@ -1,5 +1,5 @@
 -- Queries with their places, without their places in memory, and what a raw query of the program is.
-use Rattle.std.specs.Prelude.{List, [], ◌∷◌}
+use Rattle.std.specs.Prelude.{ℤ, List, [], ◌∷◌}
 use Rattle.lrp_model.specs.Texts.{Identifier}
 use Rattle.lrp_model.specs.declared.tokens.Place.{Place}
 use Rattle.lrp_model.specs.declared.relations.RowPoint.{RowPoint}
@@ -8,9 +8,20 @@ use Rattle.lrp_model.specs.declared.raw.RawColumn.{RawColumn}
 use Rattle.lrp_model.specs.declared.raw.RawTerm.{RawTerm}
 use Rattle.lrp_model.specs.declared.raw.RawQuery.{RawQuery}
 use Rattle.lrp_model.specs.declared.raw.RawFormula.{RawFormula}
-use Rattle.lrp_model.specs.declared.raw.RawKind.{RawKind, Atom, Compare, Member, Not', And', Or', Implies', Group', Exists', Forall', Row_of-RawFormula, end_of-RawFormula, more_of-RawFormula}
+use Rattle.lrp_model.specs.declared.raw.Ranged.{Ranged}
+use Rattle.lrp_model.specs.declared.raw.Paired.{Paired}
+use Rattle.lrp_model.specs.declared.raw.RawKind.{RawKind, Atom, Compare, Member, Not', And', Or', Implies', Group', Exists', Forall', Ranged', Paired', Row_of-RawFormula, end_of-RawFormula, more_of-RawFormula}
 
--- a formula with the place of its first token; `raw_group` is one formula in parentheses
+-- where a temporal operator begins, and its variable with the place of its name
+pub record Operator : Type 0 where
+  pub place : Place
+  pub name : Identifier
+  pub name_place : Place
+
+abbrev pub operator_at : Place → Identifier → Place → Operator
+operator_at p n q = record { place = p; name = n; name_place = q }
+
+-- a formula with the place of its first token; `raw_group` is one formula in parentheses. The numbers of `once` and `always` are the ends of their interval, and `since` and `until` have the formula for the moments between first
 mutual
   pub data RawForm : Type 0 where
     raw_atom : Place → Identifier → List RawTerm → RawForm
@@ -23,6 +34,8 @@ mutual
     raw_group : Place → RawForm → RawForm
     raw_exists : Place → RawColumn → RawForm → RawForm
     raw_forall : Place → RawColumn → RawForm → RawForm
+    raw_ranged : Ranged → Operator → ℤ → ℤ → RawForm → RawForm
+    raw_paired : Paired → Operator → RawForm → RawForm → RawForm
 
   pub data RawForms : Type 0 where
     no_raws : RawForms
@@ -41,6 +54,8 @@ abbrev mutual
   raw_kind (Group' m k q) p = raw_group p (raw_kind k q)
   raw_kind (Exists' binder m k q) p = raw_exists p binder (raw_kind k q)
   raw_kind (Forall' binder m k q) p = raw_forall p binder (raw_kind k q)
+  raw_kind (Ranged' word name at from to m k q) p = raw_ranged word (operator_at p name at) from to (raw_kind k q)
+  raw_kind (Paired' word name at m k q n j r) p = raw_paired word (operator_at p name at) (raw_kind k q) (raw_kind j r)
 
   pub row_raws : {m : _} → Row_of-RawFormula m → RawForms
   row_raws end_of-RawFormula = no_raws
@@ -61,3 +76,25 @@ pub record RawQuestion : Type 0 where
 
 abbrev pub raw_question_of : RawQuery → RawQuestion
 raw_question_of q = record { head = q.head; body = raw_form_of q.body }
+
+-- ---- formulas of first-order logic
+
+-- no temporal operator stands in it
+abbrev mutual
+  pub HasNoOperator : RawForm → Type 0
+  HasNoOperator (raw_atom p n ts) = Unit {0}
+  HasNoOperator (raw_compare p l op r) = Unit {0}
+  HasNoOperator (raw_member p t point) = Unit {0}
+  HasNoOperator (raw_not p f) = HasNoOperator f
+  HasNoOperator (raw_and p fs) = HaveNoOperator fs
+  HasNoOperator (raw_or p fs) = HaveNoOperator fs
+  HasNoOperator (raw_implies p f g) = HasNoOperator f × HasNoOperator g
+  HasNoOperator (raw_group p f) = HasNoOperator f
+  HasNoOperator (raw_exists p c f) = HasNoOperator f
+  HasNoOperator (raw_forall p c f) = HasNoOperator f
+  HasNoOperator (raw_ranged word o from to f) = ⊥
+  HasNoOperator (raw_paired word o f g) = ⊥
+
+  pub HaveNoOperator : RawForms → Type 0
+  HaveNoOperator no_raws = Unit {0}
+  HaveNoOperator (raw f fs) = HasNoOperator f × HaveNoOperator fs

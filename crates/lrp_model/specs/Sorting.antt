@@ -21,7 +21,7 @@ use Rattle.lrp_model.specs.declared.raw.RawTermKind.TheVariants.{Int, Text, Var,
 use Rattle.lrp_model.specs.declared.faults.QueryFault.{QueryFault}
 use Rattle.lrp_model.specs.declared.faults.QueryKind.{QueryKind}
 use Rattle.lrp_model.specs.declared.faults.QueryKind.TheVariants.{UnknownRelation, Arity, Sort as WrongSort, Unbound, Rebound, Wide, UnknownSort}
-use Rattle.lrp_model.specs.RawQueries.{RawForm, RawForms, RawQuestion, raw_atom, raw_compare, raw_member, raw_not, raw_and, raw_or, raw_implies, raw_group, raw_exists, raw_forall, no_raws, raw}
+use Rattle.lrp_model.specs.RawQueries.{RawForm, RawForms, RawQuestion, raw_atom, raw_compare, raw_member, raw_not, raw_and, raw_or, raw_implies, raw_group, raw_exists, raw_forall, raw_ranged, raw_paired, no_raws, raw}
 
 abbrev pub query_fault : QueryKind → Place → QueryFault
 query_fault k p = record { kind = k; place = p }
@@ -165,6 +165,8 @@ abbrev mutual
   free_names (raw_group p f) = free_names f
   free_names (raw_exists p c f) = without c.name (free_names f)
   free_names (raw_forall p c f) = without c.name (free_names f)
+  free_names (raw_ranged word o from to f) = free_names f
+  free_names (raw_paired word o f g) = free_names g
 
   pub free_names_each : RawForms → List Identifier
   free_names_each no_raws = []
@@ -196,6 +198,8 @@ place_of (raw_implies p f g) = p
 place_of (raw_group p f) = p
 place_of (raw_exists p c f) = p
 place_of (raw_forall p c f) = p
+place_of (raw_ranged word o from to f) = o.place
+place_of (raw_paired word o f g) = o.place
 
 -- Wide: a formula with too many free variables, these names counted beside its own; at its earliest token, before the faults inside it
 abbrev pub widened : Binders → List Identifier → RawForm → List QueryFault → List QueryFault
@@ -203,7 +207,7 @@ widened bs bound f inside = fault_if (too_many bs (bound ++ free_names f)) (quer
 
 -- ---- faults of formulas and queries
 
--- the faults inside a formula within binders, all but its own width; the formula of a quantifier counts the quantifier's variable as free
+-- the faults inside a formula of first-order logic within binders, all but its own width; the formula of a quantifier counts the quantifier's variable as free
 abbrev mutual
   pub form_faults : RawForm → List Relation → Binders → List QueryFault
   form_faults (raw_atom p n ts) db bs = flat_map (term_faults bs) ts ++ atom_faults bs p ts (relation_named db n)
@@ -216,6 +220,8 @@ abbrev mutual
   form_faults (raw_group p f) db bs = widened bs [] f (form_faults f db bs)
   form_faults (raw_exists p c f) db bs = binder_faults db bs c ++ widened (c ∷ bs) (c.name ∷ []) f (form_faults f db (c ∷ bs))
   form_faults (raw_forall p c f) db bs = binder_faults db bs c ++ widened (c ∷ bs) (c.name ∷ []) f (form_faults f db (c ∷ bs))
+  form_faults (raw_ranged word o from to f) db bs = widened bs [] f (form_faults f db bs)
+  form_faults (raw_paired word o f g) db bs = widened bs [] g (form_faults g db bs)
 
   pub forms_faults : RawForms → List Relation → Binders → List QueryFault
   forms_faults no_raws db bs = []

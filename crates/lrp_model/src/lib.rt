@@ -1,7 +1,6 @@
 //! The values that the query engine speaks of, and what they mean.
 #![tactic(auto)]
 
-mod copies;
 mod domain;
 mod faults;
 mod formulas;
@@ -13,6 +12,7 @@ mod names;
 mod plans;
 mod raw;
 mod raw_copies;
+mod raw_terms;
 mod relations;
 mod short;
 mod tokens;
@@ -32,7 +32,7 @@ pub use list::{Copies, List};
 pub use memory::Memory;
 pub use names::{DataText, Name};
 pub use plans::{Plan, Planning, Step, StepKind};
-pub use raw::{RawColumn, RawFormula, RawKind, RawQuery, RawTerm, RawTermKind};
+pub use raw::{Paired, Ranged, RawColumn, RawFormula, RawKind, RawQuery, RawTerm, RawTermKind};
 pub use relations::{Bound, Column, Relation, Row, RowPoint, Sort, Value};
 pub use tokens::{Fault, LexFault, LexKind, Place, Symbol, Token, TokenKind, Word};
 pub use tuples::{Cell, Shape, Spot, Tuple};

@@ -1,10 +1,10 @@
 // Copies of raw formulas and queries: the same formula with the same places, elsewhere in memory.
 ghost use Rattle.std.specs.Prelude.{◌≡◌, IfOk};
-ghost use Rattle.lrp_model.specs.RawQueries.{raw_form_of, raw_forms_of, raw_question_of, raw_atom, raw_compare, raw_member, raw_and, raw_exists, raw_forall, raw_group, raw_implies, raw_not, raw_or};
+ghost use Rattle.lrp_model.specs.RawQueries.{raw_form_of, raw_forms_of, raw_question_of, raw_atom, raw_compare, raw_member, raw_and, raw_exists, raw_forall, raw_group, raw_implies, raw_not, raw_or, raw_ranged, raw_paired, operator_at};
 
 use crate::{
-    Copies, List, Memory, Name, Op, Place, RawColumn, RawFormula, RawKind, RawQuery, RawTerm,
-    RowPoint,
+    Copies, List, Memory, Name, Op, Paired, Place, Ranged, RawColumn, RawFormula, RawKind,
+    RawQuery, RawTerm, RowPoint,
 };
 use std::alloc::Global;
 
@@ -29,6 +29,26 @@ impl RawFormula {
     }
 }
 
+// An operator with an interval, without its formula.
+#[derive(Clone, Copy)]
+struct Range<'a> {
+    place: Place,
+    word: Ranged,
+    name: &'a Name,
+    name_place: Place,
+    from: i64,
+    to: i64,
+}
+
+// An operator over two formulas, without them.
+#[derive(Clone, Copy)]
+struct Pair<'a> {
+    place: Place,
+    word: Paired,
+    name: &'a Name,
+    name_place: Place,
+}
+
 // A match with all kinds would have an exit, and so a drop, for each part of each kind: a kind has a function of its own.
 #[cycle(raw_copying)]
 fn copy_raw(alloc: Global, f: &RawFormula) -> Result<RawFormula, Memory>
@@ -50,6 +70,41 @@ fn copy_raw(alloc: Global, f: &RawFormula) -> Result<RawFormula, Memory>
         RawKind::Group { of } => copy_group(alloc, place, of),
         RawKind::Exists { binder, of } => copy_existential(alloc, place, binder, of),
         RawKind::Forall { binder, of } => copy_universal(alloc, place, binder, of),
+        RawKind::Ranged {
+            word,
+            name,
+            name_place,
+            from,
+            to,
+            of,
+        } => {
+            let range = Range {
+                place,
+                word: *word,
+                name,
+                name_place: *name_place,
+                from: *from,
+                to: *to,
+            };
+            copy_ranged(alloc, range, of)
+        }
+        RawKind::Paired {
+            word,
+            name,
+            name_place,
+            left,
+            right,
+        } => {
+            let left = copy_raw(alloc, left)?;
+            let right = copy_raw(alloc, right)?;
+            let pair = Pair {
+                place,
+                word: *word,
+                name,
+                name_place: *name_place,
+            };
+            paired(alloc, pair, left, right)
+        }
     }
 }
 
@@ -168,6 +223,17 @@ fn copy_universal(
 }
 
 #[cycle(raw_copying)]
+fn copy_ranged(alloc: Global, range: Range<'_>, f: &RawFormula) -> Result<RawFormula, Memory>
+    ensures { IfOk result (λ made. raw_form_of made ≡ raw_ranged range.entry.word
+        (operator_at range.entry.place range.entry.name.now range.entry.name_place)
+        range.entry.from range.entry.to
+        (raw_form_of f.now)) }
+{
+    let f = copy_raw(alloc, f)?;
+    within(alloc, range, f)
+}
+
+#[cycle(raw_copying)]
 fn copy_each_raw(alloc: Global, fs: &[RawFormula]) -> Result<Vec<RawFormula>, Memory>
     ensures { IfOk result (λ made. raw_forms_of made.items ≡ raw_forms_of fs.now) }
 {
@@ -239,5 +305,45 @@ fn every(
     Ok(RawFormula {
         kind: RawKind::Forall { binder, of },
         place,
+    })
+}
+
+fn within(alloc: Global, range: Range<'_>, f: RawFormula) -> Result<RawFormula, Memory>
+    ensures { IfOk result (λ g. raw_form_of g ≡ raw_ranged range.entry.word
+        (operator_at range.entry.place range.entry.name.now range.entry.name_place)
+        range.entry.from range.entry.to
+        (raw_form_of f)) }
+{
+    let of = Box::new(alloc, f)?;
+    let name = range.name.copy(alloc)?;
+    Ok(RawFormula {
+        kind: RawKind::Ranged {
+            word: range.word,
+            name,
+            name_place: range.name_place,
+            from: range.from,
+            to: range.to,
+            of,
+        },
+        place: range.place,
+    })
+}
+
+fn paired(alloc: Global, pair: Pair<'_>, f: RawFormula, g: RawFormula) -> Result<RawFormula, Memory>
+    ensures { IfOk result (λ h. raw_form_of h ≡ raw_paired pair.entry.word
+        (operator_at pair.entry.place pair.entry.name.now pair.entry.name_place) (raw_form_of f) (raw_form_of g)) }
+{
+    let left = Box::new(alloc, f)?;
+    let right = Box::new(alloc, g)?;
+    let name = pair.name.copy(alloc)?;
+    Ok(RawFormula {
+        kind: RawKind::Paired {
+            word: pair.word,
+            name,
+            name_place: pair.name_place,
+            left,
+            right,
+        },
+        place: pair.place,
     })
 }
