@@ -5,7 +5,7 @@ use Rattle.std.proofs.lemmas.List.Sums.{count_by-le-length}
 use Rattle.std.specs.List.{AllByRecursion}
 use Rattle.std.proofs.lemmas.List.{length-append}
 use Rattle.lrp_model.specs.declared.tokens.Place.{Place}
-use Rattle.lrp_model.specs.declared.tokens.Symbol.TheVariants.{Close, CloseBrace, OpenBrace, Bar, Plus}
+use Rattle.lrp_model.specs.declared.tokens.Symbol.TheVariants.{Close, Comma, CloseBrace, OpenBrace, Bar, Plus}
 use Rattle.lrp_model.specs.declared.tokens.Word.{Word}
 use Rattle.lrp_model.specs.declared.tokens.Word.TheVariants.{And, Or, Implies, In, Letter}
 use Rattle.lrp_model.specs.declared.raw.RawQuery.{RawQuery}
@@ -20,95 +20,21 @@ use Rattle.lrp_model.specs.Columns.{column_text}
 use Rattle.lrp_model.specs.Databases.{sign, integer_text, comma}
 use Rattle.lrp_model.specs.DatabaseMeaning.{signed, column_of}
 use Rattle.lrp_model.specs.Names.{AreNamed}
-use Rattle.lrp_model.specs.Queries.{WrittenTerm, WrittenFormula, FurtherMembers, WrittenQuery, term_text, op_symbol, formula_text, members_text, query_text, FitsTerm, FitsSizes, FitSizes, FitsDepth, FitDepth}
+use Rattle.lrp_model.specs.Queries.{Language, WrittenTerm, WrittenFormula, FurtherMembers, WrittenQuery, term_text, op_symbol, formula_text, members_text, operator_text, interval_text, ranged_word, paired_word, query_text, FitsTerm, FitsSizes, FitSizes, FitsDepth, FitDepth}
 use Rattle.lrp_model.specs.Queries.WrittenTerm.{integer as integer_term, text_term, variable, shifted}
-use Rattle.lrp_model.specs.Queries.WrittenFormula.{atom_formula, compared, member, denied, all_of, any_of, implied, group, some, every, hole}
+use Rattle.lrp_model.specs.Queries.WrittenFormula.{atom_formula, compared, member, denied, all_of, any_of, implied, group, some, every, ranged, paired, hole}
+use Rattle.lrp_model.specs.Queries.Language.{first_order}
 use Rattle.lrp_model.specs.Queries.FurtherMembers.{last, more}
 use Rattle.lrp_model.specs.QueryMeaning.{term_kind, raw_term, raw_form, raw_forms, raw_question}
-use Rattle.lrp_model.specs.RawQueries.{RawForm, RawQuestion, raw, raw_question_of}
+use Rattle.lrp_model.specs.RawQueries.{RawForm, RawQuestion, HasNoOperator, HaveNoOperator, raw, raw_form_of, raw_question_of}
 use Rattle.lrp_model.specs.QueryReading.{IsQuery}
-use Rattle.lrp_text.proofs.Sound.{takes_split, takes_front, takes_shorter}
+use Rattle.lrp_text.proofs.Sound.{takes_shorter}
 use Rattle.lrp_text.proofs.Complete.{separated_long}
 use Rattle.lrp_text.proofs.NameTokens.{NamedPart, all_front, all_tail, columns_named, spelled_named}
-use Rattle.lrp_query.specs.Rules.{is_hole_token}
 use Rattle.lrp_query.specs.Lawful.{HasMagnitude, FitsRawTerm, HasTwo, FitsRaw, FitRaws, IsShallow, AreShallow, formulas_in, formulas_of, is_raw_text, text_total, formula_texts, texts_of, IsLawful}
-use Rattle.lrp_query.proofs.Marks.{NoHoles}
+use Rattle.lrp_query.proofs.Whole.{Whole, Wholes, behind_head, ends_query, whole_body}
 use Rattle.lrp_query.proofs.HoleFree.{tokens_clean}
 use Rattle.lrp_query.proofs.TermRules.{placed_text}
-
--- ---- no hole stands in a tree that is spelled
-
--- no hole stands in the formula
-abbrev mutual
-  Whole : WrittenFormula → Type 0
-  Whole (atom_formula p n ts) = Unit {0}
-  Whole (compared l op r) = Unit {0}
-  Whole (member t i k) = Unit {0}
-  Whole (denied p f) = Whole f
-  Whole (all_of p f fs) = Whole f × Wholes fs
-  Whole (any_of p f fs) = Whole f × Wholes fs
-  Whole (implied p f g) = Whole f × Whole g
-  Whole (group p f) = Whole f
-  Whole (some p c f) = Whole f
-  Whole (every p c f) = Whole f
-  Whole (hole p) = ⊥
-
-  Wholes : FurtherMembers → Type 0
-  Wholes (last f) = Whole f
-  Wholes (more f fs) = Whole f × Wholes fs
-
--- those behind a front
-clean_back : (front back : Tokens) → NoHoles (front ++ back) → NoHoles back
-clean_back [] back c = c
-clean_back (x ∷ front) back c = clean_back front back c.1
-
--- those behind some parts
-pub clean_rest : (ps : List Part) (ts us : Tokens) → Takes ps ts us → NoHoles ts → NoHoles us
-clean_rest ps ts us h c = let k = takes_front ps ts us h in clean_back k.head us (subst NoHoles k.whole c)
-
--- a hole shows itself
-pub no_hole : (k : Token) → k ≡ hole_token → is_hole_token k ≡ false → ⊥
-no_hole k e n = let h : true ≡ false = sym (ap is_hole_token e) ∙ n in absurd cc
-
-mutual
-  -- tokens without holes spell a formula without them
-  whole : (w : WrittenFormula) (ts left : Tokens) → Takes (formula_text w) ts left → NoHoles ts → Whole w
-  whole (atom_formula p n all) ts left h c = tt
-  whole (compared l op r) ts left h c = tt
-  whole (member l i k) ts left h c = tt
-  whole (denied p f) [] left h c = absurd h
-  whole (denied p f) (t ∷ ts) left h c = whole f ts left h.1 c.1
-  whole (all_of p f fs) [] left h c = absurd h
-  whole (all_of p f fs) (t ∷ ts) left h c =
-      let k = takes_split (formula_text f) (members_text And fs ++ any (symbol_token Close) ∷ []) ts left h.1 in
-      let m = takes_split (members_text And fs) (any (symbol_token Close) ∷ []) k.0 left k.2 in
-      (whole f ts k.0 k.1 c.1, wholes And fs k.0 m.0 m.1 (clean_rest (formula_text f) ts k.0 k.1 c.1))
-  whole (any_of p f fs) [] left h c = absurd h
-  whole (any_of p f fs) (t ∷ ts) left h c =
-      let k = takes_split (formula_text f) (members_text Or fs ++ any (symbol_token Close) ∷ []) ts left h.1 in
-      let m = takes_split (members_text Or fs) (any (symbol_token Close) ∷ []) k.0 left k.2 in
-      (whole f ts k.0 k.1 c.1, wholes Or fs k.0 m.0 m.1 (clean_rest (formula_text f) ts k.0 k.1 c.1))
-  whole (implied p f g) [] left h c = absurd h
-  whole (implied p f g) (t ∷ ts) left h c =
-      let k = takes_split (formula_text f) (any (word_token Implies) ∷ (formula_text g ++ any (symbol_token Close) ∷ [])) ts left h.1 in
-      let j = takes_split (any (word_token Implies) ∷ []) (formula_text g ++ any (symbol_token Close) ∷ []) k.0 left k.2 in
-      let m = takes_split (formula_text g) (any (symbol_token Close) ∷ []) j.0 left j.2 in
-      (whole f ts k.0 k.1 c.1, whole g j.0 m.0 m.1 (clean_rest (any (word_token Implies) ∷ []) k.0 j.0 j.1 (clean_rest (formula_text f) ts k.0 k.1 c.1)))
-  whole (group p f) [] left h c = absurd h
-  whole (group p f) (t ∷ ts) left h c = let k = takes_split (formula_text f) (any (symbol_token Close) ∷ []) ts left h.1 in whole f ts k.0 k.1 c.1
-  whole (some p b f) [] left h c = absurd h
-  whole (some p b f) (t ∷ ts) left h c = let k = takes_split (column_text b) (formula_text f) ts left h.1 in whole f k.0 left k.2 (clean_rest (column_text b) ts k.0 k.1 c.1)
-  whole (every p b f) [] left h c = absurd h
-  whole (every p b f) (t ∷ ts) left h c = let k = takes_split (column_text b) (formula_text f) ts left h.1 in whole f k.0 left k.2 (clean_rest (column_text b) ts k.0 k.1 c.1)
-  whole (hole p) [] left h c = absurd h
-  whole (hole p) (t ∷ ts) left h c = no_hole t.token h.0.0 c.0
-
-  -- the same of members
-  wholes : (w : Word) (fs : FurtherMembers) (ts left : Tokens) → Takes (members_text w fs) ts left → NoHoles ts → Wholes fs
-  wholes w (last f) [] left h c = absurd h
-  wholes w (last f) (t ∷ ts) left h c = whole f ts left h.1 c.1
-  wholes w (more f fs) [] left h c = absurd h
-  wholes w (more f fs) (t ∷ ts) left h c = let k = takes_split (formula_text f) (members_text w fs) ts left h.1 in (whole f ts k.0 k.1 c.1, wholes w fs k.0 left k.2 (clean_rest (formula_text f) ts k.0 k.1 c.1))
 
 -- ---- sizes
 
@@ -130,7 +56,7 @@ terms_fit [] h = tt
 terms_fit (t ∷ ts) h = (term_fits t.item h.0, terms_fit ts h.1)
 
 -- a first member and further ones are two at least
-two : (f : RawForm) (fs : FurtherMembers) → HasTwo (raw f (raw_forms fs))
+two : {l : Language} (f : RawForm) (fs : FurtherMembers l) → HasTwo (raw f (raw_forms fs))
 two f (last g) = tt
 two f (more g gs) = tt
 
@@ -140,7 +66,7 @@ period_fits k one most = (omega (arith, ints), omega (arith, ints))
 
 mutual
   -- a formula
-  fits_raw : (w : WrittenFormula) → Whole w → FitsSizes w → FitsRaw (raw_form w)
+  fits_raw : {l : Language} (w : WrittenFormula l) → Whole w → FitsSizes w → FitsRaw (raw_form w)
   fits_raw (atom_formula p n ts) o h = terms_fit ts h
   fits_raw (compared l op r) o h = (term_fits l.item h.0, term_fits r.item h.1)
   fits_raw (member t i k) o h = let p = period_fits k h.2 h.3 in let w = within i.negative i.size h.1 in (term_fits t.item h.0, ((w.0, w.1), p.0, p.1))
@@ -151,10 +77,12 @@ mutual
   fits_raw (group p f) o h = fits_raw f o h
   fits_raw (some p c f) o h = fits_raw f o h
   fits_raw (every p c f) o h = fits_raw f o h
+  fits_raw (ranged t word a from to f) o h = (within from.negative from.size h.0, within to.negative to.size h.1, fits_raw f o h.2)
+  fits_raw (paired t word a f g) o h = (fits_raw f o.0 h.0, fits_raw g o.1 h.1)
   fits_raw (hole p) o h = absurd o
 
   -- members
-  fit_raws : (fs : FurtherMembers) → Wholes fs → FitSizes fs → FitRaws (raw_forms fs)
+  fit_raws : {l : Language} (fs : FurtherMembers l) → Wholes fs → FitSizes fs → FitRaws (raw_forms fs)
   fit_raws (last f) o h = (fits_raw f o h, tt)
   fit_raws (more f fs) o h = (fits_raw f o.0 h.0, fit_raws fs o.1 h.1)
 
@@ -162,7 +90,7 @@ mutual
 
 mutual
   -- a formula
-  shallow : (w : WrittenFormula) (d : ℕ) → Whole w → FitsDepth w d → IsShallow (raw_form w) d
+  shallow : {l : Language} (w : WrittenFormula l) (d : ℕ) → Whole w → FitsDepth w d → IsShallow (raw_form w) d
   shallow (atom_formula p n ts) d o h = h
   shallow (compared l op r) d o h = h
   shallow (member t i k) d o h = h
@@ -180,12 +108,39 @@ mutual
   shallow (some p c f) (suc d) o h = shallow f d o h
   shallow (every p c f) zero o h = absurd h
   shallow (every p c f) (suc d) o h = shallow f d o h
+  shallow (ranged t word a from to f) zero o h = absurd h
+  shallow (ranged t word a from to f) (suc d) o h = shallow f d o h
+  shallow (paired t word a f g) zero o h = absurd h
+  shallow (paired t word a f g) (suc d) o h = (shallow f d o.0 h.0, shallow g d o.1 h.1)
   shallow (hole p) d o h = absurd o
 
   -- members
-  shallows : (fs : FurtherMembers) (d : ℕ) → Wholes fs → FitDepth fs d → AreShallow (raw_forms fs) d
+  shallows : {l : Language} (fs : FurtherMembers l) (d : ℕ) → Wholes fs → FitDepth fs d → AreShallow (raw_forms fs) d
   shallows (last f) d o h = (shallow f d o h, tt)
   shallows (more f fs) d o h = (shallow f d o.0 h.0, shallows fs d o.1 h.1)
+
+-- ---- formulas of first-order logic
+
+mutual
+  -- a formula of its language has no operator
+  plain : (w : WrittenFormula first_order) → HasNoOperator (raw_form w)
+  plain (atom_formula p n ts) = tt
+  plain (compared l op r) = tt
+  plain (member t i k) = tt
+  plain (denied p f) = plain f
+  plain (all_of p f fs) = (plain f, plains fs)
+  plain (any_of p f fs) = (plain f, plains fs)
+  plain (implied p f g) = (plain f, plain g)
+  plain (group p f) = plain f
+  plain (some p c f) = plain f
+  plain (every p c f) = plain f
+  plain (ranged t word o from to f) = t
+  plain (paired t word o f g) = t
+  plain (hole p) = tt
+
+  plains : (fs : FurtherMembers first_order) → HaveNoOperator (raw_forms fs)
+  plains (last f) = (plain f, tt)
+  plains (more f fs) = (plain f, plains fs)
 
 -- ---- how many
 
@@ -212,7 +167,7 @@ Counted formulas texts ps = (formulas ≤ length ps) × (texts ≤ length ps)
 
 mutual
   -- of a formula
-  counted : (w : WrittenFormula) → Counted (formulas_in (raw_form w)) (formula_texts (raw_form w)) (formula_text w)
+  counted : {l : Language} (w : WrittenFormula l) → Counted (formulas_in (raw_form w)) (formula_texts (raw_form w)) (formula_text w)
   counted (atom_formula p n ts) =
       let texts : text_total (map raw_term ts) ≤ length (map raw_term ts) = count_by-le-length (λ t. is_raw_text t.kind) (map raw_term ts) in
       let all : List Part = separated comma placed_text ts in
@@ -265,10 +220,21 @@ mutual
       let a = counted f in
       let size : length (column_text c ++ formula_text f) ≡ length (column_text c) + length (formula_text f) = length-append (column_text c) (formula_text f) in
       (omega (arith, a.0, size), omega (arith, a.1, size))
+  counted (ranged t word o from to f) =
+      let a = counted f in
+      let size : length (interval_text from to ++ formula_text f) ≡ length (interval_text from to) + length (formula_text f) = length-append (interval_text from to) (formula_text f) in
+      (omega (arith, a.0, size), omega (arith, a.1, size))
+  counted (paired t word o f g) =
+      let a = counted f in
+      let b = counted g in
+      let rest : List Part = formula_text g ++ any (symbol_token Close) ∷ [] in
+      let size : length (formula_text f ++ any (symbol_token Comma) ∷ rest) ≡ length (formula_text f) + length (any (symbol_token Comma) ∷ rest) = length-append (formula_text f) (any (symbol_token Comma) ∷ rest) in
+      let more : length rest ≡ length (formula_text g) + length {A = Part} (any (symbol_token Close) ∷ []) = length-append (formula_text g) (any (symbol_token Close) ∷ []) in
+      (omega (arith, a.0, b.0, size, more), omega (arith, a.1, b.1, size, more))
   counted (hole p) = (omega arith, omega arith)
 
   -- of members
-  counted_members : (w : Word) (fs : FurtherMembers) → Counted (formulas_of (raw_forms fs)) (texts_of (raw_forms fs)) (members_text w fs)
+  counted_members : {l : Language} (w : Word) (fs : FurtherMembers l) → Counted (formulas_of (raw_forms fs)) (texts_of (raw_forms fs)) (members_text w fs)
   counted_members w (last f) = let a = counted f in (omega (arith, a.0), omega (arith, a.1))
   counted_members w (more f fs) =
       let a = counted f in
@@ -305,38 +271,21 @@ tokens_long bytes = from_long (suc (length bytes)) start bytes
 
 -- ---- queries
 
--- what stands behind the head
-abbrev behind_head : WrittenFormula → List Part
-behind_head f = any (symbol_token Bar) ∷ (formula_text f ++ any (symbol_token CloseBrace) ∷ any end_token ∷ [])
-
 -- the body has four tokens fewer than the query
-body_short : (t : WrittenQuery) → length (formula_text t.body) + 4 ≤ length (query_text t)
+pub body_short : {l : Language} (t : WrittenQuery l) → length (formula_text t.body) + 4 ≤ length (query_text t)
 body_short t =
-    let ends : List Part = any (symbol_token CloseBrace) ∷ any end_token ∷ [] in
     let size : length (separated comma column_text t.head ++ behind_head t.body) ≡ length (separated comma column_text t.head) + length (behind_head t.body) = length-append (separated comma column_text t.head) (behind_head t.body) in
-    let rest : length (formula_text t.body ++ ends) ≡ length (formula_text t.body) + length ends = length-append (formula_text t.body) ends in
+    let rest : length (formula_text t.body ++ ends_query) ≡ length (formula_text t.body) + length ends_query = length-append (formula_text t.body) ends_query in
     omega (arith, size, rest)
 
--- the tokens that spell the body have no holes
-whole_body : (t : WrittenQuery) (ts : Tokens) → Spells (query_text t) ts → NoHoles ts → Whole t.body
-whole_body t ts h c =
-    let first : List Part = any (symbol_token OpenBrace) ∷ [] in
-    let bar : List Part = any (symbol_token Bar) ∷ [] in
-    let ends : List Part = any (symbol_token CloseBrace) ∷ any end_token ∷ [] in
-    let a = takes_split first (separated comma column_text t.head ++ behind_head t.body) ts [] h in
-    let b = takes_split (separated comma column_text t.head) (behind_head t.body) a.0 [] a.2 in
-    let d = takes_split bar (formula_text t.body ++ ends) b.0 [] b.2 in
-    let e = takes_split (formula_text t.body) ends d.0 [] d.2 in
-    whole t.body d.0 e.0 e.1 (clean_rest bar b.0 d.0 d.1 (clean_rest (separated comma column_text t.head) a.0 b.0 b.1 (clean_rest first ts a.0 a.1 c)))
-
 -- the names in the head are names
-head_named : (bytes : List ℕ) (t : WrittenQuery) → Spells (query_text t) (tokens bytes) → AreNamed (map column_of t.head)
+head_named : {l : Language} (bytes : List ℕ) (t : WrittenQuery l) → Spells (query_text t) (tokens bytes) → AreNamed (map column_of t.head)
 head_named bytes t spelled =
     let columns : List Part = separated comma column_text t.head in
     columns_named t.head (all_front NamedPart columns (behind_head t.body) (all_tail NamedPart (any (symbol_token OpenBrace)) (columns ++ behind_head t.body) (spelled_named bytes (query_text t) spelled)))
 
 -- the query that a written one means
-lawful_tree : (bytes : List ℕ) (t : WrittenQuery) → length bytes ≤ 16777216 → Spells (query_text t) (tokens bytes) → FitsSizes t.body → FitsDepth t.body 64 → IsLawful (raw_question t)
+lawful_tree : {l : Language} (bytes : List ℕ) (t : WrittenQuery l) → length bytes ≤ 16777216 → Spells (query_text t) (tokens bytes) → FitsSizes t.body → FitsDepth t.body 64 → IsLawful (raw_question t)
 lawful_tree bytes t small spelled sizes depth =
     let o = whole_body t (tokens bytes) spelled (tokens_clean bytes) in
     let size : length {A = Placed} [] + length (query_text t) ≡ length (tokens bytes) = takes_shorter (query_text t) (tokens bytes) [] spelled in
@@ -359,3 +308,11 @@ lawful_query bytes q small t = subst IsLawful (sym t.meant) (lawful_tree bytes t
 pub lawful_read : (bytes : List ℕ) (r : Result RawQuery QueryRead) → length bytes ≤ 16777216 → IfOk r (λ q. IsQuery bytes (raw_question_of q)) → IfOk r (λ q. IsLawful (raw_question_of q))
 lawful_read bytes (Ok q) small t = lawful_query bytes (raw_question_of q) small t
 lawful_read bytes (Err e) small t = t
+
+-- none of its operators is left, since it has none
+pub plain_query : (bytes : List ℕ) (q : RawQuestion) → IsQuery bytes q → HasNoOperator q.body
+plain_query bytes q t = subst (λ r. HasNoOperator r.body) (sym t.meant) (plain t.tree.body)
+
+pub plain_read : (bytes : List ℕ) (r : Result RawQuery QueryRead) → IfOk r (λ q. IsQuery bytes (raw_question_of q)) → IfOk r (λ q. HasNoOperator (raw_form_of q.body))
+plain_read bytes (Ok q) t = plain_query bytes (raw_question_of q) t
+plain_read bytes (Err e) t = t

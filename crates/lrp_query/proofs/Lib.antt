@@ -20,7 +20,10 @@ pub mod HoleFree
 mod Ranks
 pub mod TextLaws
 pub mod OneFault
-mod PlainGrammar
+pub mod Languages
+mod OperatorReader
+pub mod LanguageReaders
 mod Meant
-pub mod PlainTexts
+pub mod LanguageTexts
+pub mod Whole
 pub mod LawfulQueries

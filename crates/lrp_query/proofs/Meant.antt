@@ -2,27 +2,31 @@
 use Rattle.std.proofs.Common.{◌≡◌, ℕ, inl, List, [], ◌∷◌, map, refl, ap, sym, subst}
 use Rattle.lrp_model.specs.Texts.{Identifier}
 use Rattle.lrp_model.specs.declared.tokens.Place.{Place}
+use Rattle.lrp_model.specs.DatabaseMeaning.{integer_of}
 use Rattle.lrp_model.specs.Tokens.{Tokens}
-use Rattle.lrp_model.specs.Queries.{WrittenFormula}
+use Rattle.lrp_model.specs.Queries.{Language, WrittenFormula}
+use Rattle.lrp_model.specs.Queries.Language.{first_order, temporal}
 use Rattle.lrp_model.specs.Queries.WrittenFormula.{hole}
 use Rattle.lrp_model.specs.QueryMeaning.{term_kind, raw_term, raw_form, raw_forms, raw_question}
 use Rattle.lrp_model.specs.RawQueries.{RawForm, raw, no_raws, raw_and, raw_or}
 use Rattle.lrp_text.specs.Parsers.{Parser}
 use Rattle.lrp_query.specs.Rules.{raws, behind_name, plainly, query_with}
-use Rattle.lrp_query.specs.Grammars.{raw_making, operators_made, behind_made, query_made, meant}
+use Rattle.lrp_query.specs.Grammars.{meant, operators_in, behind_in, query_in}
 use Rattle.lrp_query.proofs.Layers.{trees}
-use Rattle.lrp_query.proofs.PlainGrammar.{further, plain}
+use Rattle.lrp_query.proofs.Languages.{further, grammar, written_operators}
+use Rattle.lrp_query.proofs.LanguageReaders.{written_behind, reader}
 use Rattle.lrp_query.proofs.Natural.{mapped, Same, Mapping, cut_same, unmarked, behind_name_same, query_same}
+use Rattle.lrp_query.proofs.OperatorLaws.{behind_same}
 use Rattle.lrp_query.proofs.Behind.{wordless}
 
 -- the further members as a list
-further_raws : (g : WrittenFormula) (gs : List WrittenFormula) → raws (map raw_form (g ∷ gs)) ≡ raw_forms (further g gs)
+further_raws : {l : Language} (g : WrittenFormula l) (gs : List (WrittenFormula l)) → raws (map raw_form (g ∷ gs)) ≡ raw_forms (further g gs)
 further_raws g [] = refl
 further_raws g (h ∷ gs) = ap (raw (raw_form g)) (further_raws h gs)
 
 -- raw queries are made from written ones
-meaning : Mapping ⊥ (trees plain) meant
-meaning = record {
+abbrev meaning : (l : Language) → Mapping ⊥ (trees (grammar l)) meant
+meaning l = record {
   kind = term_kind;
   term = raw_term;
   formula = raw_form;
@@ -43,13 +47,14 @@ meaning = record {
   cut_is = λ t. inl (cut_same raw_form (hole t.place) (raw_or t.place no_raws) refl t.token);
 }
 
--- behind a name both read alike, since none is the first word of an operator
-behind_meant : (inner : Parser RawForm) (turns : ℕ) (n : Identifier) (p : Place) (ts : Tokens) → Same ⊥ (trees plain).cut raw_form (behind_name (trees plain) turns n p ts) (behind_made raw_making inner turns n p ts)
-unfolding meaning
+-- in first-order logic both read alike behind a name, since none is the first word of an operator
+behind_meant : (inner : Parser RawForm) (turns : ℕ) (n : Identifier) (p : Place) (ts : Tokens) → Same ⊥ (trees (grammar first_order)).cut raw_form (behind_name (trees (grammar first_order)) turns n p ts) (behind_in first_order inner turns n p ts)
 behind_meant inner turns n p ts =
-    subst (Same ⊥ (trees plain).cut raw_form (behind_name (trees plain) turns n p ts)) (sym (wordless meant (operators_made raw_making) inner turns n p ts refl)) (behind_name_same ⊥ (trees plain) meant meaning turns n p ts)
+    subst (Same ⊥ (trees (grammar first_order)).cut raw_form (behind_name (trees (grammar first_order)) turns n p ts)) (sym (wordless meant (operators_in first_order) inner turns n p ts refl)) (behind_name_same ⊥ (trees (grammar first_order)) meant (meaning first_order) turns n p ts)
 
 -- a query is read as the raw one that it means
-pub query_meant : (turns : ℕ) (ts : Tokens) → query_made raw_making turns ts ≡ mapped raw_question (query_with (trees plain) (plainly (trees plain)) turns ts)
-unfolding meaning
-query_meant turns ts = unmarked raw_question (query_with (trees plain) (plainly (trees plain)) turns ts) (query_made raw_making turns ts) (query_same ⊥ (trees plain) meant meaning (plainly (trees plain)) (behind_made raw_making) (λ inner other same n p q us. behind_meant other n p q us) turns ts)
+pub query_meant : (l : Language) (turns : ℕ) (ts : Tokens) → query_in l turns ts ≡ mapped raw_question (query_with (trees (grammar l)) (reader l).behind turns ts)
+query_meant first_order turns ts = unmarked raw_question (query_with (trees (grammar first_order)) (plainly (trees (grammar first_order))) turns ts) (query_in first_order turns ts) (query_same ⊥ (trees (grammar first_order)) meant (meaning first_order) (plainly (trees (grammar first_order))) (behind_in first_order) (λ inner other same n p q us. behind_meant other n p q us) turns ts)
+query_meant temporal turns ts =
+    unmarked raw_question (query_with (trees (grammar temporal)) written_behind turns ts) (query_in temporal turns ts)
+    (query_same ⊥ (trees (grammar temporal)) meant (meaning temporal) written_behind (behind_in temporal) (λ inner other same n p i us. behind_same ⊥ (trees (grammar temporal)) meant (meaning temporal) written_operators (operators_in temporal) integer_of (λ k. refl) (λ i. refl) (λ word o a b f. refl) (λ word o f g. refl) inner other same n p i us) turns ts)

@@ -1,12 +1,18 @@
 -- What the program makes of what it reads, in each grammar.
-use Rattle.std.specs.Prelude.{◌≡◌, ◌<◌, ◌⊎◌, ℕ, ℤ, List, [], length, Option, None, Ok, Err}
-use Rattle.std.specs.Str.{IsUtf8}
+use Rattle.std.specs.Prelude.{◌≡◌, ◌<◌, ◌⊎◌, ℕ, ℤ, cond, codes, List, [], length, Option, Some, None, Ok, Err}
+use Rattle.std.specs.Str.{IsUtf8, bytes_eq}
 use Rattle.lrp_model.specs.Texts.{Identifier}
 use Rattle.lrp_model.specs.declared.raw.RawColumn.{RawColumn}
 use Rattle.lrp_model.specs.declared.raw.RawTerm.{RawTerm}
 use Rattle.lrp_model.specs.declared.raw.RawTermKind.{RawTermKind}
 use Rattle.lrp_model.specs.DatabaseMeaning.{integer_of}
-use Rattle.lrp_model.specs.RawQueries.{RawForm, RawQuestion}
+use Rattle.lrp_model.specs.Queries.{Language}
+use Rattle.lrp_model.specs.Queries.Language.{first_order, temporal}
+use Rattle.lrp_model.specs.RawQueries.{Operator, operator_at, RawForm, RawQuestion, raw_ranged, raw_paired}
+use Rattle.lrp_model.specs.declared.raw.Ranged.{Ranged}
+use Rattle.lrp_model.specs.declared.raw.Ranged.TheVariants.{Once, Always}
+use Rattle.lrp_model.specs.declared.raw.Paired.{Paired}
+use Rattle.lrp_model.specs.declared.raw.Paired.TheVariants.{Since, Until}
 use Rattle.lrp_model.specs.declared.tokens.Fault.{Fault as TokenFault}
 use Rattle.lrp_model.specs.declared.tokens.Place.{Place}
 use Rattle.lrp_model.specs.declared.faults.QueryRead.{QueryRead}
@@ -19,8 +25,8 @@ use Rattle.lrp_text.specs.Parsers.{Parser, Reads}
 use Rattle.lrp_text.specs.Sources.{Stands}
 use Rattle.lrp_text.specs.declared.lexemes.Lexeme.{Lexeme}
 use Rattle.lrp_query.specs.Reading.{refusal_of}
-use Rattle.lrp_query.specs.declared.words.NoWord.{NoWord}
 use Rattle.lrp_query.specs.declared.words.Leading.{Leading}
+use Rattle.lrp_query.specs.declared.words.Leading.TheVariants.{OfRange, OfPair}
 use Rattle.lrp_query.specs.declared.words.Opening.{Opening}
 use Rattle.lrp_query.specs.Rules.{FormulaTrees, Trees, BehindName, raw_terms, raw_formulas, cut_at, formula_with, query_with}
 use Rattle.lrp_query.specs.OperatorRules.{OperatorTrees, with_operators}
@@ -54,21 +60,46 @@ module _ {R P F Q : Type 0} (make : Making R P F Q) where
   abbrev pub query_made : ℕ → Parser Q
   query_made = query_with trees_made behind_made
 
--- ---- without operators
+-- ---- the languages
 
--- no name is the first word of an operator, so what would be made of one is never asked
-abbrev pub raw_making : Making NoWord NoWord RawForm RawQuestion
-raw_making = record {
+-- the operator that a name begins, if it is the first word of one
+abbrev pub word_of : Identifier → Option (Leading Ranged Paired)
+word_of n = cond (bytes_eq n (codes "once")) (Some (OfRange Once)) (cond (bytes_eq n (codes "always")) (Some (OfRange Always)) (cond (bytes_eq n (codes "since")) (Some (OfPair Since)) (cond (bytes_eq n (codes "until")) (Some (OfPair Until)) None)))
+
+-- the same in a language
+abbrev pub word_in : Language → Identifier → Option (Leading Ranged Paired)
+word_in first_order n = None
+word_in temporal n = word_of n
+
+-- an operator that begins so
+abbrev pub opened_operator : Opening → Operator
+opened_operator o = operator_at o.place o.name o.name_place
+
+-- the raw query that a tree of the language means
+abbrev pub raw_making : Language → Making Ranged Paired RawForm RawQuestion
+raw_making l = record {
   formulas = raw_formulas;
-  word_of = λ n. None;
-  ranged = λ word o a b f. f;
-  paired = λ word o f g. f;
+  word_of = word_in l;
+  ranged = λ word o. raw_ranged word (opened_operator o);
+  paired = λ word o. raw_paired word (opened_operator o);
   question = λ cs f. record { head = cs; body = f };
 }
 
--- the raw query that the tree means
+-- how it is put together, which is the same in each
 abbrev pub meant : Trees RawTermKind RawTerm RawForm RawQuestion
-meant = trees_made raw_making
+meant = trees_made (raw_making first_order)
+
+abbrev pub operators_in : Language → OperatorTrees Ranged Paired ℤ RawForm
+operators_in l = operators_made (raw_making l)
+
+abbrev pub behind_in : Language → BehindName RawForm
+behind_in l = behind_made (raw_making l)
+
+abbrev pub formula_in : Language → ℕ → ℕ → Parser RawForm
+formula_in l = formula_made (raw_making l)
+
+abbrev pub query_in : Language → ℕ → Parser RawQuestion
+query_in l = query_made (raw_making l)
 
 -- ---- bytes
 

@@ -5,7 +5,7 @@ use Rattle.lrp_model.specs.Limits.{greatest_number, most_bytes}
 use Rattle.lrp_model.specs.Names.{AreNamed}
 use Rattle.lrp_model.specs.DatabaseMeaning.{column_of}
 use Rattle.lrp_model.specs.Queries.{Deeper}
-use Rattle.lrp_model.specs.RawQueries.{RawForm, RawForms, RawQuestion, raw_atom, raw_compare, raw_member, raw_not, raw_and, raw_or, raw_implies, raw_group, raw_exists, raw_forall, no_raws, raw}
+use Rattle.lrp_model.specs.RawQueries.{RawForm, RawForms, RawQuestion, raw_atom, raw_compare, raw_member, raw_not, raw_and, raw_or, raw_implies, raw_group, raw_exists, raw_forall, raw_ranged, raw_paired, no_raws, raw}
 use Rattle.lrp_model.specs.declared.relations.RowPoint.{RowPoint}
 use Rattle.lrp_model.specs.declared.raw.RawTerm.{RawTerm}
 use Rattle.lrp_model.specs.declared.raw.RawTermKind.{RawTermKind}
@@ -44,6 +44,8 @@ abbrev mutual
   FitsRaw (raw_group p f) = FitsRaw f
   FitsRaw (raw_exists p c f) = FitsRaw f
   FitsRaw (raw_forall p c f) = FitsRaw f
+  FitsRaw (raw_ranged word o from to f) = HasMagnitude from × HasMagnitude to × FitsRaw f
+  FitsRaw (raw_paired word o f g) = FitsRaw f × FitsRaw g
 
   pub FitRaws : RawForms → Type 0
   FitRaws no_raws = Unit {0}
@@ -62,6 +64,8 @@ abbrev mutual
   IsShallow (raw_group p f) d = Deeper d (IsShallow f)
   IsShallow (raw_exists p c f) d = Deeper d (IsShallow f)
   IsShallow (raw_forall p c f) d = Deeper d (IsShallow f)
+  IsShallow (raw_ranged word o from to f) d = Deeper d (IsShallow f)
+  IsShallow (raw_paired word o f g) d = Deeper d (λ m. IsShallow f m × IsShallow g m)
 
   pub AreShallow : RawForms → ℕ → Type 0
   AreShallow no_raws d = Unit {0}
@@ -80,6 +84,8 @@ abbrev mutual
   formulas_in (raw_group p f) = formulas_in f + 1
   formulas_in (raw_exists p c f) = formulas_in f + 1
   formulas_in (raw_forall p c f) = formulas_in f + 1
+  formulas_in (raw_ranged word o from to f) = formulas_in f + 1
+  formulas_in (raw_paired word o f g) = formulas_in f + formulas_in g + 1
 
   pub formulas_of : RawForms → ℕ
   formulas_of no_raws = 0
@@ -107,6 +113,8 @@ abbrev mutual
   formula_texts (raw_group p f) = formula_texts f
   formula_texts (raw_exists p c f) = formula_texts f
   formula_texts (raw_forall p c f) = formula_texts f
+  formula_texts (raw_ranged word o from to f) = formula_texts f
+  formula_texts (raw_paired word o f g) = formula_texts f + formula_texts g
 
   pub texts_of : RawForms → ℕ
   texts_of no_raws = 0

@@ -3,11 +3,12 @@ ghost use Rattle.std.specs.Prelude.{◌≡◌, ◌≤◌, ◌<◌, ℕ, length, 
 ghost use Rattle.lrp_text.specs.Parsers.{Reads, accept};
 ghost use Rattle.lrp_query.specs.Reading.{ReadsAs, shown_op};
 ghost use Rattle.lrp_query.specs.Rules.{op_of as op_rule, point, comparing, tested, atom_terms, behind_name, unnamed};
-ghost use Rattle.lrp_query.specs.Grammars.{trees_made};
+ghost use Rattle.lrp_query.specs.Grammars.{meant};
+ghost use Rattle.lrp_model.specs.RawQueries.{raw_form_of};
 
-use crate::grammar::Grammar;
 use crate::terms::{read_named_term, read_term, read_terms, read_unnamed_term, signed};
-use lrp_model::{Fault, Name, Op, Place, RawTerm, RowPoint, Symbol, Word};
+use crate::trees;
+use lrp_model::{Fault, Name, Op, Place, RawFormula, RawTerm, RowPoint, Symbol, Word};
 use lrp_text::{Lexeme, TokenCursor, integer};
 use std::alloc::Global;
 
@@ -36,8 +37,8 @@ fn read_op(tokens: &mut TokenCursor<'_>) -> Result<Op, Fault>
 
 // The point behind a term and `in`.
 #[tactic(auto, unfolding(crate::specs::Rules::point))]
-fn read_point<G: Grammar>(tokens: &mut TokenCursor<'_>, term: RawTerm) -> Result<G::Formula, Fault>
-    ensures value { ReadsAs G.form_of (point (trees_made G.makes) term tokens.old) result
+fn read_point(tokens: &mut TokenCursor<'_>, term: RawTerm) -> Result<RawFormula, Fault>
+    ensures value { ReadsAs raw_form_of (point meant term tokens.old) result
         tokens.new }
     ensures fewer { IfOk result (λ _. length tokens.new < length tokens.old) }
 {
@@ -49,92 +50,92 @@ fn read_point<G: Grammar>(tokens: &mut TokenCursor<'_>, term: RawTerm) -> Result
         offset: signed(offset.negative, offset.size),
         period: signed(false, period),
     };
-    Ok(G::membership(term, point))
+    Ok(trees::membership(term, point))
 }
 
 // The comparison behind a term.
 #[tactic(auto, unfolding(crate::specs::Rules::comparing))]
-fn read_comparison<G: Grammar>(
+fn read_comparison(
     alloc: Global,
     tokens: &mut TokenCursor<'_>,
     left: RawTerm,
-) -> Result<G::Formula, Fault>
-    ensures value { ReadsAs G.form_of (comparing (trees_made G.makes) left tokens.old) result
+) -> Result<RawFormula, Fault>
+    ensures value { ReadsAs raw_form_of (comparing meant left tokens.old) result
         tokens.new }
     ensures fewer { IfOk result (λ _. length tokens.new < length tokens.old) }
 {
     let op = read_op(tokens)?;
     let right = read_term(alloc, tokens)?;
-    Ok(G::comparison(left, op, right))
+    Ok(trees::comparison(left, op, right))
 }
 
 // What stands behind the first term of a comparison or of an `in`.
 #[tactic(auto, unfolding(crate::specs::Rules::tested))]
-fn read_test<G: Grammar>(
+fn read_test(
     alloc: Global,
     tokens: &mut TokenCursor<'_>,
     left: RawTerm,
-) -> Result<G::Formula, Fault>
-    ensures value { ReadsAs G.form_of (tested (trees_made G.makes) left tokens.old) result
+) -> Result<RawFormula, Fault>
+    ensures value { ReadsAs raw_form_of (tested meant left tokens.old) result
         tokens.new }
     ensures fewer { IfOk result (λ _. length tokens.new < length tokens.old) }
 {
     if tokens.eat_word(Word::In) {
-        read_point::<G>(tokens, left)
+        read_point(tokens, left)
     } else {
-        read_comparison::<G>(alloc, tokens, left)
+        read_comparison(alloc, tokens, left)
     }
 }
 
 // The terms of an atom and its parenthesis, behind its name and the first parenthesis.
 #[tactic(auto, unfolding(crate::specs::Rules::atom_terms))]
-fn read_atom<G: Grammar>(
+fn read_atom(
     alloc: Global,
     tokens: &mut TokenCursor<'_>,
     relation: Name,
     place: Place,
-) -> Result<G::Formula, Fault>
+) -> Result<RawFormula, Fault>
     ensures value { (n : ℕ) → length tokens.old < n
-        → ReadsAs G.form_of (atom_terms (trees_made G.makes) n relation place tokens.old) result
+        → ReadsAs raw_form_of (atom_terms meant n relation place tokens.old) result
         tokens.new }
     ensures fewer { IfOk result (λ _. length tokens.new < length tokens.old) }
 {
     let terms = read_terms(alloc, tokens)?;
     tokens.expect(Symbol::Close)?;
-    Ok(G::atom(place, relation, terms))
+    Ok(trees::atom(place, relation, terms))
 }
 
 /// Reads what stands behind a name that begins a formula, the name being given: an atom, a comparison or an `in`.
 #[tactic(auto, unfolding(crate::specs::Rules::behind_name))]
-pub fn read_behind_name<G: Grammar>(
+pub fn read_behind_name(
     alloc: Global,
     tokens: &mut TokenCursor<'_>,
     name: Name,
     place: Place,
-) -> Result<G::Formula, Fault>
+) -> Result<RawFormula, Fault>
     ensures value { (n : ℕ) → length tokens.old < n
-        → ReadsAs G.form_of (behind_name (trees_made G.makes) n name place tokens.old) result
+        → ReadsAs raw_form_of (behind_name meant n name place tokens.old) result
         tokens.new }
     ensures shorter { IfOk result (λ _. length tokens.new ≤ length tokens.old) }
 {
     if tokens.eat(Symbol::Open) {
-        return read_atom::<G>(alloc, tokens, name, place);
+        return read_atom(alloc, tokens, name, place);
     }
     let kind = read_named_term(name, tokens)?;
-    read_test::<G>(alloc, tokens, RawTerm { kind, place })
+    read_test(alloc, tokens, RawTerm { kind, place })
 }
 
 /// Reads a comparison or an `in` that begins with a text or an integer, at its place.
 #[tactic(auto, unfolding(crate::specs::Rules::unnamed))]
-pub fn read_unnamed<G: Grammar>(
+pub fn read_unnamed(
     alloc: Global,
     tokens: &mut TokenCursor<'_>,
     place: Place,
-) -> Result<G::Formula, Fault>
-    ensures value { ReadsAs G.form_of (unnamed (trees_made G.makes) place tokens.old) result
+) -> Result<RawFormula, Fault>
+    ensures value { ReadsAs raw_form_of (unnamed meant place tokens.old) result
         tokens.new }
     ensures fewer { IfOk result (λ _. length tokens.new < length tokens.old) }
 {
     let kind = read_unnamed_term(alloc, tokens)?;
-    read_test::<G>(alloc, tokens, RawTerm { kind, place })
+    read_test(alloc, tokens, RawTerm { kind, place })
 }

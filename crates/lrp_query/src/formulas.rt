@@ -5,35 +5,37 @@ ghost use Rattle.lrp_text.specs.Taking.{is_word};
 ghost use Rattle.lrp_query.specs.Reading.{ReadsAs, ReadsEach};
 ghost use Rattle.lrp_query.specs.Rules.{named, negated, existing, holding, enclosed, behind_first, alone, implying, conjoined, disjoined};
 ghost use Rattle.lrp_query.specs.OperatorRules.{closed_by, ranged_parts, paired_parts};
-ghost use Rattle.lrp_query.specs.Grammars.{trees_made, operators_made, behind_made, formula_made};
+ghost use Rattle.lrp_query.specs.Grammars.{meant, operators_in, behind_in, formula_in};
+ghost use Rattle.lrp_model.specs.RawQueries.{raw_form_of};
 
 use crate::atoms::{read_behind_name, read_unnamed};
 use crate::grammar::Grammar;
 use crate::operators::{read_ends, read_variable};
 use crate::starts::{Start, start_of, too_deep};
+use crate::trees;
 use crate::words::{Leading, Opening};
-use lrp_model::{Fault, Memory, Name, Place, Symbol, Word};
+use lrp_model::{Fault, Memory, Name, Paired, Place, Ranged, RawFormula, Symbol, Word};
 use lrp_text::{TokenCursor, column};
 use std::alloc::Global;
 
 // A formula alone in parentheses, of which the last one is read.
-fn read_group<G: Grammar>(
+fn read_group(
     alloc: Global,
     tokens: &mut TokenCursor<'_>,
     place: Place,
-    of: G::Formula,
-) -> Result<G::Formula, Fault>
-    ensures value { ReadsAs G.form_of (alone (trees_made G.makes) place (G.form_of of) tokens.old)
+    of: RawFormula,
+) -> Result<RawFormula, Fault>
+    ensures value { ReadsAs raw_form_of (alone meant place (raw_form_of of) tokens.old)
         result tokens.new }
     ensures fewer { IfOk result (λ _. length tokens.new < length tokens.old) }
 {
     tokens.expect(Symbol::Close)?;
-    Ok(G::grouped(alloc, place, of)?)
+    Ok(trees::grouped(alloc, place, of)?)
 }
 
 // The first member, with room for a second one.
-fn members_from<G: Grammar>(alloc: Global, first: G::Formula) -> Result<Vec<G::Formula>, Memory>
-    ensures { IfOk result (λ made. map G.form_of made.items ≡ G.form_of first ∷ []) }
+fn members_from(alloc: Global, first: RawFormula) -> Result<Vec<RawFormula>, Memory>
+    ensures { IfOk result (λ made. map raw_form_of made.items ≡ raw_form_of first ∷ []) }
 {
     let mut all = Vec::with_capacity(alloc, 2)?;
     all.push(first)?;
@@ -41,15 +43,15 @@ fn members_from<G: Grammar>(alloc: Global, first: G::Formula) -> Result<Vec<G::F
 }
 
 // One more member behind the others.
-fn add<G: Grammar>(all: &mut Vec<G::Formula>, one: G::Formula) -> Result<(), Memory>
-    ensures { IfOk result (λ _. map G.form_of all.new.items ≡ map G.form_of all.old.items
-        ++ G.form_of one ∷ []) }
+fn add(all: &mut Vec<RawFormula>, one: RawFormula) -> Result<(), Memory>
+    ensures { IfOk result (λ _. map raw_form_of all.new.items ≡ map raw_form_of all.old.items
+        ++ raw_form_of one ∷ []) }
 {
     Ok(all.push(one)?)
 }
 
 // These members, with no room for more.
-fn exact<G: Grammar>(members: Vec<G::Formula>) -> Vec<G::Formula>
+fn exact(members: Vec<RawFormula>) -> Vec<RawFormula>
     ensures { result.items ≡ members.items }
 {
     let mut items = members;
@@ -63,9 +65,9 @@ pub fn read_formula<G: Grammar>(
     alloc: Global,
     tokens: &mut TokenCursor<'_>,
     depth: u32,
-) -> Result<G::Formula, Fault>
+) -> Result<RawFormula, Fault>
     ensures value { (turns : ℕ) → length tokens.old < turns
-        → ReadsAs G.form_of (formula_made G.makes depth turns tokens.old) result tokens.new }
+        → ReadsAs raw_form_of (formula_in G.language depth turns tokens.old) result tokens.new }
     ensures fewer { IfOk result (λ _. length tokens.new < length tokens.old) }
 {
     if depth == 0 {
@@ -79,7 +81,7 @@ pub fn read_formula<G: Grammar>(
         Start::Forall => read_universal::<G>(alloc, tokens, inner, place),
         Start::Open => read_enclosed::<G>(alloc, tokens, inner, place),
         Start::Name => read_named::<G>(alloc, tokens, inner),
-        Start::Term => read_unnamed::<G>(alloc, tokens, place),
+        Start::Term => read_unnamed(alloc, tokens, place),
     }
 }
 
@@ -90,15 +92,15 @@ fn read_negation<G: Grammar>(
     tokens: &mut TokenCursor<'_>,
     depth: u32,
     place: Place,
-) -> Result<G::Formula, Fault>
+) -> Result<RawFormula, Fault>
     ensures value { (turns : ℕ) → length tokens.old < turns
-        → ReadsAs G.form_of (negated (trees_made G.makes) (formula_made G.makes depth turns) place
+        → ReadsAs raw_form_of (negated meant (formula_in G.language depth turns) place
         tokens.old) result tokens.new }
     ensures fewer { IfOk result (λ _. length tokens.new < length tokens.old) }
 {
     tokens.expect_word(Word::Not)?;
     let of = read_formula::<G>(alloc, tokens, depth)?;
-    Ok(G::denied(alloc, place, of)?)
+    Ok(trees::denied(alloc, place, of)?)
 }
 
 #[cycle(reading)]
@@ -108,16 +110,16 @@ fn read_existential<G: Grammar>(
     tokens: &mut TokenCursor<'_>,
     depth: u32,
     place: Place,
-) -> Result<G::Formula, Fault>
+) -> Result<RawFormula, Fault>
     ensures value { (turns : ℕ) → length tokens.old < turns
-        → ReadsAs G.form_of (existing (trees_made G.makes) (formula_made G.makes depth turns) place
+        → ReadsAs raw_form_of (existing meant (formula_in G.language depth turns) place
         tokens.old) result tokens.new }
     ensures fewer { IfOk result (λ _. length tokens.new < length tokens.old) }
 {
     tokens.expect_word(Word::Exists)?;
     let binder = column(alloc, tokens)?;
     let of = read_formula::<G>(alloc, tokens, depth)?;
-    Ok(G::some(alloc, place, binder, of)?)
+    Ok(trees::some(alloc, place, binder, of)?)
 }
 
 #[cycle(reading)]
@@ -127,16 +129,16 @@ fn read_universal<G: Grammar>(
     tokens: &mut TokenCursor<'_>,
     depth: u32,
     place: Place,
-) -> Result<G::Formula, Fault>
+) -> Result<RawFormula, Fault>
     ensures value { (turns : ℕ) → length tokens.old < turns
-        → ReadsAs G.form_of (holding (trees_made G.makes) (formula_made G.makes depth turns) place
+        → ReadsAs raw_form_of (holding meant (formula_in G.language depth turns) place
         tokens.old) result tokens.new }
     ensures fewer { IfOk result (λ _. length tokens.new < length tokens.old) }
 {
     tokens.expect_word(Word::Forall)?;
     let binder = column(alloc, tokens)?;
     let of = read_formula::<G>(alloc, tokens, depth)?;
-    Ok(G::every(alloc, place, binder, of)?)
+    Ok(trees::every(alloc, place, binder, of)?)
 }
 
 #[cycle(reading)]
@@ -146,9 +148,9 @@ fn read_enclosed<G: Grammar>(
     tokens: &mut TokenCursor<'_>,
     depth: u32,
     place: Place,
-) -> Result<G::Formula, Fault>
+) -> Result<RawFormula, Fault>
     ensures value { (turns : ℕ) → length tokens.old < turns
-        → ReadsAs G.form_of (enclosed (trees_made G.makes) (formula_made G.makes depth turns) turns
+        → ReadsAs raw_form_of (enclosed meant (formula_in G.language depth turns) turns
         place tokens.old) result tokens.new }
     ensures fewer { IfOk result (λ _. length tokens.new < length tokens.old) }
 {
@@ -165,11 +167,11 @@ fn read_behind_first<G: Grammar>(
     tokens: &mut TokenCursor<'_>,
     depth: u32,
     place: Place,
-    first: G::Formula,
-) -> Result<G::Formula, Fault>
+    first: RawFormula,
+) -> Result<RawFormula, Fault>
     ensures value { (turns : ℕ) → length tokens.old < turns
-        → ReadsAs G.form_of (behind_first (trees_made G.makes) (formula_made G.makes depth turns)
-        turns place (G.form_of first) tokens.old) result tokens.new }
+        → ReadsAs raw_form_of (behind_first meant (formula_in G.language depth turns)
+        turns place (raw_form_of first) tokens.old) result tokens.new }
     ensures fewer { IfOk result (λ _. length tokens.new < length tokens.old) }
 {
     if tokens.eat_word(Word::Implies) {
@@ -181,7 +183,7 @@ fn read_behind_first<G: Grammar>(
     if tokens.eat_word(Word::Or) {
         return read_disjunction::<G>(alloc, tokens, depth, place, first);
     }
-    read_group::<G>(alloc, tokens, place, first)
+    read_group(alloc, tokens, place, first)
 }
 
 #[cycle(reading)]
@@ -191,16 +193,16 @@ fn read_implication<G: Grammar>(
     tokens: &mut TokenCursor<'_>,
     depth: u32,
     place: Place,
-    first: G::Formula,
-) -> Result<G::Formula, Fault>
+    first: RawFormula,
+) -> Result<RawFormula, Fault>
     ensures value { (turns : ℕ) → length tokens.old < turns
-        → ReadsAs G.form_of (implying (trees_made G.makes) (formula_made G.makes depth turns) place
-        (G.form_of first) tokens.old) result tokens.new }
+        → ReadsAs raw_form_of (implying meant (formula_in G.language depth turns) place
+        (raw_form_of first) tokens.old) result tokens.new }
     ensures fewer { IfOk result (λ _. length tokens.new < length tokens.old) }
 {
     let second = read_formula::<G>(alloc, tokens, depth)?;
     tokens.expect(Symbol::Close)?;
-    Ok(G::implied(alloc, place, first, second)?)
+    Ok(trees::implied(alloc, place, first, second)?)
 }
 
 #[cycle(reading)]
@@ -210,16 +212,16 @@ fn read_conjunction<G: Grammar>(
     tokens: &mut TokenCursor<'_>,
     depth: u32,
     place: Place,
-    first: G::Formula,
-) -> Result<G::Formula, Fault>
+    first: RawFormula,
+) -> Result<RawFormula, Fault>
     ensures value { (turns : ℕ) → length tokens.old < turns
-        → ReadsAs G.form_of (conjoined (trees_made G.makes) (formula_made G.makes depth turns) turns
-        place (G.form_of first) tokens.old) result tokens.new }
+        → ReadsAs raw_form_of (conjoined meant (formula_in G.language depth turns) turns
+        place (raw_form_of first) tokens.old) result tokens.new }
     ensures fewer { IfOk result (λ _. length tokens.new < length tokens.old) }
 {
     let of = read_members::<G>(alloc, tokens, depth, Word::And, first)?;
     tokens.expect(Symbol::Close)?;
-    Ok(G::conjunction(place, of))
+    Ok(trees::conjunction(place, of))
 }
 
 #[cycle(reading)]
@@ -229,16 +231,16 @@ fn read_disjunction<G: Grammar>(
     tokens: &mut TokenCursor<'_>,
     depth: u32,
     place: Place,
-    first: G::Formula,
-) -> Result<G::Formula, Fault>
+    first: RawFormula,
+) -> Result<RawFormula, Fault>
     ensures value { (turns : ℕ) → length tokens.old < turns
-        → ReadsAs G.form_of (disjoined (trees_made G.makes) (formula_made G.makes depth turns) turns
-        place (G.form_of first) tokens.old) result tokens.new }
+        → ReadsAs raw_form_of (disjoined meant (formula_in G.language depth turns) turns
+        place (raw_form_of first) tokens.old) result tokens.new }
     ensures fewer { IfOk result (λ _. length tokens.new < length tokens.old) }
 {
     let of = read_members::<G>(alloc, tokens, depth, Word::Or, first)?;
     tokens.expect(Symbol::Close)?;
-    Ok(G::disjunction(place, of))
+    Ok(trees::disjunction(place, of))
 }
 
 // The members behind a reserved word that stands between them, and the first one before these.
@@ -248,19 +250,19 @@ fn read_members<G: Grammar>(
     tokens: &mut TokenCursor<'_>,
     depth: u32,
     word: Word,
-    first: G::Formula,
-) -> Result<Vec<G::Formula>, Fault>
+    first: RawFormula,
+) -> Result<Vec<RawFormula>, Fault>
     ensures value { (turns : ℕ) → length tokens.old < turns
-        → ReadsEach G.form_of (separated_from (formula_made G.makes depth turns) (is_word word)
-        turns (G.form_of first ∷ []) tokens.old) result tokens.new }
+        → ReadsEach raw_form_of (separated_from (formula_in G.language depth turns) (is_word word)
+        turns (raw_form_of first ∷ []) tokens.old) result tokens.new }
     ensures shorter { IfOk result (λ _. length tokens.new ≤ length tokens.old) }
 {
-    let mut found = members_from::<G>(alloc, first)?;
+    let mut found = members_from(alloc, first)?;
     loop {
         let next = read_formula::<G>(alloc, tokens, depth)?;
-        add::<G>(&mut found, next)?;
+        add(&mut found, next)?;
         if !tokens.eat_word(word) {
-            return Ok(exact::<G>(found));
+            return Ok(exact(found));
         }
     }
 }
@@ -272,9 +274,9 @@ fn read_named<G: Grammar>(
     alloc: Global,
     tokens: &mut TokenCursor<'_>,
     depth: u32,
-) -> Result<G::Formula, Fault>
+) -> Result<RawFormula, Fault>
     ensures value { (turns : ℕ) → length tokens.old < turns
-        → ReadsAs G.form_of (named (behind_made G.makes (formula_made G.makes depth turns) turns)
+        → ReadsAs raw_form_of (named (behind_in G.language (formula_in G.language depth turns) turns)
         tokens.old) result tokens.new }
     ensures fewer { IfOk result (λ _. length tokens.new < length tokens.old) }
 {
@@ -290,14 +292,14 @@ fn read_behind<G: Grammar>(
     depth: u32,
     name: Name,
     place: Place,
-) -> Result<G::Formula, Fault>
+) -> Result<RawFormula, Fault>
     ensures value { (turns : ℕ) → length tokens.old < turns
-        → ReadsAs G.form_of (behind_made G.makes (formula_made G.makes depth turns) turns name place
+        → ReadsAs raw_form_of (behind_in G.language (formula_in G.language depth turns) turns name place
         tokens.old) result tokens.new }
     ensures shorter { IfOk result (λ _. length tokens.new ≤ length tokens.old) }
 {
     if !tokens.sees_name() {
-        return read_behind_name::<G>(alloc, tokens, name, place);
+        return read_behind_name(alloc, tokens, name, place);
     }
     match G::word_of(&name) {
         Some(Leading::OfRange(word)) => read_ranged::<G>(alloc, tokens, depth, word, place),
@@ -313,12 +315,12 @@ fn read_ranged<G: Grammar>(
     alloc: Global,
     tokens: &mut TokenCursor<'_>,
     depth: u32,
-    word: G::Ranged,
+    word: Ranged,
     place: Place,
-) -> Result<G::Formula, Fault>
+) -> Result<RawFormula, Fault>
     ensures value { (turns : ℕ) → length tokens.old < turns
-        → ReadsAs G.form_of (ranged_parts (operators_made G.makes)
-        (formula_made G.makes depth turns) word place tokens.old) result tokens.new }
+        → ReadsAs raw_form_of (ranged_parts (operators_in G.language)
+        (formula_in G.language depth turns) word place tokens.old) result tokens.new }
     ensures fewer { IfOk result (λ _. length tokens.new < length tokens.old) }
 {
     let (name, name_place) = read_variable(alloc, tokens)?;
@@ -329,7 +331,7 @@ fn read_ranged<G: Grammar>(
         name,
         name_place,
     };
-    Ok(G::ranged(alloc, word, opening, ends, of)?)
+    Ok(trees::ranged(alloc, word, opening, ends, of)?)
 }
 
 // An operator over two formulas, behind its first word.
@@ -339,12 +341,12 @@ fn read_paired<G: Grammar>(
     alloc: Global,
     tokens: &mut TokenCursor<'_>,
     depth: u32,
-    word: G::Paired,
+    word: Paired,
     place: Place,
-) -> Result<G::Formula, Fault>
+) -> Result<RawFormula, Fault>
     ensures value { (turns : ℕ) → length tokens.old < turns
-        → ReadsAs G.form_of (paired_parts (operators_made G.makes)
-        (formula_made G.makes depth turns) word place tokens.old) result tokens.new }
+        → ReadsAs raw_form_of (paired_parts (operators_in G.language)
+        (formula_in G.language depth turns) word place tokens.old) result tokens.new }
     ensures fewer { IfOk result (λ _. length tokens.new < length tokens.old) }
 {
     let (name, name_place) = read_variable(alloc, tokens)?;
@@ -355,7 +357,7 @@ fn read_paired<G: Grammar>(
         name,
         name_place,
     };
-    Ok(G::paired(alloc, word, opening, left, right)?)
+    Ok(trees::paired(alloc, word, opening, left, right)?)
 }
 
 // A formula and the symbol behind it.
@@ -366,9 +368,9 @@ fn read_closed<G: Grammar>(
     tokens: &mut TokenCursor<'_>,
     depth: u32,
     behind: Symbol,
-) -> Result<G::Formula, Fault>
+) -> Result<RawFormula, Fault>
     ensures value { (turns : ℕ) → length tokens.old < turns
-        → ReadsAs G.form_of (closed_by (formula_made G.makes depth turns) behind tokens.old) result
+        → ReadsAs raw_form_of (closed_by (formula_in G.language depth turns) behind tokens.old) result
         tokens.new }
     ensures fewer { IfOk result (λ _. length tokens.new < length tokens.old) }
 {

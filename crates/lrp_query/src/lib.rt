@@ -6,13 +6,13 @@ mod formulas;
 mod grammar;
 mod laws;
 mod operators;
-mod plain;
 mod queries;
 mod starts;
 mod terms;
+mod trees;
 mod words;
 
-pub use grammar::Grammar;
+pub use grammar::{Grammar, Plain, Temporal};
 pub use laws::query_texts_have_one_tree;
 pub use lrp_model::{
     QueryFault, QueryKind, QueryRead, RawColumn, RawFormula, RawKind, RawQuery, RawTerm,

@@ -1,7 +1,8 @@
 use Rattle.std.proofs.Common.{◌≡◌, ◌<◌, ◌≤◌, ℕ, [], ◌∷◌, map, length, ◌+◌, ◌*◌}
+use Rattle.lrp_model.specs.RawQueries.{raw_form_of}
 use Rattle.lrp_text.specs.Parsers.{separated_from}
 use Rattle.lrp_text.specs.Taking.{is_word}
-use Rattle.lrp_query.specs.Grammars.{formula_made}
+use Rattle.lrp_query.specs.Grammars.{formula_in}
 use Rattle.lrp_query.proofs.formulas.+reading.Given as goal
 
 abbrev pub decreases-read_formula : goal.decreases-read_formula
@@ -52,7 +53,7 @@ decreases-read_closed g l = 7 * l.depth + 3
 -- those so far and those that follow are the rule's
 abbrev pub invariant-read_members-loop-found : goal.invariant-read_members-loop-found
 invariant-read_members-loop-found g l = record {
-  same : (turns : ℕ) → length l.fn.tokens < turns → (n : ℕ) × (length l.tokens < n) × (separated_from (formula_made g.G.Grammar.makes l.fn.depth turns) (is_word l.fn.word) n (map g.G.Grammar.form_of l.found.items) l.tokens ≡ separated_from (formula_made g.G.Grammar.makes l.fn.depth turns) (is_word l.fn.word) turns (g.G.Grammar.form_of l.fn.first ∷ []) l.fn.tokens);
+  same : (turns : ℕ) → length l.fn.tokens < turns → (n : ℕ) × (length l.tokens < n) × (separated_from (formula_in g.G.Grammar.language l.fn.depth turns) (is_word l.fn.word) n (map raw_form_of l.found.items) l.tokens ≡ separated_from (formula_in g.G.Grammar.language l.fn.depth turns) (is_word l.fn.word) turns (raw_form_of l.fn.first ∷ []) l.fn.tokens);
   shorter : length l.tokens ≤ length l.fn.tokens;
 }
 
