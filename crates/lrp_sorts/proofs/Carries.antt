@@ -1,8 +1,9 @@
 -- What is carried over from a raw query to the query that it is.
 use Rattle.std.proofs.Common.{◌≡◌, Bool, true, false, cond, [], ◌∷◌, ◌++◌, refl, ap, ◌∙◌, ◌&&◌}
 use Rattle.lrp_model.specs.Core.{HasElement, HasElements, HaveElements}
-use Rattle.lrp_model.specs.Checked.{plain, plain_each, compare_of, is_equality}
-use Rattle.lrp_model.specs.RawQueries.{RawForm, RawForms, raw_atom, raw_compare, raw_member, raw_not, raw_and, raw_or, raw_implies, raw_group, raw_exists, raw_forall, no_raws, raw}
+use Rattle.lrp_model.specs.Checked.{plain, plain_each, compare_of}
+use Rattle.lrp_model.specs.RawTerms.{is_equality}
+use Rattle.lrp_model.specs.RawQueries.{RawForm, RawForms, raw_atom, raw_compare, raw_member, raw_not, raw_and, raw_or, raw_implies, raw_group, raw_exists, raw_forall, raw_ranged, raw_paired, no_raws, raw}
 use Rattle.lrp_model.specs.Sorting.{Binders, term_sort, is_data_term}
 use Rattle.lrp_model.specs.declared.formulas.Op.{Op}
 use Rattle.lrp_model.specs.declared.formulas.Test.{Test}
@@ -26,6 +27,8 @@ mutual
   members_stay (raw_or p fs) bs h = (member_stays fs bs h.0, each_stay fs bs h.1)
   members_stay (raw_implies p f g) bs h = (members_stay f bs h.0, members_stay g bs h.1)
   members_stay (raw_group p f) bs h = members_stay f bs h
+  members_stay (raw_ranged word o from to f) bs h = members_stay f bs h
+  members_stay (raw_paired word o f g) bs h = members_stay g bs h
   members_stay (raw_exists p c f) bs h = members_stay f (c ∷ bs) h
   members_stay (raw_forall p c f) bs h = members_stay f (c ∷ bs) h
 
@@ -54,6 +57,8 @@ mutual
   points_stay (raw_or p fs) bs = all_points_stay fs bs
   points_stay (raw_implies p f g) bs = ap (λ l. l ++ points (plain g bs)) (points_stay f bs) ∙ ap (λ l. raw_points f ++ l) (points_stay g bs)
   points_stay (raw_group p f) bs = points_stay f bs
+  points_stay (raw_ranged word o from to f) bs = points_stay f bs
+  points_stay (raw_paired word o f g) bs = points_stay g bs
   points_stay (raw_exists p c f) bs = points_stay f (c ∷ bs)
   points_stay (raw_forall p c f) bs = points_stay f (c ∷ bs)
 

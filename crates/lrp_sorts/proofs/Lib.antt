@@ -8,7 +8,11 @@ pub mod Tallies
 pub mod SortNames
 pub mod RawNodes
 pub mod Heads
-pub mod PlainForms
+mod NoneLeft
+mod SortedQueries
+mod Mapped
+mod NameSorts
+mod ResolvedNodes
 pub mod Surveys
 pub mod Nested
 pub mod Carries

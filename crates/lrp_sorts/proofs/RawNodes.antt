@@ -1,9 +1,9 @@
 -- What the nodes of a raw formula show, from what their members show.
-use Rattle.std.proofs.Common.{◌≡◌, ℕ, List, [], ◌∷◌, ◌++◌, Option, Result, Ok, Err, IfOk, OnOk, Box, Vec, Global, refl, ap, sym, subst, ◌∙◌, rules, ◌+◌, ◌<◌, length, take, get_or, append_assoc}
+use Rattle.std.proofs.Common.{◌≡◌, ℕ, ℤ, List, [], ◌∷◌, ◌++◌, Option, Result, Ok, Err, IfOk, OnOk, Box, Vec, Global, refl, ap, sym, subst, ◌∙◌, ◌+◌, ◌<◌, length, take, get_or, append_assoc}
 use Rattle.std.proofs.lemmas.List.{take_more, append-nil}
 use Rattle.lrp_model.specs.Texts.{Identifier, without}
 use Rattle.lrp_model.specs.Faults.{earliest, fault_if}
-use Rattle.lrp_model.specs.RawQueries.{raw_kind, raw_form_of, raw_forms_of, raw_not, raw_implies, raw_group, raw_exists, raw_forall}
+use Rattle.lrp_model.specs.RawQueries.{raw_kind, raw_form_of, raw_forms_of}
 use Rattle.lrp_model.specs.Sorting.{Binders, query_standing, query_fault, too_many, free_names, free_names_each, form_faults, forms_faults, widened, place_of, binder_faults}
 use Rattle.lrp_model.specs.declared.tokens.Place.{Place}
 use Rattle.lrp_model.specs.declared.relations.Relation.{Relation}
@@ -11,36 +11,16 @@ use Rattle.lrp_model.specs.declared.faults.QueryFault.{QueryFault}
 use Rattle.lrp_model.specs.declared.faults.QueryKind.TheVariants.{Wide}
 use Rattle.lrp_model.specs.declared.raw.RawColumn.{RawColumn}
 use Rattle.lrp_model.specs.declared.raw.RawFormula.{RawFormula}
-use Rattle.lrp_model.specs.declared.raw.RawKind.{RawKind, Atom, Compare, Member, Not, Group, And, Or, Implies, Exists, Forall, Not', And', Or', Implies', Group', Exists', Forall', the_lemmas}
-use Rattle.lrp_model.proofs.RawViews.{raw_kind-And, raw_kind-Or}
+use Rattle.lrp_model.specs.declared.raw.RawKind.{RawKind, Atom, Compare, Member, Not, Group, And, Or, Implies, Exists, Forall, Ranged as RangedKind, Paired as PairedKind, Not', And', Or', Implies', Group', Exists', Forall', Ranged', Paired'}
+use Rattle.lrp_model.specs.declared.raw.Ranged.{Ranged}
+use Rattle.lrp_model.specs.declared.raw.Paired.{Paired}
+use Rattle.lrp_model.proofs.RawViews.{raw_kind-And, raw_kind-Or, raw_kind-Not, raw_kind-Group, raw_kind-Ranged, raw_kind-Paired, raw_kind-Implies, raw_kind-Exists, raw_kind-Forall}
 use Rattle.lrp_model.specs.Sooner.{sooner}
 use Rattle.lrp_model.proofs.FirstFault.{first_of_both}
 use Rattle.lrp_sorts.specs.declared.finding.Finding.{Finding}
 use Rattle.lrp_sorts.specs.Scopes.{Around, binders}
 use Rattle.lrp_sorts.specs.Widths.{IsTally, IsTallied}
 use Rattle.lrp_sorts.specs.declared.width.Tally.{Tally}
-
--- ---- nodes of the tree in memory
-
--- a `not`
-pub raw_kind-Not : (b : Box RawFormula Global) (p : Place) → raw_kind (Not b) p ≡ raw_not p (raw_form_of b.value)
-raw_kind-Not b p = search (rules, the_lemmas)
-
--- a formula in parentheses
-pub raw_kind-Group : (b : Box RawFormula Global) (p : Place) → raw_kind (Group b) p ≡ raw_group p (raw_form_of b.value)
-raw_kind-Group b p = search (rules, the_lemmas)
-
--- an `implies`
-pub raw_kind-Implies : (b d : Box RawFormula Global) (p : Place) → raw_kind (Implies b d) p ≡ raw_implies p (raw_form_of b.value) (raw_form_of d.value)
-raw_kind-Implies b d p = search (rules, the_lemmas)
-
--- an `exists`
-pub raw_kind-Exists : (c : RawColumn) (b : Box RawFormula Global) (p : Place) → raw_kind (Exists c b) p ≡ raw_exists p c (raw_form_of b.value)
-raw_kind-Exists c b p = search (rules, the_lemmas)
-
--- a `forall`
-pub raw_kind-Forall : (c : RawColumn) (b : Box RawFormula Global) (p : Place) → raw_kind (Forall c b) p ≡ raw_forall p c (raw_form_of b.value)
-raw_kind-Forall c b p = search (rules, the_lemmas)
 
 -- a formula has the place that it is kept with
 pub place_kept : (k : RawKind) (p : Place) → place_of (raw_kind k p) ≡ p
@@ -54,6 +34,8 @@ place_kept (Implies' m k q n j r) p = refl
 place_kept (Group' m k q) p = refl
 place_kept (Exists' c m k q) p = refl
 place_kept (Forall' c m k q) p = refl
+place_kept (Ranged' word n at from to m k q) p = refl
+place_kept (Paired' word n at m k q l j r) p = refl
 
 -- ---- results
 
@@ -104,6 +86,15 @@ module _ (db : List Relation) (bs : Binders) where
       → earliest query_standing (widened bs [] (raw_form_of b.value) (form_faults (raw_form_of b.value) db bs)) ≡ earliest query_standing (form_faults (raw_form_of f) db bs)
   group_faults f b e = ap (λ g. earliest query_standing (form_faults g db bs)) (sym (ap (λ k. raw_kind k f.place) e ∙ raw_kind-Group b f.place))
 
+  -- of an operator, which are those of its last formula
+  pub ranged_faults : (f : RawFormula) (word : Ranged) (n : Identifier) (at : Place) (from to : ℤ) (b : Box RawFormula Global) → f.kind ≡ RangedKind word n at from to b
+      → earliest query_standing (widened bs [] (raw_form_of b.value) (form_faults (raw_form_of b.value) db bs)) ≡ earliest query_standing (form_faults (raw_form_of f) db bs)
+  ranged_faults f word n at from to b e = ap (λ g. earliest query_standing (form_faults g db bs)) (sym (ap (λ k. raw_kind k f.place) e ∙ raw_kind-Ranged word n at from to b f.place))
+
+  pub paired_faults : (f : RawFormula) (word : Paired) (n : Identifier) (at : Place) (b d : Box RawFormula Global) → f.kind ≡ PairedKind word n at b d
+      → earliest query_standing (widened bs [] (raw_form_of d.value) (form_faults (raw_form_of d.value) db bs)) ≡ earliest query_standing (form_faults (raw_form_of f) db bs)
+  paired_faults f word n at b d e = ap (λ g. earliest query_standing (form_faults g db bs)) (sym (ap (λ k. raw_kind k f.place) e ∙ raw_kind-Paired word n at b d f.place))
+
   -- of an `and`
   pub and_faults : (f : RawFormula) (v : Vec RawFormula Global) → f.kind ≡ And v → earliest query_standing (forms_faults (raw_forms_of v.items) db bs) ≡ earliest query_standing (form_faults (raw_form_of f) db bs)
   and_faults f v e = ap (λ g. earliest query_standing (form_faults g db bs)) (sym (ap (λ k. raw_kind k f.place) e ∙ raw_kind-And v f.place))
@@ -145,6 +136,13 @@ not_names f b e = ap free_names (sym (ap (λ k. raw_kind k f.place) e ∙ raw_ki
 -- of a formula in parentheses
 pub group_names : (f : RawFormula) (b : Box RawFormula Global) → f.kind ≡ Group b → free_names (raw_form_of b.value) ≡ free_names (raw_form_of f)
 group_names f b e = ap free_names (sym (ap (λ k. raw_kind k f.place) e ∙ raw_kind-Group b f.place))
+
+-- of an operator
+pub ranged_names : (f : RawFormula) (word : Ranged) (n : Identifier) (at : Place) (from to : ℤ) (b : Box RawFormula Global) → f.kind ≡ RangedKind word n at from to b → free_names (raw_form_of b.value) ≡ free_names (raw_form_of f)
+ranged_names f word n at from to b e = ap free_names (sym (ap (λ k. raw_kind k f.place) e ∙ raw_kind-Ranged word n at from to b f.place))
+
+pub paired_names : (f : RawFormula) (word : Paired) (n : Identifier) (at : Place) (b d : Box RawFormula Global) → f.kind ≡ PairedKind word n at b d → free_names (raw_form_of d.value) ≡ free_names (raw_form_of f)
+paired_names f word n at b d e = ap free_names (sym (ap (λ k. raw_kind k f.place) e ∙ raw_kind-Paired word n at b d f.place))
 
 -- of an `and`
 pub and_names : (f : RawFormula) (v : Vec RawFormula Global) → f.kind ≡ And v → free_names_each (raw_forms_of v.items) ≡ free_names (raw_form_of f)

@@ -1,6 +1,6 @@
 -- What a query has of the raw query that it was checked from.
 use Rattle.std.specs.Prelude.{List, [], ◌∷◌, ◌++◌}
-use Rattle.lrp_model.specs.RawQueries.{RawForm, RawForms, raw_atom, raw_compare, raw_member, raw_not, raw_and, raw_or, raw_implies, raw_group, raw_exists, raw_forall, no_raws, raw}
+use Rattle.lrp_model.specs.RawQueries.{RawForm, RawForms, raw_atom, raw_compare, raw_member, raw_not, raw_and, raw_or, raw_implies, raw_group, raw_exists, raw_forall, raw_ranged, raw_paired, no_raws, raw}
 use Rattle.lrp_model.specs.declared.relations.RowPoint.{RowPoint}
 
 -- each `and` and `or` has a member, as in every raw query that is read
@@ -14,6 +14,8 @@ abbrev mutual
   HasMembers (raw_or p fs) = HasMember fs × HaveMembers fs
   HasMembers (raw_implies p f g) = HasMembers f × HasMembers g
   HasMembers (raw_group p f) = HasMembers f
+  HasMembers (raw_ranged word o from to f) = HasMembers f
+  HasMembers (raw_paired word o f g) = HasMembers g
   HasMembers (raw_exists p c f) = HasMembers f
   HasMembers (raw_forall p c f) = HasMembers f
 
@@ -36,6 +38,8 @@ abbrev mutual
   raw_points (raw_or p fs) = raw_points_each fs
   raw_points (raw_implies p f g) = raw_points f ++ raw_points g
   raw_points (raw_group p f) = raw_points f
+  raw_points (raw_ranged word o from to f) = raw_points f
+  raw_points (raw_paired word o f g) = raw_points g
   raw_points (raw_exists p c f) = raw_points f
   raw_points (raw_forall p c f) = raw_points f
 

@@ -7,3 +7,4 @@ pub mod Carried
 pub mod Terms
 pub mod Widths
 pub mod Leaves
+pub mod Binding

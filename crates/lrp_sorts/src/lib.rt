@@ -6,7 +6,7 @@ mod checking;
 mod earliest;
 mod finding;
 mod head;
-mod plain;
+mod resolving;
 mod scope;
 mod terms;
 mod walk;

@@ -117,17 +117,6 @@ pub fn term_sort<'a>(scope: &Scope<'a>, term: &RawTerm) -> Sorted<'a>
     }
 }
 
-// Whether a term is of a data sort. Only a name alone is looked up.
-pub fn is_data(scope: &Scope<'_>, term: &RawTerm) -> bool
-    ensures { result ≡ is_data_term (sort_by (binders scope.now) term.now) }
-{
-    match &term.kind {
-        RawTermKind::Text { .. } => true,
-        RawTermKind::Int { .. } | RawTermKind::Shifted { .. } => false,
-        RawTermKind::Var { .. } => term_sort(scope, term).is_data(),
-    }
-}
-
 // An atom of no relation, or of another number of terms than the relation has columns.
 pub fn relation_fault(place: Place, terms: usize, relation: Option<&Relation>) -> Option<QueryFault>
     ensures { result ≡ earliest query_standing

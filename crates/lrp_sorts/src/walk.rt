@@ -39,6 +39,8 @@ pub fn inspect<'a>(
         }
         RawKind::Not { of } => inspect_whole(alloc, catalog, scope, of),
         RawKind::Group { of } => inspect_whole(alloc, catalog, scope, of),
+        RawKind::Ranged { of, .. } => inspect_whole(alloc, catalog, scope, of),
+        RawKind::Paired { right, .. } => inspect_whole(alloc, catalog, scope, right),
         RawKind::And { of } => inspect_each(alloc, catalog, scope, of),
         RawKind::Or { of } => inspect_each(alloc, catalog, scope, of),
         RawKind::Implies { left, right } => {

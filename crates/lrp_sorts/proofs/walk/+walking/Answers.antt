@@ -5,7 +5,7 @@ use Rattle.lrp_model.specs.Sorting.{query_standing, widened, form_faults, forms_
 use Rattle.lrp_model.specs.Sooner.{sooner}
 use Rattle.lrp_sorts.specs.Scopes.{binders}
 use Rattle.lrp_sorts.specs.Widths.{IsTallied}
-use Rattle.lrp_sorts.proofs.RawNodes.{fault_then, free_then, counted_then, tally_at, at_tally, then_ok, if_ok_then, shown, shown_bound, not_faults, group_faults, and_faults, or_faults, implies_faults, exists_faults, forall_faults, not_names, group_names, and_names, or_names, implies_names, exists_names, forall_names, one_member_faults, one_member_names}
+use Rattle.lrp_sorts.proofs.RawNodes.{fault_then, free_then, counted_then, tally_at, at_tally, then_ok, if_ok_then, shown, shown_bound, not_faults, group_faults, ranged_faults, paired_faults, and_faults, or_faults, implies_faults, exists_faults, forall_faults, not_names, group_names, ranged_names, paired_names, and_names, or_names, implies_names, exists_names, forall_names, one_member_faults, one_member_names}
 use Rattle.lrp_sorts.proofs.Leaves.{narrow_faults}
 use Rattle.lrp_sorts.proofs.walk.+walking.Goals as goal
 use Rattle.lrp_model.specs.Texts.{without}
@@ -37,6 +37,30 @@ inspect-returns-in-Group-clause-fault t c =
 pub inspect-returns-in-Group-clause-free : goal.inspect-returns-in-Group-clause-free
 inspect-returns-in-Group-clause-free t c =
     free_then c.args.scope.now c.inspect_whole-in-Group.result _ _ (ap (λ g. free_names (raw_form_of g)) c.deref-in-Group.ensures ∙ group_names c.args.f.now c.in-Group.of c.in-Group.is) c.inspect_whole-in-Group.ensures.free
+
+pub inspect-returns-in-Ranged-clause-fault : goal.inspect-returns-in-Ranged-clause-fault
+inspect-returns-in-Ranged-clause-fault t c =
+    let db = c.args.catalog.now in
+    let bs = binders c.args.scope.now in
+    fault_then c.inspect_whole-in-Ranged.result _ _
+    (ap (λ g. earliest query_standing (widened bs [] (raw_form_of g) (form_faults (raw_form_of g) db bs))) c.deref-in-Ranged.ensures ∙ ranged_faults db bs c.args.f.now _ _ _ _ _ c.in-Ranged.of c.in-Ranged.is)
+    c.inspect_whole-in-Ranged.ensures.fault
+
+pub inspect-returns-in-Ranged-clause-free : goal.inspect-returns-in-Ranged-clause-free
+inspect-returns-in-Ranged-clause-free t c =
+    free_then c.args.scope.now c.inspect_whole-in-Ranged.result _ _ (ap (λ g. free_names (raw_form_of g)) c.deref-in-Ranged.ensures ∙ ranged_names c.args.f.now _ _ _ _ _ c.in-Ranged.of c.in-Ranged.is) c.inspect_whole-in-Ranged.ensures.free
+
+pub inspect-returns-in-Paired-clause-fault : goal.inspect-returns-in-Paired-clause-fault
+inspect-returns-in-Paired-clause-fault t c =
+    let db = c.args.catalog.now in
+    let bs = binders c.args.scope.now in
+    fault_then c.inspect_whole-in-Paired.result _ _
+    (ap (λ g. earliest query_standing (widened bs [] (raw_form_of g) (form_faults (raw_form_of g) db bs))) c.deref-in-Paired.ensures ∙ paired_faults db bs c.args.f.now _ _ _ _ c.in-Paired.right c.in-Paired.is)
+    c.inspect_whole-in-Paired.ensures.fault
+
+pub inspect-returns-in-Paired-clause-free : goal.inspect-returns-in-Paired-clause-free
+inspect-returns-in-Paired-clause-free t c =
+    free_then c.args.scope.now c.inspect_whole-in-Paired.result _ _ (ap (λ g. free_names (raw_form_of g)) c.deref-in-Paired.ensures ∙ paired_names c.args.f.now _ _ _ _ c.in-Paired.right c.in-Paired.is) c.inspect_whole-in-Paired.ensures.free
 
 pub inspect-returns-in-And-clause-fault : goal.inspect-returns-in-And-clause-fault
 inspect-returns-in-And-clause-fault t c =

@@ -1,7 +1,7 @@
 use Rattle.std.proofs.Common.{◌∙◌}
 use Rattle.lrp_model.specs.DatabaseMeaning.{column_of}
-use Rattle.lrp_sorts.proofs.PlainForms.{one_mapped}
-use Rattle.lrp_sorts.proofs.plain.plain_columns.Goals as goal
+use Rattle.lrp_sorts.proofs.Mapped.{one_mapped}
+use Rattle.lrp_sorts.proofs.resolving.plain_columns.Goals as goal
 
 pub loop-column-preserved : goal.loop-column-preserved
 loop-column-preserved c =

@@ -3,10 +3,10 @@ use Rattle.lrp_model.specs.RawQueries.{raw_form_of}
 use Rattle.lrp_model.specs.Sorting.{free_names}
 use Rattle.lrp_sorts.specs.Scopes.{binders}
 use Rattle.lrp_sorts.proofs.Surveys.{survey_faults}
-use Rattle.lrp_sorts.proofs.checking.survey.Goals as goal
+use Rattle.lrp_sorts.proofs.checking.sort_fault.Goals as goal
 
-pub returns-clause-fault : goal.returns-clause-fault
-returns-clause-fault c =
+pub returns : goal.returns
+returns c =
     let scope = c.in_ok-fault.field-0.scope in
     survey_faults c.args.db.now _ c.args.raw.now _ scope c.in_ok-fault.field-0.fault _ c.head_width.result _ c.with_width-body.result.fault c.in_ok-inside.inside.fault
     c.in_ok-catalog.ensures c.as_slice-columns.ensures c.in_ok-fault.ensures.scope c.in_ok-fault.ensures.fault c.head_width.ensures c.sooner_of-head.ensures

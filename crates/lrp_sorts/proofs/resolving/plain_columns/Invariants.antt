@@ -1,6 +1,6 @@
 use Rattle.std.proofs.Common.{◌≡◌, map, take}
 use Rattle.lrp_model.specs.DatabaseMeaning.{column_of}
-use Rattle.lrp_sorts.proofs.plain.plain_columns.Given as goal
+use Rattle.lrp_sorts.proofs.resolving.plain_columns.Given as goal
 
 -- the columns so far
 abbrev pub invariant-loop-column : goal.invariant-loop-column
