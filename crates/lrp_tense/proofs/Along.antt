@@ -5,9 +5,8 @@ use Rattle.std.specs.List.Sorted.{IsNonDecreasing, IsStrictlyIncreasing}
 use Rattle.std.proofs.lemmas.List.Sorted.{IsNonDecreasingBy-from_all_adjacent, IsPermutation-refl}
 use Rattle.std.proofs.lemmas.List.{get_or_default}
 use Rattle.lrp_model.specs.declared.tokens.Place.{Place}
-use Rattle.lrp_model.specs.RawQueries.{raw_not, raw_and, raw_or, raw_implies, raw_group, raw_exists, raw_forall, raw}
-use Rattle.lrp_tense.specs.Trees.{TenseForm, TenseForms, tense_atom, tense_compare, tense_member, tense_not, tense_and, tense_or, tense_implies, tense_group, tense_exists, tense_forall, once, always, since, until, no_tenses, tense}
-use Rattle.lrp_tense.specs.Expanding.{operator_number, operators, operators_each, Naming, renamed_to, expanded, expanded_each, once_form, always_form, since_form, until_form, present_name, moment_name, between_name}
+use Rattle.lrp_model.specs.RawQueries.{raw_not, raw_and, raw_or, raw_implies, raw_group, raw_exists, raw_forall, raw, RawForm, RawForms, raw_atom, raw_compare, raw_member, raw_ranged, raw_paired, no_raws}
+use Rattle.lrp_tense.specs.Expanding.{operator_number, operators, operators_each, Naming, renamed_to, expanded, expanded_each, form_of_range, form_of_pair, present_name, moment_name, between_name}
 use Rattle.lrp_tense.specs.Counting.{position_of, operator_number_in, ArePositions, AreNumbers}
 use Rattle.lrp_tense.specs.Numbers.{Numbers, met, ranked, next_number, behind_one, behind_all, expanded_from, each_from}
 use Rattle.lrp_tense.proofs.Numbering.{trichotomy}
@@ -29,37 +28,29 @@ gives_right n m [] ys a = a
 gives_right n m (x ∷ xs) ys a = gives_right (behind_one n x) m xs ys a.1
 
 mutual
-  same_from : (f : TenseForm) (n : Numbers) (m : Place → ℕ) → Gives n m (operators f) → (names : Naming) → expanded_from f n names ≡ expanded f m names
-  same_from (tense_atom p r ts) n m a names = refl
-  same_from (tense_compare p l op r) n m a names = refl
-  same_from (tense_member p t point) n m a names = refl
-  same_from (tense_not p f) n m a names = ap (λ x. raw_not p x) (same_from f n m a names)
-  same_from (tense_and p fs) n m a names = ap (λ x. raw_and p x) (same_each fs n m a names)
-  same_from (tense_or p fs) n m a names = ap (λ x. raw_or p x) (same_each fs n m a names)
-  same_from (tense_implies p f g) n m a names = ap₂ (λ x y. raw_implies p x y) (same_from f n m (gives_left n m (operators f) (operators g) a) names) (same_from g (behind_all n (operators f)) m (gives_right n m (operators f) (operators g) a) names)
-  same_from (tense_group p f) n m a names = ap (λ x. raw_group p x) (same_from f n m a names)
-  same_from (tense_exists p c f) n m a names = ap (λ x. raw_exists p c x) (same_from f n m a (renamed_to c.name c.name ∷ names))
-  same_from (tense_forall p c f) n m a names = ap (λ x. raw_forall p c x) (same_from f n m a (renamed_to c.name c.name ∷ names))
-  same_from (once o from to f) n m a names =
-      ap (λ x. once_form o (moment_name o.name (next_number n o.place)) (present_name names o.name) from to x) (same_from f (behind_one n o.place) m a.1 (renamed_to o.name (moment_name o.name (next_number n o.place)) ∷ names))
-      ∙ ap (λ i. once_form o (moment_name o.name i) (present_name names o.name) from to (expanded f m (renamed_to o.name (moment_name o.name i) ∷ names))) a.0
-  same_from (always o from to f) n m a names =
-      ap (λ x. always_form o (moment_name o.name (next_number n o.place)) (present_name names o.name) from to x) (same_from f (behind_one n o.place) m a.1 (renamed_to o.name (moment_name o.name (next_number n o.place)) ∷ names))
-      ∙ ap (λ i. always_form o (moment_name o.name i) (present_name names o.name) from to (expanded f m (renamed_to o.name (moment_name o.name i) ∷ names))) a.0
-  same_from (since o f g) n m a names =
-      ap₂ (λ x y. since_form o (moment_name o.name (next_number n o.place)) (between_name o.name (next_number n o.place)) (present_name names o.name) x y)
+  same_from : (f : RawForm) (n : Numbers) (m : Place → ℕ) → Gives n m (operators f) → (names : Naming) → expanded_from f n names ≡ expanded f m names
+  same_from (raw_atom p r ts) n m a names = refl
+  same_from (raw_compare p l op r) n m a names = refl
+  same_from (raw_member p t point) n m a names = refl
+  same_from (raw_not p f) n m a names = ap (λ x. raw_not p x) (same_from f n m a names)
+  same_from (raw_and p fs) n m a names = ap (λ x. raw_and p x) (same_each fs n m a names)
+  same_from (raw_or p fs) n m a names = ap (λ x. raw_or p x) (same_each fs n m a names)
+  same_from (raw_implies p f g) n m a names = ap₂ (λ x y. raw_implies p x y) (same_from f n m (gives_left n m (operators f) (operators g) a) names) (same_from g (behind_all n (operators f)) m (gives_right n m (operators f) (operators g) a) names)
+  same_from (raw_group p f) n m a names = ap (λ x. raw_group p x) (same_from f n m a names)
+  same_from (raw_exists p c f) n m a names = ap (λ x. raw_exists p c x) (same_from f n m a (renamed_to c.name c.name ∷ names))
+  same_from (raw_forall p c f) n m a names = ap (λ x. raw_forall p c x) (same_from f n m a (renamed_to c.name c.name ∷ names))
+  same_from (raw_ranged word o from to f) n m a names =
+      ap (λ x. form_of_range word o (moment_name o.name (next_number n o.place)) (present_name names o.name) from to x) (same_from f (behind_one n o.place) m a.1 (renamed_to o.name (moment_name o.name (next_number n o.place)) ∷ names))
+      ∙ ap (λ i. form_of_range word o (moment_name o.name i) (present_name names o.name) from to (expanded f m (renamed_to o.name (moment_name o.name i) ∷ names))) a.0
+  same_from (raw_paired word o f g) n m a names =
+      ap₂ (λ x y. form_of_pair word o (moment_name o.name (next_number n o.place)) (between_name o.name (next_number n o.place)) (present_name names o.name) x y)
       (same_from f (behind_one n o.place) m (gives_left (behind_one n o.place) m (operators f) (operators g) a.1) (renamed_to o.name (between_name o.name (next_number n o.place)) ∷ names))
       (same_from g (behind_all (behind_one n o.place) (operators f)) m (gives_right (behind_one n o.place) m (operators f) (operators g) a.1) (renamed_to o.name (moment_name o.name (next_number n o.place)) ∷ names))
-      ∙ ap (λ i. since_form o (moment_name o.name i) (between_name o.name i) (present_name names o.name) (expanded f m (renamed_to o.name (between_name o.name i) ∷ names)) (expanded g m (renamed_to o.name (moment_name o.name i) ∷ names))) a.0
-  same_from (until o f g) n m a names =
-      ap₂ (λ x y. until_form o (moment_name o.name (next_number n o.place)) (between_name o.name (next_number n o.place)) (present_name names o.name) x y)
-      (same_from f (behind_one n o.place) m (gives_left (behind_one n o.place) m (operators f) (operators g) a.1) (renamed_to o.name (between_name o.name (next_number n o.place)) ∷ names))
-      (same_from g (behind_all (behind_one n o.place) (operators f)) m (gives_right (behind_one n o.place) m (operators f) (operators g) a.1) (renamed_to o.name (moment_name o.name (next_number n o.place)) ∷ names))
-      ∙ ap (λ i. until_form o (moment_name o.name i) (between_name o.name i) (present_name names o.name) (expanded f m (renamed_to o.name (between_name o.name i) ∷ names)) (expanded g m (renamed_to o.name (moment_name o.name i) ∷ names))) a.0
+      ∙ ap (λ i. form_of_pair word o (moment_name o.name i) (between_name o.name i) (present_name names o.name) (expanded f m (renamed_to o.name (between_name o.name i) ∷ names)) (expanded g m (renamed_to o.name (moment_name o.name i) ∷ names))) a.0
 
-  same_each : (fs : TenseForms) (n : Numbers) (m : Place → ℕ) → Gives n m (operators_each fs) → (names : Naming) → each_from fs n names ≡ expanded_each fs m names
-  same_each no_tenses n m a names = refl
-  same_each (tense f fs) n m a names =
+  same_each : (fs : RawForms) (n : Numbers) (m : Place → ℕ) → Gives n m (operators_each fs) → (names : Naming) → each_from fs n names ≡ expanded_each fs m names
+  same_each no_raws n m a names = refl
+  same_each (raw f fs) n m a names =
       ap₂ raw (same_from f n m (gives_left n m (operators f) (operators_each fs) a) names) (same_each fs (behind_all n (operators f)) m (gives_right n m (operators f) (operators_each fs) a) names)
 
 -- ---- by positions in order
@@ -68,7 +59,7 @@ gives_ranked : (xs : List ℕ) (ps : List Place) → Gives (ranked xs) (operator
 gives_ranked xs [] = tt
 gives_ranked xs (p ∷ ps) = (refl, gives_ranked xs ps)
 
-pub ranked_is : (f : TenseForm) (xs : List ℕ) → AreNumbers xs (operators f) → expanded_from f (ranked xs) [] ≡ expanded f (operator_number (operators f)) []
+pub ranked_is : (f : RawForm) (xs : List ℕ) → AreNumbers xs (operators f) → expanded_from f (ranked xs) [] ≡ expanded f (operator_number (operators f)) []
 ranked_is f xs h = same_from f (ranked xs) (operator_number_in xs) (gives_ranked xs (operators f)) [] ∙ expansion_same xs f h []
 
 -- ---- as they are met
@@ -124,7 +115,7 @@ module _ (xs : List ℕ) (rises : IsStrictlyIncreasing xs) where
         gives_met (before ++ p ∷ []) ps (e ∙ ap (map position_of) (sym (append_assoc before (p ∷ []) ps))),
       )
 
-pub along_is : (f : TenseForm) (xs : List ℕ) → ArePositions xs (operators f) → IsStrictlyIncreasing xs → expanded_from f (met []) [] ≡ expanded f (operator_number (operators f)) []
+pub along_is : (f : RawForm) (xs : List ℕ) → ArePositions xs (operators f) → IsStrictlyIncreasing xs → expanded_from f (met []) [] ≡ expanded f (operator_number (operators f)) []
 along_is f xs h rises =
     same_from f (met []) (operator_number_in xs) (gives_met xs rises [] (operators f) h.same) []
     ∙ expansion_same xs f (record { same = subst (IsPermutation (map position_of (operators f))) (sym h.same) (IsPermutation-refl (map position_of (operators f))); order = never_falls xs rises; small = h.small; few = h.few }) []

@@ -10,8 +10,10 @@ use Rattle.lrp_model.specs.declared.tokens.Place.{Place}
 use Rattle.lrp_model.specs.declared.relations.Sort.{Sort}
 use Rattle.lrp_model.specs.declared.relations.Sort.TheVariants.{Time, Data, Named}
 use Rattle.lrp_model.specs.declared.raw.RawColumn.{RawColumn}
+use Rattle.lrp_model.specs.declared.raw.Ranged.TheVariants.{Once, Always}
+use Rattle.lrp_model.specs.declared.raw.Paired.TheVariants.{Since, Until}
 use Rattle.lrp_model.proofs.Logic.{same}
-use Rattle.lrp_tense.specs.Trees.{Operator, TenseForm, TenseForms, TenseQuestion, tense_atom, tense_compare, tense_member, tense_not, tense_and, tense_or, tense_implies, tense_group, tense_exists, tense_forall, once, always, since, until, no_tenses, tense}
+use Rattle.lrp_model.specs.RawQueries.{Operator, RawForm, RawForms, RawQuestion, raw_atom, raw_compare, raw_member, raw_not, raw_and, raw_or, raw_implies, raw_group, raw_exists, raw_forall, raw_ranged, raw_paired, no_raws, raw}
 use Rattle.lrp_tense.specs.Meaning.{operator_variable, TenseSatisfies, TenseSatisfiesAll, TenseSatisfiesSome}
 use Rattle.lrp_tense.specs.Expanding.{operators, operators_each, Naming, present_name, renamed, renamed_to, IsPlain, moment_of, between_of, time_binder, name_term, expanded, expanded_each, expanded_question, operator_number, HasPlainNames, HavePlainNames, IsExpandable}
 use Rattle.lrp_tense.specs.Laws.{KeepsMeaning}
@@ -84,28 +86,28 @@ module _ (o : Operator) (number : Place → ℕ) (names : Naming) (bs cs : Binde
 -- ---- formulas
 
 mutual
-  pub same_meaning : (f : TenseForm) (number : Place → ℕ) (names : Naming) (bs cs : Binders) (M : Structure) (env other : Assignment)
+  pub same_meaning : (f : RawForm) (number : Place → ℕ) (names : Naming) (bs cs : Binders) (M : Structure) (env other : Assignment)
       → HasPlainNames f → AreNumbered number (operators f) → IsApart names number (operators f) → IsTimely (expanded f number names) cs → Follows names bs cs env other
       → TenseSatisfies f bs M env ↔ Satisfies (plain (expanded f number names) cs) M other
-  same_meaning (tense_atom p name ts) number names bs cs M env other hp n v t h =
+  same_meaning (raw_atom p name ts) number names bs cs M env other hp n v t h =
       by_equal (λ values. Holds M.relations name values) (map (term_value env) (map (term_of bs) ts)) (map (term_value other) (map (term_of cs) (map (renamed names) ts))) (same_terms names bs cs env other h ts hp t)
-  same_meaning (tense_compare p l op r) number names bs cs M env other hp n v t h = same_compare names bs cs env other h op p l r hp.0 hp.1 t
-  same_meaning (tense_member p term point) number names bs cs M env other hp n v t h = same_member names bs cs env other h term point hp t.0 t.1
-  same_meaning (tense_not p f) number names bs cs M env other hp n v t h = not_iff (same_meaning f number names bs cs M env other hp n v t h)
-  same_meaning (tense_and p fs) number names bs cs M env other hp n v t h = same_all fs number names bs cs M env other hp n v t h
-  same_meaning (tense_or p fs) number names bs cs M env other hp n v t h = same_some fs number names bs cs M env other hp n v t h
-  same_meaning (tense_implies p f g) number names bs cs M env other hp n v t h =
+  same_meaning (raw_compare p l op r) number names bs cs M env other hp n v t h = same_compare names bs cs env other h op p l r hp.0 hp.1 t
+  same_meaning (raw_member p term point) number names bs cs M env other hp n v t h = same_member names bs cs env other h term point hp t.0 t.1
+  same_meaning (raw_not p f) number names bs cs M env other hp n v t h = not_iff (same_meaning f number names bs cs M env other hp n v t h)
+  same_meaning (raw_and p fs) number names bs cs M env other hp n v t h = same_all fs number names bs cs M env other hp n v t h
+  same_meaning (raw_or p fs) number names bs cs M env other hp n v t h = same_some fs number names bs cs M env other hp n v t h
+  same_meaning (raw_implies p f g) number names bs cs M env other hp n v t h =
       let m = numbered_parts number (operators f) (operators g) n in
       imply_iff (same_meaning f number names bs cs M env other hp.0 m.0 (apart_left names number (operators f) (operators g) v) t.0 h)
       (same_meaning g number names bs cs M env other hp.1 m.1 (apart_right names number (operators f) (operators g) v) t.1 h)
-  same_meaning (tense_group p f) number names bs cs M env other hp n v t h = same_meaning f number names bs cs M env other hp n v t h
-  same_meaning (tense_exists p c f) number names bs cs M env other hp n v t h =
+  same_meaning (raw_group p f) number names bs cs M env other hp n v t h = same_meaning f number names bs cs M env other hp n v t h
+  same_meaning (raw_exists p c f) number names bs cs M env other hp n v t h =
       some_iff (λ d o. same_meaning f number (renamed_to c.name c.name ∷ names) (c ∷ bs) (c ∷ cs) M (with_value c.name d env) (with_value c.name d other) hp.1 n (apart_binder names number (operators f) c.name hp.0 v) t
       (followed names bs cs env other number (operators f) c M hp.0 v h c.sort refl d o))
-  same_meaning (tense_forall p c f) number names bs cs M env other hp n v t h =
+  same_meaning (raw_forall p c f) number names bs cs M env other hp n v t h =
       each_iff (λ d o. same_meaning f number (renamed_to c.name c.name ∷ names) (c ∷ bs) (c ∷ cs) M (with_value c.name d env) (with_value c.name d other) hp.1 n (apart_binder names number (operators f) c.name hp.0 v) t
       (followed names bs cs env other number (operators f) c M hp.0 v h c.sort refl d o))
-  same_meaning (once o from to f) number names bs cs M env other hp n v t h =
+  same_meaning (raw_ranged Once o from to f) number names bs cs M env other hp n v t h =
       let k : is_for_texts bs o.name ≡ false = times_by_end o number names bs cs env other (operators f) hp.0 n v h o.name_place t.0.1.0 in
       some_time M (λ x.
       let a = at_moment o number names bs cs env other (operators f) hp.0 n v h k x in
@@ -113,7 +115,7 @@ mutual
       three_iff (le_iff _ _ _ _ (plus_end _ _ from b) (plus_zero _ _ a)) (le_iff _ _ _ _ (plus_zero _ _ a) (plus_end _ _ to b))
       (same_meaning f number (renamed_to o.name (moment_of number o) ∷ names) (operator_variable o ∷ bs) (time_binder o.place (moment_of number o) ∷ cs) M (with_value o.name (time x) env) (with_value (moment_of number o) (time x) other)
       hp.1 n.1.1 (apart_moment names number o.place (operators f) o.name hp.0 n v) t.1.1.0 (moment_followed o number names bs cs env other (operators f) hp.0 n v h k x)))
-  same_meaning (always o from to f) number names bs cs M env other hp n v t h =
+  same_meaning (raw_ranged Always o from to f) number names bs cs M env other hp n v t h =
       let k : is_for_texts bs o.name ≡ false = times_by_end o number names bs cs env other (operators f) hp.0 n v h o.name_place t.0.0.1.0 in
       each_time M (λ x.
       let a = at_moment o number names bs cs env other (operators f) hp.0 n v h k x in
@@ -121,7 +123,7 @@ mutual
       imply_iff (two_iff (le_iff _ _ _ _ (plus_end _ _ from b) (plus_zero _ _ a)) (le_iff _ _ _ _ (plus_zero _ _ a) (plus_end _ _ to b)))
       (same_meaning f number (renamed_to o.name (moment_of number o) ∷ names) (operator_variable o ∷ bs) (time_binder o.place (moment_of number o) ∷ cs) M (with_value o.name (time x) env) (with_value (moment_of number o) (time x) other)
       hp.1 n.1.1 (apart_moment names number o.place (operators f) o.name hp.0 n v) t.1 (moment_followed o number names bs cs env other (operators f) hp.0 n v h k x)))
-  same_meaning (since o f g) number names bs cs M env other hp n v t h =
+  same_meaning (raw_paired Since o f g) number names bs cs M env other hp n v t h =
       let m = numbered_parts number (operators f) (operators g) n.1.1 in
       let k : is_for_texts bs o.name ≡ false = times_by_side o number names bs cs env other (operators f ++ operators g) hp.0 n v h (are_times (time_binder o.place (moment_of number o) ∷ cs) (name_term o.place (moment_of number o)) (name_term o.name_place (present_name names o.name)) t.0.1.1).1 in
       some_time M (λ x.
@@ -139,7 +141,7 @@ mutual
       (same_meaning f number (renamed_to o.name (between_of number o) ∷ names) (operator_variable o ∷ bs) (time_binder o.place (between_of number o) ∷ time_binder o.place (moment_of number o) ∷ cs) M (with_value o.name (time y) env) (with_value (between_of number o) (time y) (with_value (moment_of number o) (time x) other))
       hp.1 m.0 (apart_left (renamed_to o.name (between_of number o) ∷ names) number (operators f) (operators g) (apart_between names number o.place (operators f ++ operators g) o.name hp.0 n v)) t.1.1.0.1
       (between_followed o number names bs cs env other (operators f ++ operators g) hp.0 n v h k x y)))))
-  same_meaning (until o f g) number names bs cs M env other hp n v t h =
+  same_meaning (raw_paired Until o f g) number names bs cs M env other hp n v t h =
       let m = numbered_parts number (operators f) (operators g) n.1.1 in
       let k : is_for_texts bs o.name ≡ false = times_by_side o number names bs cs env other (operators f ++ operators g) hp.0 n v h (are_times (time_binder o.place (moment_of number o) ∷ cs) (name_term o.place (moment_of number o)) (name_term o.name_place (present_name names o.name)) t.0.1.1).1 in
       some_time M (λ x.
@@ -158,20 +160,20 @@ mutual
       hp.1 m.0 (apart_left (renamed_to o.name (between_of number o) ∷ names) number (operators f) (operators g) (apart_between names number o.place (operators f ++ operators g) o.name hp.0 n v)) t.1.1.0.1
       (between_followed o number names bs cs env other (operators f ++ operators g) hp.0 n v h k x y)))))
 
-  same_all : (fs : TenseForms) (number : Place → ℕ) (names : Naming) (bs cs : Binders) (M : Structure) (env other : Assignment)
+  same_all : (fs : RawForms) (number : Place → ℕ) (names : Naming) (bs cs : Binders) (M : Structure) (env other : Assignment)
       → HavePlainNames fs → AreNumbered number (operators_each fs) → IsApart names number (operators_each fs) → AreTimely (expanded_each fs number names) cs → Follows names bs cs env other
       → TenseSatisfiesAll fs bs M env ↔ SatisfiesAll (plain_each (expanded_each fs number names) cs) M other
-  same_all no_tenses number names bs cs M env other hp n v t h = same
-  same_all (tense f fs) number names bs cs M env other hp n v t h =
+  same_all no_raws number names bs cs M env other hp n v t h = same
+  same_all (raw f fs) number names bs cs M env other hp n v t h =
       let m = numbered_parts number (operators f) (operators_each fs) n in
       both_iff (same_meaning f number names bs cs M env other hp.0 m.0 (apart_left names number (operators f) (operators_each fs) v) t.0 h)
       (same_all fs number names bs cs M env other hp.1 m.1 (apart_right names number (operators f) (operators_each fs) v) t.1 h)
 
-  same_some : (fs : TenseForms) (number : Place → ℕ) (names : Naming) (bs cs : Binders) (M : Structure) (env other : Assignment)
+  same_some : (fs : RawForms) (number : Place → ℕ) (names : Naming) (bs cs : Binders) (M : Structure) (env other : Assignment)
       → HavePlainNames fs → AreNumbered number (operators_each fs) → IsApart names number (operators_each fs) → AreTimely (expanded_each fs number names) cs → Follows names bs cs env other
       → TenseSatisfiesSome fs bs M env ↔ SatisfiesSome (plain_each (expanded_each fs number names) cs) M other
-  same_some no_tenses number names bs cs M env other hp n v t h = same
-  same_some (tense f fs) number names bs cs M env other hp n v t h =
+  same_some no_raws number names bs cs M env other hp n v t h = same
+  same_some (raw f fs) number names bs cs M env other hp n v t h =
       let m = numbered_parts number (operators f) (operators_each fs) n in
       either_iff (same_meaning f number names bs cs M env other hp.0 m.0 (apart_left names number (operators f) (operators_each fs) v) t.0 h)
       (same_some fs number names bs cs M env other hp.1 m.1 (apart_right names number (operators f) (operators_each fs) v) t.1 h)
@@ -182,6 +184,6 @@ mutual
 itself : (bs : Binders) (env : Assignment) → Follows [] bs bs env env
 itself bs env = record { sorts = λ w p. refl; times = λ w p e. refl; texts = λ w p e. refl }
 
-pub kept_meaning : (q : TenseQuestion) → IsExpandable q → length (operators q.body) < 2 ^ 64 → KeepsMeaning q (expanded_question q)
+pub kept_meaning : (q : RawQuestion) → IsExpandable q → length (operators q.body) < 2 ^ 64 → KeepsMeaning q (expanded_question q)
 kept_meaning q h small db well M env =
     same_meaning q.body (operator_number (operators q.body)) [] (reverse q.head) (reverse q.head) M env env h.names (are_numbered (operators q.body) small h.places) (nothing_apart (operator_number (operators q.body)) (operators q.body)) (timely_body db (expanded_question q) well) (itself (reverse q.head) env)

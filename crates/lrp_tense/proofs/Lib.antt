@@ -6,12 +6,7 @@ mod Terms
 mod Iff
 mod Law
 mod Unchanged
-pub mod TenseGrammar
-pub mod Operators
-pub mod TenseReader
-pub mod TenseMeant
-pub mod TenseTexts
-pub mod TenseViews
+mod NoOperators
 pub mod TokenPlaces
 pub mod LawfulTense
 pub mod WithoutOperators

@@ -7,14 +7,11 @@ use Rattle.std.proofs.lemmas.Bool.{ltb-true, ltb-false, lt-ltb, le-ltb}
 use Rattle.std.proofs.lemmas.List.Sums.{length-filter, sum_by-cons}
 use Rattle.std.proofs.lemmas.List.Sorted.{sum_by-IsPermutation}
 use Rattle.lrp_model.specs.declared.tokens.Place.{Place}
-use Rattle.lrp_tense.specs.Trees.{TenseForm, TenseForms, tense_atom, tense_compare, tense_member, tense_not, tense_and, tense_or, tense_implies, tense_group, tense_exists, tense_forall, once, always, since, until, no_tenses, tense}
-use Rattle.lrp_tense.specs.Expanding.{is_before, operator_number, operators, operators_each, Naming, renamed_to, expanded, expanded_each, once_form, always_form, since_form, until_form, present_name, moment_name, between_name, moment_of, between_of}
-use Rattle.lrp_model.specs.RawQueries.{raw_not, raw_and, raw_or, raw_implies, raw_group, raw_exists, raw_forall, raw}
-use Rattle.lrp_model.specs.RawQueries.{RawForm, raw_form_of, raw_question_of}
+use Rattle.lrp_model.specs.RawQueries.{RawForm, RawForms, raw_atom, raw_compare, raw_member, raw_not, raw_and, raw_or, raw_implies, raw_group, raw_exists, raw_forall, raw_ranged, raw_paired, no_raws, raw, raw_form_of, raw_question_of}
+use Rattle.lrp_tense.specs.Expanding.{is_before, operator_number, operators, operators_each, Naming, renamed_to, expanded, expanded_each, form_of_range, form_of_pair, present_name, moment_name, between_name, moment_of, between_of}
 use Rattle.lrp_model.specs.declared.raw.RawColumn.{RawColumn}
 use Rattle.lrp_model.specs.declared.raw.RawQuery.{RawQuery}
-use Rattle.lrp_tense.specs.declared.tree.TenseQuery.{TenseQuery}
-use Rattle.lrp_tense.specs.Trees.{tense_form_of, tense_question_of}
+use Rattle.lrp_model.specs.declared.raw.RawQuery.{RawQuery}
 use Rattle.lrp_tense.specs.Expanding.{expanded_question}
 use Rattle.lrp_tense.specs.Counting.{position_of, operator_number_in, HasSmallColumn, AreNumbers}
 use Rattle.lrp_tense.proofs.Numbering.{IsEarlier, earlier, before, trichotomy}
@@ -113,43 +110,37 @@ agree_right n m [] ys a = a
 agree_right n m (x ∷ xs) ys a = agree_right n m xs ys a.1
 
 mutual
-  same_expansion : (f : TenseForm) (n m : Place → ℕ) → Agree n m (operators f) → (names : Naming) → expanded f n names ≡ expanded f m names
-  same_expansion (tense_atom p r ts) n m a names = refl
-  same_expansion (tense_compare p l op r) n m a names = refl
-  same_expansion (tense_member p t point) n m a names = refl
-  same_expansion (tense_not p f) n m a names = ap (λ x. raw_not p x) (same_expansion f n m a names)
-  same_expansion (tense_and p fs) n m a names = ap (λ x. raw_and p x) (same_expansions fs n m a names)
-  same_expansion (tense_or p fs) n m a names = ap (λ x. raw_or p x) (same_expansions fs n m a names)
-  same_expansion (tense_implies p f g) n m a names = ap₂ (λ x y. raw_implies p x y) (same_expansion f n m (agree_left n m (operators f) (operators g) a) names) (same_expansion g n m (agree_right n m (operators f) (operators g) a) names)
-  same_expansion (tense_group p f) n m a names = ap (λ x. raw_group p x) (same_expansion f n m a names)
-  same_expansion (tense_exists p c f) n m a names = ap (λ x. raw_exists p c x) (same_expansion f n m a (renamed_to c.name c.name ∷ names))
-  same_expansion (tense_forall p c f) n m a names = ap (λ x. raw_forall p c x) (same_expansion f n m a (renamed_to c.name c.name ∷ names))
-  same_expansion (once o from to f) n m a names =
-      ap₂ (λ i x. once_form o (moment_name o.name i) (present_name names o.name) from to x) a.0 (same_expansion f n m a.1 (renamed_to o.name (moment_of n o) ∷ names))
-      ∙ ap (λ i. once_form o (moment_of m o) (present_name names o.name) from to (expanded f m (renamed_to o.name (moment_name o.name i) ∷ names))) a.0
-  same_expansion (always o from to f) n m a names =
-      ap₂ (λ i x. always_form o (moment_name o.name i) (present_name names o.name) from to x) a.0 (same_expansion f n m a.1 (renamed_to o.name (moment_of n o) ∷ names))
-      ∙ ap (λ i. always_form o (moment_of m o) (present_name names o.name) from to (expanded f m (renamed_to o.name (moment_name o.name i) ∷ names))) a.0
-  same_expansion (since o f g) n m a names =
-      ap₂ (λ x y. since_form o (moment_of n o) (between_of n o) (present_name names o.name) x y) (same_expansion f n m (agree_left n m (operators f) (operators g) a.1) (renamed_to o.name (between_of n o) ∷ names)) (same_expansion g n m (agree_right n m (operators f) (operators g) a.1) (renamed_to o.name (moment_of n o) ∷ names))
-      ∙ ap (λ i. since_form o (moment_name o.name i) (between_name o.name i) (present_name names o.name) (expanded f m (renamed_to o.name (between_name o.name i) ∷ names)) (expanded g m (renamed_to o.name (moment_name o.name i) ∷ names))) a.0
-  same_expansion (until o f g) n m a names =
-      ap₂ (λ x y. until_form o (moment_of n o) (between_of n o) (present_name names o.name) x y) (same_expansion f n m (agree_left n m (operators f) (operators g) a.1) (renamed_to o.name (between_of n o) ∷ names)) (same_expansion g n m (agree_right n m (operators f) (operators g) a.1) (renamed_to o.name (moment_of n o) ∷ names))
-      ∙ ap (λ i. until_form o (moment_name o.name i) (between_name o.name i) (present_name names o.name) (expanded f m (renamed_to o.name (between_name o.name i) ∷ names)) (expanded g m (renamed_to o.name (moment_name o.name i) ∷ names))) a.0
+  same_expansion : (f : RawForm) (n m : Place → ℕ) → Agree n m (operators f) → (names : Naming) → expanded f n names ≡ expanded f m names
+  same_expansion (raw_atom p r ts) n m a names = refl
+  same_expansion (raw_compare p l op r) n m a names = refl
+  same_expansion (raw_member p t point) n m a names = refl
+  same_expansion (raw_not p f) n m a names = ap (λ x. raw_not p x) (same_expansion f n m a names)
+  same_expansion (raw_and p fs) n m a names = ap (λ x. raw_and p x) (same_expansions fs n m a names)
+  same_expansion (raw_or p fs) n m a names = ap (λ x. raw_or p x) (same_expansions fs n m a names)
+  same_expansion (raw_implies p f g) n m a names = ap₂ (λ x y. raw_implies p x y) (same_expansion f n m (agree_left n m (operators f) (operators g) a) names) (same_expansion g n m (agree_right n m (operators f) (operators g) a) names)
+  same_expansion (raw_group p f) n m a names = ap (λ x. raw_group p x) (same_expansion f n m a names)
+  same_expansion (raw_exists p c f) n m a names = ap (λ x. raw_exists p c x) (same_expansion f n m a (renamed_to c.name c.name ∷ names))
+  same_expansion (raw_forall p c f) n m a names = ap (λ x. raw_forall p c x) (same_expansion f n m a (renamed_to c.name c.name ∷ names))
+  same_expansion (raw_ranged word o from to f) n m a names =
+      ap₂ (λ i x. form_of_range word o (moment_name o.name i) (present_name names o.name) from to x) a.0 (same_expansion f n m a.1 (renamed_to o.name (moment_of n o) ∷ names))
+      ∙ ap (λ i. form_of_range word o (moment_of m o) (present_name names o.name) from to (expanded f m (renamed_to o.name (moment_name o.name i) ∷ names))) a.0
+  same_expansion (raw_paired word o f g) n m a names =
+      ap₂ (λ x y. form_of_pair word o (moment_of n o) (between_of n o) (present_name names o.name) x y) (same_expansion f n m (agree_left n m (operators f) (operators g) a.1) (renamed_to o.name (between_of n o) ∷ names)) (same_expansion g n m (agree_right n m (operators f) (operators g) a.1) (renamed_to o.name (moment_of n o) ∷ names))
+      ∙ ap (λ i. form_of_pair word o (moment_name o.name i) (between_name o.name i) (present_name names o.name) (expanded f m (renamed_to o.name (between_name o.name i) ∷ names)) (expanded g m (renamed_to o.name (moment_name o.name i) ∷ names))) a.0
 
-  same_expansions : (fs : TenseForms) (n m : Place → ℕ) → Agree n m (operators_each fs) → (names : Naming) → expanded_each fs n names ≡ expanded_each fs m names
-  same_expansions no_tenses n m a names = refl
-  same_expansions (tense f fs) n m a names = ap₂ raw (same_expansion f n m (agree_left n m (operators f) (operators_each fs) a) names) (same_expansions fs n m (agree_right n m (operators f) (operators_each fs) a) names)
+  same_expansions : (fs : RawForms) (n m : Place → ℕ) → Agree n m (operators_each fs) → (names : Naming) → expanded_each fs n names ≡ expanded_each fs m names
+  same_expansions no_raws n m a names = refl
+  same_expansions (raw f fs) n m a names = ap₂ raw (same_expansion f n m (agree_left n m (operators f) (operators_each fs) a) names) (same_expansions fs n m (agree_right n m (operators f) (operators_each fs) a) names)
 
 -- the numbers by positions are those by places, at the places themselves
 all_agree : (positions : List ℕ) (places ps : List Place) → AreNumbers positions places → AllByRecursion HasSmallColumn ps → Agree (operator_number_in positions) (operator_number places) ps
 all_agree positions places [] n s = tt
 all_agree positions places (p ∷ ps) n s = (number_same positions places n p s.0, all_agree positions places ps n s.1)
 
-pub expansion_same : (positions : List ℕ) (f : TenseForm) → AreNumbers positions (operators f) → (names : Naming) → expanded f (operator_number_in positions) names ≡ expanded f (operator_number (operators f)) names
+pub expansion_same : (positions : List ℕ) (f : RawForm) → AreNumbers positions (operators f) → (names : Naming) → expanded f (operator_number_in positions) names ≡ expanded f (operator_number (operators f)) names
 expansion_same positions f n names = same_expansion f (operator_number_in positions) (operator_number (operators f)) (all_agree positions (operators f) (operators f) n n.small) names
 
 -- ---- a whole query
 
-pub expanded_query : (q : TenseQuery) (r : RawQuery) → r.head ≡ q.head → raw_form_of r.body ≡ expanded (tense_form_of q.body) (operator_number (operators (tense_form_of q.body))) [] → raw_question_of r ≡ expanded_question (tense_question_of q)
+pub expanded_query : (q : RawQuery) (r : RawQuery) → r.head ≡ q.head → raw_form_of r.body ≡ expanded (raw_form_of q.body) (operator_number (operators (raw_form_of q.body))) [] → raw_question_of r ≡ expanded_question (raw_question_of q)
 expanded_query q r h b = ap₂ (λ (head : List RawColumn) (body : RawForm). record { head = head; body = body }) h b

@@ -9,7 +9,7 @@ use Rattle.lrp_model.specs.Satisfaction.{Assignment, with_value}
 use Rattle.lrp_model.specs.Sorting.{Binders, binder_sort, alone_sort, is_data_term}
 use Rattle.lrp_model.specs.declared.tokens.Place.{Place}
 use Rattle.lrp_model.specs.declared.raw.RawColumn.{RawColumn}
-use Rattle.lrp_model.proofs.Logic.{all_append}
+use Rattle.lrp_model.proofs.Logic.{all_append, choose}
 use Rattle.lrp_tense.specs.Expanding.{Naming, present_name, renamed_to, IsPlain, moment_name, between_name}
 use Rattle.lrp_tense.proofs.FreshNames.{moment_not_plain, between_not_plain, moments_differ, betweens_differ, moment_not_between, between_not_moment}
 
@@ -24,14 +24,6 @@ is_false false h = refl
 
 pub other_name : (v w : Identifier) → v ≢ w → bytes_eq v w ≡ false
 other_name v w n = is_false (bytes_eq v w) (λ e. n ((bytes_decides v w).0 e))
-
--- what holds of either branch holds of the choice between two names
-pub choose : {A : Type 0} (P : A → Type 0) (v w : Identifier) (x y : A) → (v ≡ w → P x) → (v ≢ w → P y) → P (cond (bytes_eq v w) x y)
-choose {A} P v w x y f g = at_test (bytes_eq v w) refl
-  where
-    at_test : (b : Bool) → bytes_eq v w ≡ b → P (cond b x y)
-    at_test true e = f ((bytes_decides v w).0 e)
-    at_test false e = g (λ same. let t : bytes_eq v w ≡ true = (bytes_decides v w).1 same in cc)
 
 -- ---- numbers of operators
 

@@ -5,7 +5,8 @@ use Rattle.std.specs.List.{AllByRecursion}
 use Rattle.lrp_model.specs.Rows.{time, text}
 use Rattle.lrp_model.specs.Satisfaction.{Assignment, Compares, Passes, time_value, text_value, term_value}
 use Rattle.lrp_model.specs.Sorting.{Binders, binder_sort, alone_sort, shifted_sort, kind_sort, term_sort, is_data_term, variable_faults, kind_faults, term_faults, time_faults}
-use Rattle.lrp_model.specs.Checked.{time_of, data_of, term_of, is_equality, compare_of}
+use Rattle.lrp_model.specs.Checked.{term_of, compare_of}
+use Rattle.lrp_model.specs.RawTerms.{time_of, data_of, is_equality}
 use Rattle.lrp_model.specs.RawQueries.{raw_compare}
 use Rattle.lrp_model.specs.declared.tokens.Place.{Place}
 use Rattle.lrp_model.specs.declared.relations.RowPoint.{RowPoint}

@@ -3,9 +3,9 @@ use Rattle.std.proofs.Common.{◌≡◌, Bool, true, false, ◌&&◌, List, [], 
 use Rattle.std.specs.Prelude.{reverse}
 use Rattle.lrp_model.specs.Sorts.{is_data}
 use Rattle.lrp_model.specs.Faults.{ninth}
-use Rattle.lrp_model.specs.RawQueries.{RawForm, RawForms, RawQuestion, raw_atom, raw_compare, raw_member, raw_not, raw_and, raw_or, raw_implies, raw_group, raw_exists, raw_forall, no_raws, raw}
+use Rattle.lrp_model.specs.RawQueries.{RawForm, RawForms, RawQuestion, raw_atom, raw_compare, raw_member, raw_not, raw_and, raw_or, raw_implies, raw_group, raw_exists, raw_forall, raw_ranged, raw_paired, no_raws, raw}
 use Rattle.lrp_model.specs.Sorting.{Binders, alone_sort, term_sort, is_data_term, unlike, variable_faults, term_faults, time_faults, compare_faults, head_faults, widened, form_faults, forms_faults, query_fault, IsWellSorted}
-use Rattle.lrp_model.specs.Checked.{is_equality}
+use Rattle.lrp_model.specs.RawTerms.{is_equality}
 use Rattle.lrp_model.specs.declared.tokens.Place.{Place}
 use Rattle.lrp_model.specs.declared.relations.Sort.{Sort}
 use Rattle.lrp_model.specs.declared.relations.Relation.{Relation}
@@ -28,6 +28,8 @@ abbrev mutual
   IsTimely (raw_group p f) bs = IsTimely f bs
   IsTimely (raw_exists p c f) bs = IsTimely f (c ∷ bs)
   IsTimely (raw_forall p c f) bs = IsTimely f (c ∷ bs)
+  IsTimely (raw_ranged word o from to f) bs = IsTimely f bs
+  IsTimely (raw_paired word o f g) bs = IsTimely g bs
 
   pub AreTimely : RawForms → Binders → Type 0
   AreTimely no_raws bs = Unit {0}
@@ -52,6 +54,8 @@ mutual
       timely f db (c ∷ bs) (not_wide_inside db bs c f (form_faults f db (c ∷ bs)) e).1
   timely (raw_forall p c f) db bs e =
       timely f db (c ∷ bs) (not_wide_inside db bs c f (form_faults f db (c ∷ bs)) e).1
+  timely (raw_ranged word o from to f) db bs e = timely f db bs (not_wide bs [] f (form_faults f db bs) e).1
+  timely (raw_paired word o f g) db bs e = timely g db bs (not_wide bs [] g (form_faults g db bs) e).1
 
   pub timely_each : (fs : RawForms) (db : List Relation) (bs : Binders) → forms_faults fs db bs ≡ [] → AreTimely fs bs
   timely_each no_raws db bs e = tt

@@ -4,40 +4,41 @@ use Rattle.std.specs.List.{AllByRecursion}
 use Rattle.std.specs.Str.{bytes_eq}
 use Rattle.std.specs.Fmt.{decimal}
 use Rattle.lrp_model.specs.Texts.{Identifier}
-use Rattle.lrp_model.specs.RawQueries.{RawForm, RawForms, RawQuestion, raw_atom, raw_compare, raw_member, raw_not, raw_and, raw_or, raw_implies, raw_group, raw_exists, raw_forall, no_raws, raw}
+use Rattle.lrp_model.specs.RawQueries.{RawForm, RawForms, RawQuestion, raw_atom, raw_compare, raw_member, raw_not, raw_and, raw_or, raw_implies, raw_group, raw_exists, raw_forall, no_raws, raw, Operator, raw_ranged, raw_paired}
 use Rattle.lrp_model.specs.declared.tokens.Place.{Place}
 use Rattle.lrp_model.specs.declared.relations.Sort.TheVariants.{Time}
 use Rattle.lrp_model.specs.declared.formulas.Op.{Op}
 use Rattle.lrp_model.specs.declared.formulas.Op.TheVariants.{Le, Lt, Ge, Gt}
+use Rattle.lrp_model.specs.declared.raw.Ranged.{Ranged}
+use Rattle.lrp_model.specs.declared.raw.Ranged.TheVariants.{Once, Always}
+use Rattle.lrp_model.specs.declared.raw.Paired.{Paired}
+use Rattle.lrp_model.specs.declared.raw.Paired.TheVariants.{Since, Until}
 use Rattle.lrp_model.specs.declared.raw.RawColumn.{RawColumn}
 use Rattle.lrp_model.specs.declared.raw.RawTerm.{RawTerm}
 use Rattle.lrp_model.specs.declared.raw.RawTermKind.{RawTermKind}
 use Rattle.lrp_model.specs.declared.raw.RawTermKind.TheVariants.{Int, Text, Var, Shifted}
-use Rattle.lrp_tense.specs.Trees.{Operator, TenseForm, TenseForms, TenseQuestion, tense_atom, tense_compare, tense_member, tense_not, tense_and, tense_or, tense_implies, tense_group, tense_exists, tense_forall, once, always, since, until, no_tenses, tense}
 
 -- ---- operators and their numbers
 
 -- the places of the operators of a formula
 abbrev mutual
-  pub operators : TenseForm → List Place
-  operators (tense_atom p n ts) = []
-  operators (tense_compare p l op r) = []
-  operators (tense_member p t point) = []
-  operators (tense_not p f) = operators f
-  operators (tense_and p fs) = operators_each fs
-  operators (tense_or p fs) = operators_each fs
-  operators (tense_implies p f g) = operators f ++ operators g
-  operators (tense_group p f) = operators f
-  operators (tense_exists p c f) = operators f
-  operators (tense_forall p c f) = operators f
-  operators (once o from to f) = o.place ∷ operators f
-  operators (always o from to f) = o.place ∷ operators f
-  operators (since o f g) = o.place ∷ (operators f ++ operators g)
-  operators (until o f g) = o.place ∷ (operators f ++ operators g)
+  pub operators : RawForm → List Place
+  operators (raw_atom p n ts) = []
+  operators (raw_compare p l op r) = []
+  operators (raw_member p t point) = []
+  operators (raw_not p f) = operators f
+  operators (raw_and p fs) = operators_each fs
+  operators (raw_or p fs) = operators_each fs
+  operators (raw_implies p f g) = operators f ++ operators g
+  operators (raw_group p f) = operators f
+  operators (raw_exists p c f) = operators f
+  operators (raw_forall p c f) = operators f
+  operators (raw_ranged word o from to f) = o.place ∷ operators f
+  operators (raw_paired word o f g) = o.place ∷ (operators f ++ operators g)
 
-  pub operators_each : TenseForms → List Place
-  operators_each no_tenses = []
-  operators_each (tense f fs) = operators f ++ operators_each fs
+  pub operators_each : RawForms → List Place
+  operators_each no_raws = []
+  operators_each (raw f fs) = operators f ++ operators_each fs
 
 -- the first place stands before the second
 abbrev pub is_before : Place → Place → Bool
@@ -132,6 +133,15 @@ since_form o x y v f g = raw_exists o.place (time_binder o.place x) (all_three o
 abbrev pub until_form : Operator → Identifier → Identifier → Identifier → RawForm → RawForm → RawForm
 until_form o x y v f g = raw_exists o.place (time_binder o.place x) (all_three o.place (beside o x Ge v) g (between_form o y (beside o y Ge v) (beside_moment o y Lt x) f))
 
+-- what an operator with an interval stands for, and one over two formulas
+abbrev pub form_of_range : Ranged → Operator → Identifier → Identifier → ℤ → ℤ → RawForm → RawForm
+form_of_range Once = once_form
+form_of_range Always = always_form
+
+abbrev pub form_of_pair : Paired → Operator → Identifier → Identifier → Identifier → RawForm → RawForm → RawForm
+form_of_pair Since = since_form
+form_of_pair Until = until_form
+
 -- ---- the expanded formula
 
 -- the name that the operator brings for its moment, and the one for each moment between, by the operator's number
@@ -142,32 +152,28 @@ abbrev pub between_of : (Place → ℕ) → Operator → Identifier
 between_of number o = between_name o.name (number o.place)
 
 abbrev mutual
-  pub expanded : TenseForm → (Place → ℕ) → Naming → RawForm
-  expanded (tense_atom p n ts) number names = raw_atom p n (map (renamed names) ts)
-  expanded (tense_compare p l op r) number names = raw_compare p (renamed names l) op (renamed names r)
-  expanded (tense_member p t point) number names = raw_member p (renamed names t) point
-  expanded (tense_not p f) number names = raw_not p (expanded f number names)
-  expanded (tense_and p fs) number names = raw_and p (expanded_each fs number names)
-  expanded (tense_or p fs) number names = raw_or p (expanded_each fs number names)
-  expanded (tense_implies p f g) number names = raw_implies p (expanded f number names) (expanded g number names)
-  expanded (tense_group p f) number names = raw_group p (expanded f number names)
-  expanded (tense_exists p c f) number names = raw_exists p c (expanded f number (renamed_to c.name c.name ∷ names))
-  expanded (tense_forall p c f) number names = raw_forall p c (expanded f number (renamed_to c.name c.name ∷ names))
-  expanded (once o from to f) number names =
-      once_form o (moment_of number o) (present_name names o.name) from to (expanded f number (renamed_to o.name (moment_of number o) ∷ names))
-  expanded (always o from to f) number names =
-      always_form o (moment_of number o) (present_name names o.name) from to (expanded f number (renamed_to o.name (moment_of number o) ∷ names))
-  expanded (since o f g) number names =
-      since_form o (moment_of number o) (between_of number o) (present_name names o.name) (expanded f number (renamed_to o.name (between_of number o) ∷ names)) (expanded g number (renamed_to o.name (moment_of number o) ∷ names))
-  expanded (until o f g) number names =
-      until_form o (moment_of number o) (between_of number o) (present_name names o.name) (expanded f number (renamed_to o.name (between_of number o) ∷ names)) (expanded g number (renamed_to o.name (moment_of number o) ∷ names))
+  pub expanded : RawForm → (Place → ℕ) → Naming → RawForm
+  expanded (raw_atom p n ts) number names = raw_atom p n (map (renamed names) ts)
+  expanded (raw_compare p l op r) number names = raw_compare p (renamed names l) op (renamed names r)
+  expanded (raw_member p t point) number names = raw_member p (renamed names t) point
+  expanded (raw_not p f) number names = raw_not p (expanded f number names)
+  expanded (raw_and p fs) number names = raw_and p (expanded_each fs number names)
+  expanded (raw_or p fs) number names = raw_or p (expanded_each fs number names)
+  expanded (raw_implies p f g) number names = raw_implies p (expanded f number names) (expanded g number names)
+  expanded (raw_group p f) number names = raw_group p (expanded f number names)
+  expanded (raw_exists p c f) number names = raw_exists p c (expanded f number (renamed_to c.name c.name ∷ names))
+  expanded (raw_forall p c f) number names = raw_forall p c (expanded f number (renamed_to c.name c.name ∷ names))
+  expanded (raw_ranged word o from to f) number names =
+      form_of_range word o (moment_of number o) (present_name names o.name) from to (expanded f number (renamed_to o.name (moment_of number o) ∷ names))
+  expanded (raw_paired word o f g) number names =
+      form_of_pair word o (moment_of number o) (between_of number o) (present_name names o.name) (expanded f number (renamed_to o.name (between_of number o) ∷ names)) (expanded g number (renamed_to o.name (moment_of number o) ∷ names))
 
-  pub expanded_each : TenseForms → (Place → ℕ) → Naming → RawForms
-  expanded_each no_tenses number names = no_raws
-  expanded_each (tense f fs) number names = raw (expanded f number names) (expanded_each fs number names)
+  pub expanded_each : RawForms → (Place → ℕ) → Naming → RawForms
+  expanded_each no_raws number names = no_raws
+  expanded_each (raw f fs) number names = raw (expanded f number names) (expanded_each fs number names)
 
 -- the query, its operators counted by their places
-abbrev pub expanded_question : TenseQuestion → RawQuestion
+abbrev pub expanded_question : RawQuestion → RawQuestion
 expanded_question q = record { head = q.head; body = expanded q.body (operator_number (operators q.body)) [] }
 
 -- ---- which trees the law speaks of
@@ -187,25 +193,23 @@ IsPlainTerm t = IsPlainKind t.kind
 
 -- none of its variables' names has one
 abbrev mutual
-  pub HasPlainNames : TenseForm → Type 0
-  HasPlainNames (tense_atom p n ts) = AllByRecursion IsPlainTerm ts
-  HasPlainNames (tense_compare p l op r) = IsPlainTerm l × IsPlainTerm r
-  HasPlainNames (tense_member p t point) = IsPlainTerm t
-  HasPlainNames (tense_not p f) = HasPlainNames f
-  HasPlainNames (tense_and p fs) = HavePlainNames fs
-  HasPlainNames (tense_or p fs) = HavePlainNames fs
-  HasPlainNames (tense_implies p f g) = HasPlainNames f × HasPlainNames g
-  HasPlainNames (tense_group p f) = HasPlainNames f
-  HasPlainNames (tense_exists p c f) = IsPlain c.name × HasPlainNames f
-  HasPlainNames (tense_forall p c f) = IsPlain c.name × HasPlainNames f
-  HasPlainNames (once o from to f) = IsPlain o.name × HasPlainNames f
-  HasPlainNames (always o from to f) = IsPlain o.name × HasPlainNames f
-  HasPlainNames (since o f g) = IsPlain o.name × HasPlainNames f × HasPlainNames g
-  HasPlainNames (until o f g) = IsPlain o.name × HasPlainNames f × HasPlainNames g
+  pub HasPlainNames : RawForm → Type 0
+  HasPlainNames (raw_atom p n ts) = AllByRecursion IsPlainTerm ts
+  HasPlainNames (raw_compare p l op r) = IsPlainTerm l × IsPlainTerm r
+  HasPlainNames (raw_member p t point) = IsPlainTerm t
+  HasPlainNames (raw_not p f) = HasPlainNames f
+  HasPlainNames (raw_and p fs) = HavePlainNames fs
+  HasPlainNames (raw_or p fs) = HavePlainNames fs
+  HasPlainNames (raw_implies p f g) = HasPlainNames f × HasPlainNames g
+  HasPlainNames (raw_group p f) = HasPlainNames f
+  HasPlainNames (raw_exists p c f) = IsPlain c.name × HasPlainNames f
+  HasPlainNames (raw_forall p c f) = IsPlain c.name × HasPlainNames f
+  HasPlainNames (raw_ranged word o from to f) = IsPlain o.name × HasPlainNames f
+  HasPlainNames (raw_paired word o f g) = IsPlain o.name × HasPlainNames f × HasPlainNames g
 
-  pub HavePlainNames : TenseForms → Type 0
-  HavePlainNames no_tenses = Unit {0}
-  HavePlainNames (tense f fs) = HasPlainNames f × HavePlainNames fs
+  pub HavePlainNames : RawForms → Type 0
+  HavePlainNames no_raws = Unit {0}
+  HavePlainNames (raw f fs) = HasPlainNames f × HavePlainNames fs
 
 -- no two elements are the same
 abbrev pub AllDiffer : {A : Type 0} → List A → Type 0
@@ -213,6 +217,6 @@ AllDiffer [] = Unit {0}
 AllDiffer (a ∷ others) = AllByRecursion (λ b. a ≢ b) others × AllDiffer others
 
 -- no name of a variable has a `~`, and no two operators stand at one place
-pub record IsExpandable (q : TenseQuestion) : Type 0 where
+pub record IsExpandable (q : RawQuestion) : Type 0 where
   pub names : HasPlainNames q.body
   pub places : AllDiffer (operators q.body)

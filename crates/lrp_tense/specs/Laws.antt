@@ -8,15 +8,14 @@ use Rattle.lrp_model.specs.Sorting.{IsWellSorted}
 use Rattle.lrp_model.specs.Checked.{plain_question}
 use Rattle.lrp_model.specs.RawQueries.{RawQuestion}
 use Rattle.lrp_model.specs.declared.relations.Relation.{Relation}
-use Rattle.lrp_tense.specs.Trees.{TenseQuestion}
 use Rattle.lrp_tense.specs.Meaning.{TenseSatisfies}
 use Rattle.lrp_tense.specs.Expanding.{expanded_question}
 
 -- where the query without operators is well-sorted, an assignment satisfies it exactly where it satisfies the written one
-abbrev pub KeepsMeaning : TenseQuestion → RawQuestion → Type 0
+abbrev pub KeepsMeaning : RawQuestion → RawQuestion → Type 0
 KeepsMeaning q r = (db : List Relation) → IsWellSorted db r → (M : Structure) (env : Assignment) → TenseSatisfies q.body (reverse q.head) M env ↔ Satisfies (plain_question r).body M env
 
 -- the tuple has a value of its sort in each column, and its assignment satisfies the body by the operators' own meaning
-pub record IsTenseAnswer (db : List Relation) (q : TenseQuestion) (tuple : List Datum) : Type 0 where
+pub record IsTenseAnswer (db : List Relation) (q : RawQuestion) (tuple : List Datum) : Type 0 where
   pub fits : AllZip (λ c d. IsOfSort (structure db (plain_question (expanded_question q))) c.sort d) q.head tuple
   pub satisfies : TenseSatisfies q.body (reverse q.head) (structure db (plain_question (expanded_question q))) (assignment (map column_of q.head) tuple)

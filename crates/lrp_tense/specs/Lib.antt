@@ -1,13 +1,10 @@
 -- What the contract of `run` reaches.
-pub mod Trees
 pub mod Meaning
 pub mod Expanding
 pub mod Laws
-pub mod TenseQueries
 pub mod TenseReading
 -- What contracts of single functions need beside.
 pub mod Lawful
-pub mod Rules
 pub mod Reading
 pub mod Named
 pub mod Counting

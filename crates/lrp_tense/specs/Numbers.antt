@@ -1,9 +1,8 @@
 -- How operators are numbered while a formula is expanded, and the formula that this gives.
 use Rattle.std.specs.Prelude.{ℕ, suc, List, [], ◌∷◌, ◌++◌, length, map}
-use Rattle.lrp_model.specs.RawQueries.{RawForm, RawForms, raw_atom, raw_compare, raw_member, raw_not, raw_and, raw_or, raw_implies, raw_group, raw_exists, raw_forall, no_raws, raw}
+use Rattle.lrp_model.specs.RawQueries.{RawForm, RawForms, raw_atom, raw_compare, raw_member, raw_not, raw_and, raw_or, raw_implies, raw_group, raw_exists, raw_forall, no_raws, raw, raw_ranged, raw_paired}
 use Rattle.lrp_model.specs.declared.tokens.Place.{Place}
-use Rattle.lrp_tense.specs.Trees.{TenseForm, TenseForms, tense_atom, tense_compare, tense_member, tense_not, tense_and, tense_or, tense_implies, tense_group, tense_exists, tense_forall, once, always, since, until, no_tenses, tense}
-use Rattle.lrp_tense.specs.Expanding.{operators, Naming, renamed, renamed_to, present_name, moment_name, between_name, once_form, always_form, since_form, until_form}
+use Rattle.lrp_tense.specs.Expanding.{operators, Naming, renamed, renamed_to, present_name, moment_name, between_name, form_of_range, form_of_pair}
 use Rattle.lrp_tense.specs.Counting.{operator_number_in}
 
 -- as they are met, behind those at these places, or by the positions of all of them
@@ -28,32 +27,25 @@ behind_all n (p ∷ ps) = behind_all (behind_one n p) ps
 
 -- the expanded formula whose first operator has the next number
 abbrev mutual
-  pub expanded_from : TenseForm → Numbers → Naming → RawForm
-  expanded_from (tense_atom p r ts) n names = raw_atom p r (map (renamed names) ts)
-  expanded_from (tense_compare p l op r) n names = raw_compare p (renamed names l) op (renamed names r)
-  expanded_from (tense_member p t point) n names = raw_member p (renamed names t) point
-  expanded_from (tense_not p f) n names = raw_not p (expanded_from f n names)
-  expanded_from (tense_and p fs) n names = raw_and p (each_from fs n names)
-  expanded_from (tense_or p fs) n names = raw_or p (each_from fs n names)
-  expanded_from (tense_implies p f g) n names = raw_implies p (expanded_from f n names) (expanded_from g (behind_all n (operators f)) names)
-  expanded_from (tense_group p f) n names = raw_group p (expanded_from f n names)
-  expanded_from (tense_exists p c f) n names = raw_exists p c (expanded_from f n (renamed_to c.name c.name ∷ names))
-  expanded_from (tense_forall p c f) n names = raw_forall p c (expanded_from f n (renamed_to c.name c.name ∷ names))
-  expanded_from (once o from to f) n names =
-      once_form o (moment_name o.name (next_number n o.place)) (present_name names o.name) from to
+  pub expanded_from : RawForm → Numbers → Naming → RawForm
+  expanded_from (raw_atom p r ts) n names = raw_atom p r (map (renamed names) ts)
+  expanded_from (raw_compare p l op r) n names = raw_compare p (renamed names l) op (renamed names r)
+  expanded_from (raw_member p t point) n names = raw_member p (renamed names t) point
+  expanded_from (raw_not p f) n names = raw_not p (expanded_from f n names)
+  expanded_from (raw_and p fs) n names = raw_and p (each_from fs n names)
+  expanded_from (raw_or p fs) n names = raw_or p (each_from fs n names)
+  expanded_from (raw_implies p f g) n names = raw_implies p (expanded_from f n names) (expanded_from g (behind_all n (operators f)) names)
+  expanded_from (raw_group p f) n names = raw_group p (expanded_from f n names)
+  expanded_from (raw_exists p c f) n names = raw_exists p c (expanded_from f n (renamed_to c.name c.name ∷ names))
+  expanded_from (raw_forall p c f) n names = raw_forall p c (expanded_from f n (renamed_to c.name c.name ∷ names))
+  expanded_from (raw_ranged word o from to f) n names =
+      form_of_range word o (moment_name o.name (next_number n o.place)) (present_name names o.name) from to
       (expanded_from f (behind_one n o.place) (renamed_to o.name (moment_name o.name (next_number n o.place)) ∷ names))
-  expanded_from (always o from to f) n names =
-      always_form o (moment_name o.name (next_number n o.place)) (present_name names o.name) from to
-      (expanded_from f (behind_one n o.place) (renamed_to o.name (moment_name o.name (next_number n o.place)) ∷ names))
-  expanded_from (since o f g) n names =
-      since_form o (moment_name o.name (next_number n o.place)) (between_name o.name (next_number n o.place)) (present_name names o.name)
-      (expanded_from f (behind_one n o.place) (renamed_to o.name (between_name o.name (next_number n o.place)) ∷ names))
-      (expanded_from g (behind_all (behind_one n o.place) (operators f)) (renamed_to o.name (moment_name o.name (next_number n o.place)) ∷ names))
-  expanded_from (until o f g) n names =
-      until_form o (moment_name o.name (next_number n o.place)) (between_name o.name (next_number n o.place)) (present_name names o.name)
+  expanded_from (raw_paired word o f g) n names =
+      form_of_pair word o (moment_name o.name (next_number n o.place)) (between_name o.name (next_number n o.place)) (present_name names o.name)
       (expanded_from f (behind_one n o.place) (renamed_to o.name (between_name o.name (next_number n o.place)) ∷ names))
       (expanded_from g (behind_all (behind_one n o.place) (operators f)) (renamed_to o.name (moment_name o.name (next_number n o.place)) ∷ names))
 
-  pub each_from : TenseForms → Numbers → Naming → RawForms
-  each_from no_tenses n names = no_raws
-  each_from (tense f fs) n names = raw (expanded_from f n names) (each_from fs (behind_all n (operators f)) names)
+  pub each_from : RawForms → Numbers → Naming → RawForms
+  each_from no_raws n names = no_raws
+  each_from (raw f fs) n names = raw (expanded_from f n names) (each_from fs (behind_all n (operators f)) names)

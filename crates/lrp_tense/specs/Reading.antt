@@ -1,8 +1,8 @@
 -- What the reader of queries with temporal operators ensures.
 use Rattle.std.specs.Prelude.{ℕ, List, Result}
+use Rattle.lrp_model.specs.RawQueries.{RawQuestion, raw_question_of}
 use Rattle.lrp_model.specs.declared.faults.QueryRead.{QueryRead}
-use Rattle.lrp_tense.specs.declared.tree.TenseQuery.{TenseQuery}
-use Rattle.lrp_tense.specs.Trees.{TenseQuestion, tense_question_of}
+use Rattle.lrp_model.specs.declared.raw.RawQuery.{RawQuery}
 use Rattle.lrp_query.specs.Reading.{IsUnreadOf}
 use Rattle.lrp_tense.specs.TenseReading.{TenseTexts}
 use Rattle.lrp_model.specs.Outcomes.{IsQueryOrMemory}
@@ -12,5 +12,5 @@ abbrev pub IsTenseUnread : List ℕ → QueryRead → Type 0
 IsTenseUnread = IsUnreadOf TenseTexts
 
 -- this query, unless memory ran out
-abbrev pub IsTenseOrMemory : TenseQuestion → Result TenseQuery QueryRead → Type 0
-IsTenseOrMemory = IsQueryOrMemory tense_question_of
+abbrev pub IsTenseOrMemory : RawQuestion → Result RawQuery QueryRead → Type 0
+IsTenseOrMemory = IsQueryOrMemory raw_question_of

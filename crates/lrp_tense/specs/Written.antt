@@ -1,18 +1,15 @@
 -- The operators of the program, and what they stand for.
 use Rattle.std.specs.Prelude.{ℤ, Option, Some, None}
 use Rattle.lrp_model.specs.Texts.{Identifier}
-use Rattle.lrp_model.specs.RawQueries.{RawForm, RawForms, raw_form_of, raw_compare, raw_and, raw_or, raw_exists, raw_forall}
+use Rattle.lrp_model.specs.RawQueries.{RawForm, RawForms, raw_form_of, raw_compare, raw_and, raw_or, raw_exists, raw_forall, Operator, operator_at, raw_ranged, raw_paired}
 use Rattle.lrp_model.specs.declared.tokens.Place.{Place}
 use Rattle.lrp_model.specs.declared.raw.RawColumn.{RawColumn}
 use Rattle.lrp_model.specs.declared.raw.RawTerm.{RawTerm}
 use Rattle.lrp_model.specs.declared.raw.RawTermKind.{RawTermKind}
 use Rattle.lrp_model.specs.declared.raw.RawTermKind.TheVariants.{Var, Shifted}
-use Rattle.lrp_tense.specs.Trees.{Operator, TenseForm, operator_at}
-use Rattle.lrp_tense.specs.Rules.{ranged_form, paired_form}
-use Rattle.lrp_tense.specs.Expanding.{time_binder, name_term}
-use Rattle.lrp_tense.specs.Scopes.{form_of_range, form_of_pair}
-use Rattle.lrp_tense.specs.declared.words.Ranged.{Ranged}
-use Rattle.lrp_tense.specs.declared.words.Paired.{Paired}
+use Rattle.lrp_tense.specs.Expanding.{time_binder, name_term, form_of_range, form_of_pair}
+use Rattle.lrp_model.specs.declared.raw.Ranged.{Ranged}
+use Rattle.lrp_model.specs.declared.raw.Paired.{Paired}
 use Rattle.lrp_tense.specs.declared.written_operators.Operator.{Operator as WrittenOperator}
 use Rattle.lrp_tense.specs.declared.written_operators.RangeOperator.{RangeOperator}
 use Rattle.lrp_tense.specs.declared.written_operators.PairOperator.{PairOperator}
@@ -44,11 +41,11 @@ abbrev pub operator_of : WrittenOperator → Operator
 operator_of o = operator_there o.places o.name.now
 
 -- the formula that one with an interval makes of a formula, and one over two formulas of these
-abbrev pub range_of : RangeOperator → TenseForm → TenseForm
-range_of r f = ranged_form r.word (operator_of r.at) r.from r.to f
+abbrev pub range_of : RangeOperator → RawForm → RawForm
+range_of r f = raw_ranged r.word (operator_of r.at) r.from r.to f
 
-abbrev pub pair_of : PairOperator → TenseForm → TenseForm → TenseForm
-pair_of p f g = paired_form p.word (operator_of p.at) f g
+abbrev pub pair_of : PairOperator → RawForm → RawForm → RawForm
+pair_of p f g = raw_paired p.word (operator_of p.at) f g
 
 -- ---- what they stand for
 

@@ -1,7 +1,6 @@
 // The query without operators that stands for one with them: each operator is written out by quantifiers over time.
 ghost use Rattle.std.specs.Prelude.{◌≡◌, ◌<◌, ◌^◌, [], length, IfOk, OnOk};
-ghost use Rattle.lrp_model.specs.RawQueries.{raw_form_of, raw_forms_of, raw_question_of, raw_not, raw_group, raw_implies};
-ghost use Rattle.lrp_tense.specs.Trees.{tense_form_of, tense_forms_of, tense_question_of};
+ghost use Rattle.lrp_model.specs.RawQueries.{HasNoOperator, raw_form_of, raw_forms_of, raw_question_of, raw_not, raw_group, raw_implies};
 ghost use Rattle.lrp_tense.specs.Expanding.{IsExpandable, operators, operator_number, expanded, expanded_question};
 ghost use Rattle.lrp_tense.specs.Counting.{ArePositions};
 ghost use Rattle.lrp_tense.specs.Laws.{KeepsMeaning};
@@ -13,13 +12,13 @@ ghost use Rattle.lrp_tense.specs.Begun.{IsBegun, pair_begun};
 use crate::counting::{is_ascending, positions_of};
 use crate::renaming::{atom, comparison, membership};
 use crate::scope::{Moments, OperatorScope};
-use crate::words::{Paired, Ranged};
 use crate::written_operators::{PairOperator, RangeOperator, written};
 use crate::written_out::{
     Connective, Inside, Quantifier, boxed, denied, grouped, implied, joined, quantified,
 };
-use crate::{TenseFormula, TenseKind, TenseQuery};
-use lrp_model::{Copies, Memory, Name, Place, RawColumn, RawFormula, RawQuery};
+use lrp_model::{
+    Copies, Memory, Name, Paired, Place, Ranged, RawColumn, RawFormula, RawKind, RawQuery,
+};
 use std::alloc::Global;
 
 /// The name of an operator's moment, and its first formula inside its variable for each moment between.
@@ -45,11 +44,12 @@ struct Counted {
 }
 
 /// The query without operators that is satisfied exactly where this one is. The variables that it has beside the written ones have a `~` in their names.
-pub fn expand(alloc: Global, query: &TenseQuery) -> Result<RawQuery, Memory>
-    requires { IsExpandable (tense_question_of query.now) }
+pub fn expand(alloc: Global, query: &RawQuery) -> Result<RawQuery, Memory>
+    requires { IsExpandable (raw_question_of query.now) }
     ensures tree { IfOk result (λ made. raw_question_of made
-        ≡ expanded_question (tense_question_of query.now)) }
-    ensures meaning { IfOk result (λ made. KeepsMeaning (tense_question_of query.now)
+        ≡ expanded_question (raw_question_of query.now)) }
+    ensures plain { IfOk result (λ made. HasNoOperator (raw_form_of made.body)) }
+    ensures meaning { IfOk result (λ made. KeepsMeaning (raw_question_of query.now)
         (raw_question_of made)) }
 {
     let made = expand_body(alloc, &query.body)?;
@@ -61,10 +61,10 @@ pub fn expand(alloc: Global, query: &TenseQuery) -> Result<RawQuery, Memory>
 // The formula with its operators numbered by their places.
 //
 // In a formula that was read they stand in the order of their places, so that counting them as they are met is enough.
-fn expand_body(alloc: Global, f: &TenseFormula) -> Result<Box<RawFormula>, Memory>
+fn expand_body(alloc: Global, f: &RawFormula) -> Result<Box<RawFormula>, Memory>
     ensures tree { IfOk result (λ made. raw_form_of made.value
-        ≡ expanded (tense_form_of f.now) (operator_number (operators (tense_form_of f.now))) []) }
-    ensures few { IfOk result (λ _. length (operators (tense_form_of f.now)) < 2 ^ 64) }
+        ≡ expanded (raw_form_of f.now) (operator_number (operators (raw_form_of f.now))) []) }
+    ensures few { IfOk result (λ _. length (operators (raw_form_of f.now)) < 2 ^ 64) }
 {
     let counted = expand_counting(alloc, f)?;
     let Counted { of, positions } = counted;
@@ -75,11 +75,11 @@ fn expand_body(alloc: Global, f: &TenseFormula) -> Result<Box<RawFormula>, Memor
 }
 
 // The formula with its operators counted as they are met.
-fn expand_counting(alloc: Global, f: &TenseFormula) -> Result<Counted, Memory>
+fn expand_counting(alloc: Global, f: &RawFormula) -> Result<Counted, Memory>
     ensures tree { IfOk result (λ made. raw_form_of made.of.value
-        ≡ expanded_from (tense_form_of f.now) (met []) []) }
+        ≡ expanded_from (raw_form_of f.now) (met []) []) }
     ensures positions { IfOk result (λ made. ArePositions made.positions.items
-        (operators (tense_form_of f.now))) }
+        (operators (raw_form_of f.now))) }
 {
     let mut scope = OperatorScope::counting(alloc);
     let of = expand_formula(alloc, &mut scope, f)?;
@@ -91,12 +91,12 @@ fn expand_counting(alloc: Global, f: &TenseFormula) -> Result<Counted, Memory>
 // The formula with its operators numbered by these positions, which are theirs.
 fn expand_ranking(
     alloc: Global,
-    f: &TenseFormula,
+    f: &RawFormula,
     positions: Vec<u64>,
 ) -> Result<Box<RawFormula>, Memory>
-    requires { ArePositions positions.items (operators (tense_form_of f.now)) }
+    requires { ArePositions positions.items (operators (raw_form_of f.now)) }
     ensures { IfOk result (λ made. raw_form_of made.value
-        ≡ expanded (tense_form_of f.now) (operator_number (operators (tense_form_of f.now))) []) }
+        ≡ expanded (raw_form_of f.now) (operator_number (operators (raw_form_of f.now))) []) }
 {
     let mut positions = positions;
     positions.sort_unstable();
@@ -123,31 +123,31 @@ fn renamed_column(alloc: Global, column: &RawColumn, name: Name) -> Result<RawCo
 fn expand_formula<'a>(
     alloc: Global,
     scope: &mut OperatorScope<'a>,
-    f: &'a TenseFormula,
+    f: &'a RawFormula,
 ) -> Result<Box<RawFormula>, Memory>
     ensures tree { IfOk result (λ made. raw_form_of made.value
-        ≡ expanded_in scope.old (tense_form_of f.now)) }
-    ensures scope { OnOk result (scope.new ≡ past scope.old (tense_form_of f.now)) }
+        ≡ expanded_in scope.old (raw_form_of f.now)) }
+    ensures scope { OnOk result (scope.new ≡ past scope.old (raw_form_of f.now)) }
 {
     let place = f.place;
     match &f.kind {
-        TenseKind::Atom { relation, terms } => {
+        RawKind::Atom { relation, terms } => {
             atom(alloc, scope, place, relation, terms.as_slice())
         }
-        TenseKind::Compare { left, op, right } => {
+        RawKind::Compare { left, op, right } => {
             let kind = comparison(alloc, scope, left, *op, right)?;
             boxed(alloc, place, kind)
         }
-        TenseKind::Member { term, point } => membership(alloc, scope, place, term, *point),
-        TenseKind::Not { of } => expand_negation(alloc, scope, place, of),
-        TenseKind::And { of } => expand_joined(alloc, scope, place, Connective::And, of),
-        TenseKind::Or { of } => expand_joined(alloc, scope, place, Connective::Or, of),
-        TenseKind::Implies { left, right } => {
+        RawKind::Member { term, point } => membership(alloc, scope, place, term, *point),
+        RawKind::Not { of } => expand_negation(alloc, scope, place, of),
+        RawKind::And { of } => expand_joined(alloc, scope, place, Connective::And, of),
+        RawKind::Or { of } => expand_joined(alloc, scope, place, Connective::Or, of),
+        RawKind::Implies { left, right } => {
             let left = expand_formula(alloc, scope, left)?;
             expand_implication(alloc, scope, place, right, left)
         }
-        TenseKind::Group { of } => expand_group(alloc, scope, place, of),
-        TenseKind::Exists { binder, of } => {
+        RawKind::Group { of } => expand_group(alloc, scope, place, of),
+        RawKind::Exists { binder, of } => {
             let quantifier = Quantifier::Exists;
             let at = Binding {
                 place,
@@ -156,7 +156,7 @@ fn expand_formula<'a>(
             };
             expand_quantified(alloc, scope, at, of)
         }
-        TenseKind::Forall { binder, of } => {
+        RawKind::Forall { binder, of } => {
             let quantifier = Quantifier::Forall;
             let at = Binding {
                 place,
@@ -165,59 +165,33 @@ fn expand_formula<'a>(
             };
             expand_quantified(alloc, scope, at, of)
         }
-        TenseKind::Once {
+        RawKind::Ranged {
+            word,
             name,
             name_place,
             from,
             to,
             of,
         } => {
-            let at = written(place, name, *name_place);
             let range = RangeOperator {
-                at,
-                word: Ranged::Once,
+                at: written(place, name, *name_place),
+                word: *word,
                 from: *from,
                 to: *to,
             };
             expand_ranged(alloc, scope, range, of)
         }
-        TenseKind::Always {
+        RawKind::Paired {
+            word,
             name,
             name_place,
-            from,
-            to,
-            of,
+            left,
+            right,
         } => {
-            let at = written(place, name, *name_place);
-            let range = RangeOperator {
-                at,
-                word: Ranged::Always,
-                from: *from,
-                to: *to,
+            let pair = PairOperator {
+                at: written(place, name, *name_place),
+                word: *word,
             };
-            expand_ranged(alloc, scope, range, of)
-        }
-        TenseKind::Since {
-            name,
-            name_place,
-            left,
-            right,
-        } => {
-            let at = written(place, name, *name_place);
-            let word = Paired::Since;
-            let pair = PairOperator { at, word };
-            let begun = expand_between(alloc, scope, pair, left)?;
-            expand_paired(alloc, scope, pair, begun, right)
-        }
-        TenseKind::Until {
-            name,
-            name_place,
-            left,
-            right,
-        } => {
-            let at = written(place, name, *name_place);
-            let word = Paired::Until;
-            let pair = PairOperator { at, word };
             let begun = expand_between(alloc, scope, pair, left)?;
             expand_paired(alloc, scope, pair, begun, right)
         }
@@ -229,11 +203,11 @@ fn expand_negation<'a>(
     alloc: Global,
     scope: &mut OperatorScope<'a>,
     place: Place,
-    of: &'a TenseFormula,
+    of: &'a RawFormula,
 ) -> Result<Box<RawFormula>, Memory>
     ensures tree { IfOk result (λ made. raw_form_of made.value
-        ≡ raw_not place (expanded_in scope.old (tense_form_of of.now))) }
-    ensures scope { OnOk result (scope.new ≡ past scope.old (tense_form_of of.now)) }
+        ≡ raw_not place (expanded_in scope.old (raw_form_of of.now))) }
+    ensures scope { OnOk result (scope.new ≡ past scope.old (raw_form_of of.now)) }
 {
     let of = expand_formula(alloc, scope, of)?;
     denied(alloc, place, of)
@@ -244,11 +218,11 @@ fn expand_group<'a>(
     alloc: Global,
     scope: &mut OperatorScope<'a>,
     place: Place,
-    of: &'a TenseFormula,
+    of: &'a RawFormula,
 ) -> Result<Box<RawFormula>, Memory>
     ensures tree { IfOk result (λ made. raw_form_of made.value
-        ≡ raw_group place (expanded_in scope.old (tense_form_of of.now))) }
-    ensures scope { OnOk result (scope.new ≡ past scope.old (tense_form_of of.now)) }
+        ≡ raw_group place (expanded_in scope.old (raw_form_of of.now))) }
+    ensures scope { OnOk result (scope.new ≡ past scope.old (raw_form_of of.now)) }
 {
     let of = expand_formula(alloc, scope, of)?;
     grouped(alloc, place, of)
@@ -260,13 +234,13 @@ fn expand_implication<'a>(
     alloc: Global,
     scope: &mut OperatorScope<'a>,
     place: Place,
-    right: &'a TenseFormula,
+    right: &'a RawFormula,
     left: Box<RawFormula>,
 ) -> Result<Box<RawFormula>, Memory>
     ensures tree { IfOk result (λ made. raw_form_of made.value
         ≡ raw_implies place (raw_form_of left.value)
-        (expanded_in scope.old (tense_form_of right.now))) }
-    ensures scope { OnOk result (scope.new ≡ past scope.old (tense_form_of right.now)) }
+        (expanded_in scope.old (raw_form_of right.now))) }
+    ensures scope { OnOk result (scope.new ≡ past scope.old (raw_form_of right.now)) }
 {
     let right = expand_formula(alloc, scope, right)?;
     implied(alloc, place, left, right)
@@ -278,11 +252,11 @@ fn expand_joined<'a>(
     scope: &mut OperatorScope<'a>,
     place: Place,
     connective: Connective,
-    of: &'a [TenseFormula],
+    of: &'a [RawFormula],
 ) -> Result<Box<RawFormula>, Memory>
     ensures tree { IfOk result (λ made. raw_form_of made.value
-        ≡ joined_form connective place (each_in scope.old (tense_forms_of of.now))) }
-    ensures scope { OnOk result (scope.new ≡ past_each scope.old (tense_forms_of of.now)) }
+        ≡ joined_form connective place (each_in scope.old (raw_forms_of of.now))) }
+    ensures scope { OnOk result (scope.new ≡ past_each scope.old (raw_forms_of of.now)) }
 {
     let of = expand_each(alloc, scope, of)?;
     joined(alloc, place, connective, of)
@@ -292,11 +266,11 @@ fn expand_joined<'a>(
 fn expand_each<'a>(
     alloc: Global,
     scope: &mut OperatorScope<'a>,
-    fs: &'a [TenseFormula],
+    fs: &'a [RawFormula],
 ) -> Result<Vec<RawFormula>, Memory>
     ensures trees { IfOk result (λ made. raw_forms_of made.items
-        ≡ each_in scope.old (tense_forms_of fs.now)) }
-    ensures scope { OnOk result (scope.new ≡ past_each scope.old (tense_forms_of fs.now)) }
+        ≡ each_in scope.old (raw_forms_of fs.now)) }
+    ensures scope { OnOk result (scope.new ≡ past_each scope.old (raw_forms_of fs.now)) }
 {
     let mut all = Vec::with_capacity(alloc, fs.len())?;
     for f in fs {
@@ -312,13 +286,13 @@ fn expand_quantified<'a>(
     alloc: Global,
     scope: &mut OperatorScope<'a>,
     at: Binding<'a>,
-    of: &'a TenseFormula,
+    of: &'a RawFormula,
 ) -> Result<Box<RawFormula>, Memory>
     ensures tree { IfOk result (λ made. raw_form_of made.value
         ≡ quantified_form at.entry.quantifier at.entry.place at.entry.binder.now (expanded_in
         (inside_variable scope.old at.entry.binder.now.name at.entry.binder.now.name)
-        (tense_form_of of.now))) }
-    ensures scope { OnOk result (scope.new ≡ past scope.old (tense_form_of of.now)) }
+        (raw_form_of of.now))) }
+    ensures scope { OnOk result (scope.new ≡ past scope.old (raw_form_of of.now)) }
 {
     let written = &at.binder.name;
     let same = written.copy(alloc)?;
@@ -335,12 +309,12 @@ fn expand_inside<'a>(
     scope: &mut OperatorScope<'a>,
     written: &'a Name,
     present: Name,
-    of: &'a TenseFormula,
+    of: &'a RawFormula,
 ) -> Result<Inside, Memory>
     ensures name { IfOk result (λ made. made.name ≡ present) }
     ensures tree { IfOk result (λ made. form_inside made
-        ≡ expanded_in (inside_variable scope.old written.now present) (tense_form_of of.now)) }
-    ensures scope { OnOk result (scope.new ≡ past scope.old (tense_form_of of.now)) }
+        ≡ expanded_in (inside_variable scope.old written.now present) (raw_form_of of.now)) }
+    ensures scope { OnOk result (scope.new ≡ past scope.old (raw_form_of of.now)) }
 {
     scope.enter(written, present)?;
     let of = expand_formula(alloc, scope, of)?;
@@ -354,12 +328,12 @@ fn expand_ranged<'a>(
     alloc: Global,
     scope: &mut OperatorScope<'a>,
     range: RangeOperator<'a>,
-    of: &'a TenseFormula,
+    of: &'a RawFormula,
 ) -> Result<Box<RawFormula>, Memory>
     ensures tree { IfOk result (λ made. raw_form_of made.value
-        ≡ expanded_in scope.old (range_of range.entry (tense_form_of of.now))) }
+        ≡ expanded_in scope.old (range_of range.entry (raw_form_of of.now))) }
     ensures scope { OnOk result (scope.new
-        ≡ past scope.old (range_of range.entry (tense_form_of of.now))) }
+        ≡ past scope.old (range_of range.entry (raw_form_of of.now))) }
 {
     let at = range.at;
     let number = scope.number(at.places.place)?;
@@ -379,11 +353,11 @@ fn expand_between<'a>(
     alloc: Global,
     scope: &mut OperatorScope<'a>,
     pair: PairOperator<'a>,
-    of: &'a TenseFormula,
+    of: &'a RawFormula,
 ) -> Result<Begun, Memory>
-    ensures begun { IfOk result (λ made. IsBegun scope.old pair.entry (tense_form_of of.now) made) }
+    ensures begun { IfOk result (λ made. IsBegun scope.old pair.entry (raw_form_of of.now) made) }
     ensures scope { OnOk result (scope.new
-        ≡ past (past_one scope.old pair.entry.at.places.place) (tense_form_of of.now)) }
+        ≡ past (past_one scope.old pair.entry.at.places.place) (raw_form_of of.now)) }
 {
     let number = scope.number(pair.at.places.place)?;
     let written = pair.at.name;
@@ -403,11 +377,11 @@ fn expand_paired<'a>(
     scope: &mut OperatorScope<'a>,
     pair: PairOperator<'a>,
     begun: Begun,
-    of: &'a TenseFormula,
+    of: &'a RawFormula,
 ) -> Result<Box<RawFormula>, Memory>
     ensures tree { IfOk result (λ made. raw_form_of made.value
-        ≡ pair_begun scope.old pair.entry begun (tense_form_of of.now)) }
-    ensures scope { OnOk result (scope.new ≡ past scope.old (tense_form_of of.now)) }
+        ≡ pair_begun scope.old pair.entry begun (raw_form_of of.now)) }
+    ensures scope { OnOk result (scope.new ≡ past scope.old (raw_form_of of.now)) }
 {
     let Begun { moment, between } = begun;
     let inside = expand_inside(alloc, scope, pair.at.name, moment, of)?;

@@ -3,8 +3,8 @@
 // A formula is moved as rarely as can be: it stands in a box as soon as it is made, and what can fail is done before its parts are put together.
 ghost use Rattle.std.specs.Prelude.{◌≡◌, IfOk};
 ghost use Rattle.lrp_model.specs.RawQueries.{raw_kind, raw_form_of, raw_forms_of, raw_and, raw_not, raw_group, raw_exists, raw_implies};
-ghost use Rattle.lrp_tense.specs.declared.words.Ranged.TheVariants.{Once, Always};
-ghost use Rattle.lrp_tense.specs.declared.words.Paired.TheVariants.{Since, Until};
+ghost use Rattle.lrp_model.specs.declared.raw.Ranged.TheVariants.{Once, Always};
+ghost use Rattle.lrp_model.specs.declared.raw.Paired.TheVariants.{Since, Until};
 ghost use Rattle.lrp_tense.specs.Expanding.{time_binder as time_column, name_term, moved_term, both, all_three};
 ghost use Rattle.lrp_tense.specs.Written.{form_inside, each_there, term_of_bound, bounded, joined_form, quantified_form, range_at, pair_at};
 

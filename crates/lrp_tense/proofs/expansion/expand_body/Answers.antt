@@ -1,6 +1,6 @@
 use Rattle.std.proofs.Common.{◌∙◌, subst}
 use Rattle.std.specs.List.Sorted.{IsStrictlyIncreasing}
-use Rattle.lrp_tense.specs.Trees.{tense_form_of}
+use Rattle.lrp_model.specs.RawQueries.{raw_form_of}
 use Rattle.lrp_tense.proofs.Along.{along_is}
 use Rattle.lrp_tense.proofs.expansion.expand_body.Goals as goal
 
@@ -8,6 +8,6 @@ pub returns-then-is_ascending : goal.returns-then-is_ascending
 returns-then-is_ascending c =
     let k = c.in_ok-counted.ensures in
     record {
-      tree = k.tree ∙ along_is (tense_form_of c.args.f.now) _ k.positions (subst IsStrictlyIncreasing c.as_slice.ensures.value (c.is_ascending.ensures c.if-is_ascending.true));
+      tree = k.tree ∙ along_is (raw_form_of c.args.f.now) _ k.positions (subst IsStrictlyIncreasing c.as_slice.ensures.value (c.is_ascending.ensures c.if-is_ascending.true));
       few = k.positions.few;
     }

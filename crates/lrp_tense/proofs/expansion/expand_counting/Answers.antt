@@ -1,6 +1,6 @@
 use Rattle.std.proofs.Common.{◌≡◌, ◌∙◌, ◌<◌, ◌^◌, [], map, length, ap, subst}
 use Rattle.std.specs.List.{AllByRecursion}
-use Rattle.lrp_tense.specs.Trees.{tense_form_of}
+use Rattle.lrp_model.specs.RawQueries.{raw_form_of}
 use Rattle.lrp_tense.specs.Expanding.{operators}
 use Rattle.lrp_tense.specs.Counting.{position_of, HasSmallColumn}
 use Rattle.lrp_tense.specs.Scopes.{past, expanded_in}
@@ -9,7 +9,7 @@ use Rattle.lrp_tense.proofs.expansion.expand_counting.Goals as goal
 
 pub returns : goal.returns
 returns c =
-    let f = tense_form_of c.args.f.now in
+    let f = raw_form_of c.args.f.now in
     let met_places = ap (λ a. a.numbers) (c.in_ok-of.ensures.scope ∙ ap (λ a. past a f) c.counting-scope.ensures) ∙ met_all [] (operators f) in
     let places : c.as_slice.result.now ≡ operators f = c.as_slice.ensures.value ∙ c.into_places-places.ensures (operators f) met_places in
     record {

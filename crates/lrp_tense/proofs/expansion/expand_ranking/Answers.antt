@@ -1,7 +1,7 @@
 use Rattle.std.proofs.Common.{◌∙◌, ap, subst}
 use Rattle.std.specs.Prelude.{IsPermutation}
 use Rattle.std.proofs.lemmas.List.Sorted.{IsNonDecreasingBy-from_sort}
-use Rattle.lrp_tense.specs.Trees.{tense_form_of}
+use Rattle.lrp_model.specs.RawQueries.{raw_form_of}
 use Rattle.lrp_tense.specs.Scopes.{expanded_in}
 use Rattle.lrp_tense.proofs.Along.{ranked_is}
 use Rattle.lrp_tense.proofs.Steps.{if_ok_then}
@@ -12,7 +12,7 @@ ranking-scope-requires c = IsNonDecreasingBy-from_sort (λ x. x) c.sort_unstable
 
 pub returns : goal.returns
 returns c =
-    let f = tense_form_of c.args.f.now in
+    let f = raw_form_of c.args.f.now in
     if_ok_then c.expand_formula.result _ _ c.expand_formula.ensures.tree (λ made h.
     h ∙ ap (λ a. expanded_in a f) c.ranking-scope.ensures
     ∙ ranked_is f c.sort_unstable.new.self.items (record {
