@@ -3,7 +3,8 @@ use Rattle.std.proofs.Common.{◌≡◌, ℕ, ◌+◌, ◌<◌, Bool, List, [], 
 use Rattle.std.proofs.lemmas.List.{take_more}
 use Rattle.lrp_model.specs.Formulas.{Form, Forms, form_of, forms_of, negation, no_forms, form, joined}
 use Rattle.lrp_model.specs.Core.{positive, negative, positives, conjuncts, disjuncts, and_list}
-use Rattle.lrp_model.specs.declared.formulas.Formula.{Formula, And as all_formulas, Or as some_formula}
+use Rattle.lrp_model.specs.declared.raw.RawFormula.{RawFormula}
+use Rattle.lrp_model.specs.declared.raw.RawKind.{And as all_formulas, Or as some_formula}
 use Rattle.lrp_model.proofs.Views.{forms_of-append, and_form, or_form}
 use Rattle.lrp_core.specs.Junctions.{elements, all_elements, joined_elements}
 use Rattle.lrp_core.specs.Polarities.{with_polarity, formed, all_formed, choice}
@@ -14,22 +15,22 @@ use Rattle.lrp_core.specs.declared.polarities.Polarity.TheVariants.{Positive, Ne
 use Rattle.lrp_core.proofs.CoreViews.{joined_none}
 
 -- of an `and`
-pub formed-And : (p : Polarity) (f : Formula) (v : Vec Formula Global) (named : Bool) (all : Form) → f ≡ all_formulas v → all ≡ and_list (positives (forms_of v.items) named) → with_polarity p all ≡ formed p (form_of f) named
+pub formed-And : (p : Polarity) (f : RawFormula) (v : Vec RawFormula Global) (named : Bool) (all : Form) → f.kind ≡ all_formulas v → all ≡ and_list (positives (forms_of v.items) named) → with_polarity p all ≡ formed p (form_of f) named
 formed-And Positive f v named all is whole = whole ∙ ap (λ g. positive g named) (and_form f v v.items is refl)
 formed-And Negative f v named all is whole = ap negation whole ∙ ap (λ g. negative g named) (and_form f v v.items is refl)
 
 -- of an `or`
-pub formed-Or : (p : Polarity) (f : Formula) (v : Vec Formula Global) (named : Bool) → f ≡ some_formula v → joined_elements (choice p) (all_formed p (forms_of v.items) named) ≡ formed p (form_of f) named
+pub formed-Or : (p : Polarity) (f : RawFormula) (v : Vec RawFormula Global) (named : Bool) → f.kind ≡ some_formula v → joined_elements (choice p) (all_formed p (forms_of v.items) named) ≡ formed p (form_of f) named
 formed-Or Positive f v named is = ap (λ g. positive g named) (or_form f v v.items is refl)
 formed-Or Negative f v named is = ap (λ g. negative g named) (or_form f v v.items is refl)
 
 -- an inner list gives its elements where its formulas are joined in the same way
-pub inner-And : (p : Polarity) (j : Junction) (f : Formula) (v : Vec Formula Global) (named : Bool) → p ≡ Positive → j ≡ And → f ≡ all_formulas v → all_elements j (all_formed p (forms_of v.items) named) ≡ elements j (formed p (form_of f) named)
+pub inner-And : (p : Polarity) (j : Junction) (f : RawFormula) (v : Vec RawFormula Global) (named : Bool) → p ≡ Positive → j ≡ And → f.kind ≡ all_formulas v → all_elements j (all_formed p (forms_of v.items) named) ≡ elements j (formed p (form_of f) named)
 inner-And Positive And f v named _ _ is = ap (λ g. conjuncts (positive g named)) (and_form f v v.items is refl)
 inner-And Positive Or f v named _ same is = cc
 inner-And Negative j f v named same _ is = cc
 
-pub inner-Or : (p : Polarity) (j : Junction) (f : Formula) (v : Vec Formula Global) (named : Bool) → j ≡ choice p → f ≡ some_formula v → all_elements j (all_formed p (forms_of v.items) named) ≡ elements j (formed p (form_of f) named)
+pub inner-Or : (p : Polarity) (j : Junction) (f : RawFormula) (v : Vec RawFormula Global) (named : Bool) → j ≡ choice p → f.kind ≡ some_formula v → all_elements j (all_formed p (forms_of v.items) named) ≡ elements j (formed p (form_of f) named)
 inner-Or Positive Or f v named _ is = ap (λ g. disjuncts (positive g named)) (or_form f v v.items is refl)
 inner-Or Negative And f v named _ is = ap (λ g. conjuncts (negative g named)) (or_form f v v.items is refl)
 inner-Or Positive And f v named same is = cc
@@ -55,9 +56,9 @@ all_formed-one Positive f named = refl
 all_formed-one Negative f named = refl
 
 -- the formulas before the next place are those before this one, and this one
-forms_of-take : (fs : List Formula) (i : ℕ) (f : Formula) → i < length fs → f ≡ get_or fs i f → forms_of (take (i + 1) fs) ≡ joined (forms_of (take i fs)) (form (form_of f) no_forms)
+forms_of-take : (fs : List RawFormula) (i : ℕ) (f : RawFormula) → i < length fs → f ≡ get_or fs i f → forms_of (take (i + 1) fs) ≡ joined (forms_of (take i fs)) (form (form_of f) no_forms)
 forms_of-take fs i f lt is = ap forms_of (take_more fs i f lt ∙ ap (λ x. take i fs ++ x ∷ []) (sym is)) ∙ forms_of-append (take i fs) (f ∷ [])
 
 -- one core form more
-pub all_formed-more : (p : Polarity) (fs : List Formula) (i : ℕ) (f : Formula) (named : Bool) → i < length fs → f ≡ get_or fs i f → all_formed p (forms_of (take (i + 1) fs)) named ≡ joined (all_formed p (forms_of (take i fs)) named) (form (formed p (form_of f) named) no_forms)
+pub all_formed-more : (p : Polarity) (fs : List RawFormula) (i : ℕ) (f : RawFormula) (named : Bool) → i < length fs → f ≡ get_or fs i f → all_formed p (forms_of (take (i + 1) fs)) named ≡ joined (all_formed p (forms_of (take i fs)) named) (form (formed p (form_of f) named) no_forms)
 all_formed-more p fs i f named lt is = ap (λ x. all_formed p x named) (forms_of-take fs i f lt is) ∙ all_formed-joined p (forms_of (take i fs)) (form (form_of f) no_forms) named ∙ ap (joined (all_formed p (forms_of (take i fs)) named)) (all_formed-one p (form_of f) named)

@@ -5,3 +5,4 @@ pub mod Members
 pub mod VariableLists
 pub mod TreeViews
 pub mod Literal
+mod Said

@@ -1,5 +1,5 @@
 -- The data texts of a query, one term, one binder and one formula more.
-use Rattle.std.proofs.Common.{◌≡◌, ◌<◌, ◌≤◌, ◌+◌, ℕ, zero, suc, Bool, true, false, cond, List, [], ◌∷◌, ◌++◌, length, take, get_or, Option, Some, None, find, slice_get, option_map, unwrap_or, Result, refl, sym, ap, subst, ◌∙◌, append_assoc, append-nil, arith}
+use Rattle.std.proofs.Common.{◌≡◌, ◌<◌, ◌≤◌, ◌+◌, ℕ, zero, suc, Bool, true, false, cond, List, [], ◌∷◌, ◌++◌, length, take, get_or, map, Option, Some, None, find, slice_get, option_map, unwrap_or, Result, refl, sym, ap, subst, ◌∙◌, append_assoc, append-nil, arith}
 use Rattle.std.specs.Result.{IfOk}
 use Rattle.std.specs.Str.{bytes_eq}
 use Rattle.std.proofs.lemmas.List.{take_more}
@@ -10,12 +10,16 @@ use Rattle.lrp_model.specs.declared.relations.Relation.{Relation}
 use Rattle.lrp_model.specs.declared.relations.Column.{Column}
 use Rattle.lrp_model.specs.declared.relations.Sort.{Sort}
 use Rattle.lrp_model.specs.declared.relations.Sort.TheVariants.{Data}
-use Rattle.lrp_model.specs.declared.formulas.Formula.{Formula}
+use Rattle.lrp_model.specs.RawTerms.{said_term}
+use Rattle.lrp_model.specs.declared.raw.RawTerm.{RawTerm}
+use Rattle.lrp_model.specs.declared.raw.RawFormula.{RawFormula}
+use Rattle.lrp_model.proofs.Everywhere.{map_count}
 use Rattle.lrp_model.specs.declared.formulas.Term.{Term}
 use Rattle.lrp_model.specs.declared.formulas.Term.TheVariants.{Time as time_term, Data as data_term}
 use Rattle.lrp_model.specs.declared.formulas.DataTerm.TheVariants.{Var as data_var, Const as data_const}
 use Rattle.lrp_model.proofs.Views.{forms_of-append}
 use Rattle.lrp_core.specs.Literals.{AddsTexts, one_text, one_in}
+use Rattle.lrp_core.proofs.Said.{said_more}
 
 -- ---- terms
 
@@ -37,19 +41,21 @@ take_length xs zero h = refl
 take_length [] (suc i) h = absurd (omega arith)
 take_length (x ∷ xs) (suc i) h = ap suc (take_length xs i (omega arith))
 
-pub terms_more : (cs : List Column) (ts : List Term) (i : ℕ) (t : Term) (old mid new : List (Sort × Text)) → i < length ts → t ≡ get_or ts i t → mid ≡ old ++ term_texts cs (take i ts) → new ≡ mid ++ one_in (slice_get cs i) t → new ≡ old ++ term_texts cs (take (i + 1) ts)
+pub terms_more : (cs : List Column) (ts : List RawTerm) (i : ℕ) (t : RawTerm) (old mid new : List (Sort × Text)) → i < length ts → t ≡ get_or ts i t → mid ≡ old ++ term_texts cs (map said_term (take i ts)) → new ≡ mid ++ one_in (slice_get cs i) (said_term t) → new ≡ old ++ term_texts cs (map said_term (take (i + 1) ts))
 terms_more cs ts i t old mid new lt is h k =
-    let n : length (take i ts) ≡ i = take_length ts i (omega arith) in
-    let e : term_texts cs (take (i + 1) ts) ≡ term_texts cs (take i ts) ++ one_in (slice_get cs i) t =
-    ap (term_texts cs) (take_more ts i t lt ∙ ap (λ x. take i ts ++ x ∷ []) (sym is)) ∙ term_push cs (take i ts) t ∙ ap (λ m. term_texts cs (take i ts) ++ one_in (slice_get cs m) t) n in
-    k ∙ ap (λ ys. ys ++ one_in (slice_get cs i) t) h ∙ append_assoc old (term_texts cs (take i ts)) (one_in (slice_get cs i) t) ∙ ap (λ ys. old ++ ys) (sym e)
+    let before : List Term = map said_term (take i ts) in
+    let n : length before ≡ i = map_count said_term (take i ts) ∙ take_length ts i (omega arith) in
+    let e : term_texts cs (map said_term (take (i + 1) ts)) ≡ term_texts cs before ++ one_in (slice_get cs i) (said_term t) =
+    ap (term_texts cs) (said_more ts i t lt is) ∙ term_push cs before (said_term t) ∙ ap (λ m. term_texts cs before ++ one_in (slice_get cs m) (said_term t)) n in
+    k ∙ ap (λ ys. ys ++ one_in (slice_get cs i) (said_term t)) h ∙ append_assoc old (term_texts cs before) (one_in (slice_get cs i) (said_term t)) ∙ ap (λ ys. old ++ ys) (sym e)
 
 -- one more term that is no text
-pub still_none : (cs : List Column) (ts : List Term) (i : ℕ) (t : Term) → i < length ts → t ≡ get_or ts i t → ((s : Sort) → one_text s t ≡ []) → term_texts cs (take i ts) ≡ [] → term_texts cs (take (i + 1) ts) ≡ []
+pub still_none : (cs : List Column) (ts : List RawTerm) (i : ℕ) (t : RawTerm) → i < length ts → t ≡ get_or ts i t → ((s : Sort) → one_text s (said_term t) ≡ []) → term_texts cs (map said_term (take i ts)) ≡ [] → term_texts cs (map said_term (take (i + 1) ts)) ≡ []
 still_none cs ts i t lt is none before =
-    ap (term_texts cs) (take_more ts i t lt ∙ ap (λ x. take i ts ++ x ∷ []) (sym is)) ∙ term_push cs (take i ts) t ∙ ap (λ ys. ys ++ one_in (slice_get cs (length (take i ts))) t) before ∙ in_none (slice_get cs (length (take i ts)))
+    let said : List Term = map said_term (take i ts) in
+    ap (term_texts cs) (said_more ts i t lt is) ∙ term_push cs said (said_term t) ∙ ap (λ ys. ys ++ one_in (slice_get cs (length said)) (said_term t)) before ∙ in_none (slice_get cs (length said))
   where
-    in_none : (o : Option Column) → one_in o t ≡ []
+    in_none : (o : Option Column) → one_in o (said_term t) ≡ []
     in_none None = refl
     in_none (Some c) = none c.sort
 
@@ -100,7 +106,7 @@ forms_push : (fs : Forms) (f : Form) (db : List Relation) (bs : List Column) →
 forms_push no_forms f db bs = append-nil (form_texts f db bs)
 forms_push (form g fs) f db bs = ap (λ ys. form_texts g db bs ++ ys) (forms_push fs f db bs) ∙ sym (append_assoc (form_texts g db bs) (forms_texts fs db bs) (form_texts f db bs))
 
-pub texts_more : (db : List Relation) (fs : List Formula) (i : ℕ) (f : Formula) (bs cs ds : List Column) (old mid new : List (Sort × Text)) → i < length fs → f ≡ get_or fs i f → AddsTexts (forms_texts (forms_of (take i fs)) db bs) bs cs old mid → AddsTexts (form_texts (form_of f) db cs) cs ds mid new
+pub texts_more : (db : List Relation) (fs : List RawFormula) (i : ℕ) (f : RawFormula) (bs cs ds : List Column) (old mid new : List (Sort × Text)) → i < length fs → f ≡ get_or fs i f → AddsTexts (forms_texts (forms_of (take i fs)) db bs) bs cs old mid → AddsTexts (form_texts (form_of f) db cs) cs ds mid new
     → AddsTexts (forms_texts (forms_of (take (i + 1) fs)) db bs) bs ds old new
 texts_more db fs i f bs cs ds old mid new lt is h k =
     let e : forms_texts (forms_of (take (i + 1) fs)) db bs ≡ forms_texts (forms_of (take i fs)) db bs ++ form_texts (form_of f) db bs =

@@ -8,7 +8,9 @@ use Rattle.std.proofs.lemmas.List.Elements.{filter-append}
 use Rattle.std.specs.Cmp.Lexicographic.{bytes_decides}
 use Rattle.std.proofs.lemmas.Grind.{flat_map-append}
 use Rattle.lrp_model.specs.Formulas.{Forms, form, no_forms, joined}
-use Rattle.lrp_model.specs.Variables.{Variable, time_variable, data_variable, same_variable, is_among, are_among, meet, free, free_each}
+use Rattle.lrp_model.specs.Variables.{Variable, time_variable, data_variable, same_variable, variables_of_term, is_among, are_among, meet, free, free_each}
+use Rattle.lrp_model.specs.RawTerms.{said_term}
+use Rattle.lrp_model.specs.declared.raw.RawTerm.{RawTerm}
 use Rattle.lrp_core.specs.Cores.{core_of, cores_of}
 use Rattle.lrp_core.specs.FreeVariables.{variable_of, with_variable, with_variables, each_once, others}
 use Rattle.lrp_core.specs.declared.variables.Variable.{Variable as ProgramVariable}
@@ -150,3 +152,14 @@ are_among-members (v ∷ vs) ws xs same = ap (λ b. b && are_among vs ws) (same 
 pub meet-members : (vs ws xs : List Variable) → ((v : Variable) → is_among ws v ≡ is_among xs v) → meet vs ws ≡ meet vs xs
 meet-members [] ws xs same = refl
 meet-members (v ∷ vs) ws xs same = ap (λ b. b || meet vs ws) (same v) ∙ ap (λ b. is_among xs v || b) (meet-members vs ws xs same)
+
+-- the variables of terms, of which each says one
+said_variables : (ts : List RawTerm) → flat_map variables_of_term (map said_term ts) ≡ flat_map (λ t. variables_of_term (said_term t)) ts
+said_variables [] = refl
+said_variables (t ∷ ts) = ap (λ vs. variables_of_term (said_term t) ++ vs) (said_variables ts)
+
+-- those of some terms, and then those of the next one
+pub said-step : (ts : List RawTerm) (i : ℕ) (t : RawTerm) (old made now : List Variable) → i < length ts → t ≡ get_or ts i t → made ≡ with_variables old (flat_map variables_of_term (map said_term (take i ts))) → now ≡ with_variables made (variables_of_term (said_term t)) → now ≡ with_variables old (flat_map variables_of_term (map said_term (take (i + 1) ts)))
+said-step ts i t old made now lt is before step =
+    each-step (λ t. variables_of_term (said_term t)) ts i t old made now lt is (before ∙ ap (with_variables old) (said_variables (take i ts))) step
+    ∙ ap (with_variables old) (sym (said_variables (take (i + 1) ts)))

@@ -4,63 +4,45 @@ ghost use Rattle.lrp_model.specs.Formulas.{joined};
 ghost use Rattle.lrp_model.specs.Core.{conjuncts, disjuncts};
 ghost use Rattle.lrp_core.specs.Cores.{core_of, cores_of, test_of};
 
-use lrp_model::{Copies, DataTerm, List, Memory, Name, Op, RowPoint, Sort, Term, Test, TimeTerm};
+use lrp_model::{List, Memory, Name, Op, RawTerm, RowPoint, Sort, Test};
 use std::alloc::Global;
 
 /// A test over the terms of a query.
 #[derive(Clone, Copy)]
 pub enum TermTest<'a> {
     Compare {
-        left: &'a TimeTerm,
+        left: &'a RawTerm,
         op: Op,
-        right: &'a TimeTerm,
+        right: &'a RawTerm,
     },
     Member {
-        term: &'a TimeTerm,
+        term: &'a RawTerm,
         point: RowPoint,
     },
     Equal {
-        left: &'a DataTerm,
-        right: &'a DataTerm,
+        left: &'a RawTerm,
+        right: &'a RawTerm,
     },
 }
 
 impl<'a> TermTest<'a> {
-    /// The same test.
-    pub fn of(test: &'a Test) -> TermTest<'a>
-        ensures { test_of result ≡ test.now }
-    {
-        match test {
-            Test::Compare { left, op, right } => TermTest::Compare {
-                left,
-                op: *op,
-                right,
-            },
-            Test::Member { term, point } => TermTest::Member {
-                term,
-                point: *point,
-            },
-            Test::Equal { left, right } => TermTest::Equal { left, right },
-        }
-    }
-
     /// The test with terms of its own.
     pub fn owned(&self, alloc: Global) -> Result<Test, Memory>
         ensures { IfOk result (λ made. made ≡ test_of self.now) }
     {
         match self {
             TermTest::Compare { left, op, right } => Ok(Test::Compare {
-                left: left.copy(alloc)?,
+                left: left.time(alloc)?,
                 op: *op,
-                right: right.copy(alloc)?,
+                right: right.time(alloc)?,
             }),
             TermTest::Member { term, point } => Ok(Test::Member {
-                term: term.copy(alloc)?,
+                term: term.time(alloc)?,
                 point: *point,
             }),
             TermTest::Equal { left, right } => Ok(Test::Equal {
-                left: left.copy(alloc)?,
-                right: right.copy(alloc)?,
+                left: left.data(alloc)?,
+                right: right.data(alloc)?,
             }),
         }
     }
@@ -71,7 +53,7 @@ impl<'a> TermTest<'a> {
 pub enum Core<'a> {
     Atom {
         relation: &'a Name,
-        terms: &'a List<Term>,
+        terms: &'a List<RawTerm>,
     },
     Check {
         test: TermTest<'a>,

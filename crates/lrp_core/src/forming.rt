@@ -1,15 +1,17 @@
 // The core form of a formula, of its negation, and of a query.
-ghost use Rattle.std.specs.Prelude.{◌≡◌, IfOk, OnOk};
+ghost use Rattle.std.specs.Prelude.{◌≡◌, map, IfOk, OnOk};
 ghost use Rattle.lrp_model.specs.Formulas.{form_of, forms_of, question_of, atom, exists, sorted as sorted_form, joined, form, no_forms};
+ghost use Rattle.lrp_model.specs.RawTerms.{said_term};
 ghost use Rattle.lrp_model.specs.Core.{core_form as core_form_of, with_sort, column_elements, head_elements as elements_of, and_list};
 ghost use Rattle.lrp_core.specs.Cores.{core_of, cores_of};
 ghost use Rattle.lrp_core.specs.Junctions.{all_elements, elements, joined_elements};
 ghost use Rattle.lrp_core.specs.Polarities.{all_formed as all_formed_of, formed as formed_of, opposite};
 
 use crate::Core;
+use crate::comparisons::membership;
 use crate::junctions::Junction;
 use crate::polarities::Polarity;
-use lrp_model::{Column, Formula, List, Memory, Name, Query, Sort, Term};
+use lrp_model::{Column, List, Memory, Name, Query, RawColumn, RawFormula, RawKind, RawTerm, Sort};
 use std::alloc::Global;
 
 /// The core form of a query. `named` says whether some column of the database has a named sort.
@@ -87,19 +89,20 @@ fn with_sorted<'a>(
 fn some<'a>(
     alloc: Global,
     named: bool,
-    name: &'a Name,
-    sort: &'a Sort,
+    binder: &'a RawColumn,
     f: Core<'a>,
 ) -> Result<Core<'a>, Memory>
     ensures { IfOk result (λ core. core_of core
-        ≡ exists name.now sort.now (with_sort named sort.now name.now (core_of f.entry))) }
+        ≡ exists binder.now.name binder.now.sort
+        (with_sort named binder.now.sort binder.now.name (core_of f.entry))) }
 {
+    let (name, sort) = (&binder.name, &binder.sort);
     let of = Box::new(alloc, with_sorted(alloc, named, sort, name, f)?)?;
     Ok(Core::Exists { name, sort, of })
 }
 
-fn holding<'a>(relation: &'a Name, terms: &'a List<Term>) -> Core<'a>
-    ensures { core_of result ≡ atom relation.now terms.now }
+fn holding<'a>(relation: &'a Name, terms: &'a List<RawTerm>) -> Core<'a>
+    ensures { core_of result ≡ atom relation.now (map said_term terms.now) }
 {
     Core::Atom { relation, terms }
 }
@@ -129,34 +132,38 @@ impl Forming {
 }
 
 #[cycle(forming)]
-fn formed<'a>(alloc: Global, forming: Forming, f: &'a Formula) -> Result<Core<'a>, Memory>
+fn formed<'a>(alloc: Global, forming: Forming, f: &'a RawFormula) -> Result<Core<'a>, Memory>
     ensures { IfOk result (λ core. core_of core
         ≡ formed_of forming.polarity (form_of f.now) forming.named) }
 {
     let polarity = forming.polarity;
-    match f {
-        Formula::Atom { relation, terms } => polarity.signed(alloc, holding(relation, terms)),
-        Formula::Check { test } => polarity.test(alloc, test),
-        Formula::Not { of } => formed(alloc, forming.denied(), of),
-        Formula::And { of } => {
+    match &f.kind {
+        RawKind::Atom { relation, terms } => polarity.signed(alloc, holding(relation, terms)),
+        RawKind::Compare { left, op, right } => polarity.comparison(alloc, left, *op, right),
+        RawKind::Member { term, point } => polarity.signed(alloc, membership(term, *point)),
+        RawKind::Group { of } => formed(alloc, forming, of),
+        RawKind::Ranged { of, .. } => formed(alloc, forming, of),
+        RawKind::Paired { right, .. } => formed(alloc, forming, right),
+        RawKind::Not { of } => formed(alloc, forming.denied(), of),
+        RawKind::And { of } => {
             let all = all_formed(alloc, forming.under(Polarity::Positive), Junction::And, of)?;
             polarity.signed(alloc, all)
         }
-        Formula::Or { of } => all_formed(alloc, forming, polarity.choice(), of),
-        Formula::Implies { left, right } => {
+        RawKind::Or { of } => all_formed(alloc, forming, polarity.choice(), of),
+        RawKind::Implies { left, right } => {
             let left = formed(alloc, forming.denied(), left)?;
             let right = formed(alloc, forming, right)?;
             polarity.choice().two(alloc, left, right)
         }
-        Formula::Exists { name, sort, of } => {
+        RawKind::Exists { binder, of } => {
             let of = formed(alloc, forming.under(Polarity::Positive), of)?;
-            polarity.signed(alloc, some(alloc, forming.named, name, sort, of)?)
+            polarity.signed(alloc, some(alloc, forming.named, binder, of)?)
         }
-        Formula::Forall { name, sort, of } => {
+        RawKind::Forall { binder, of } => {
             let of = formed(alloc, forming.under(Polarity::Negative), of)?;
             polarity
                 .opposite()
-                .signed(alloc, some(alloc, forming.named, name, sort, of)?)
+                .signed(alloc, some(alloc, forming.named, binder, of)?)
         }
     }
 }
@@ -167,7 +174,7 @@ fn all_formed<'a>(
     alloc: Global,
     forming: Forming,
     junction: Junction,
-    fs: &'a [Formula],
+    fs: &'a [RawFormula],
 ) -> Result<Core<'a>, Memory>
     ensures { IfOk result (λ core. core_of core ≡ joined_elements junction
         (all_formed_of forming.polarity (forms_of fs.now) forming.named)) }
@@ -183,7 +190,7 @@ fn push_all<'a>(
     alloc: Global,
     forming: Forming,
     junction: Junction,
-    fs: &'a [Formula],
+    fs: &'a [RawFormula],
     all: &mut Vec<Core<'a>>,
 ) -> Result<(), Memory>
     ensures { OnOk result (cores_of all.new.items ≡ joined (cores_of all.old.items)
@@ -201,22 +208,25 @@ fn push_one<'a>(
     alloc: Global,
     forming: Forming,
     junction: Junction,
-    f: &'a Formula,
+    f: &'a RawFormula,
     all: &mut Vec<Core<'a>>,
 ) -> Result<(), Memory>
     ensures { OnOk result (cores_of all.new.items ≡ joined (cores_of all.old.items)
         (elements junction (formed_of forming.polarity (form_of f.now) forming.named))) }
 {
     let polarity = forming.polarity;
-    match f {
-        Formula::And { of } if polarity == Polarity::Positive && junction == Junction::And => {
+    match &f.kind {
+        RawKind::Group { of } => push_one(alloc, forming, junction, of, all),
+        RawKind::Ranged { of, .. } => push_one(alloc, forming, junction, of, all),
+        RawKind::Paired { right, .. } => push_one(alloc, forming, junction, right, all),
+        RawKind::And { of } if polarity == Polarity::Positive && junction == Junction::And => {
             push_all(alloc, forming, junction, of, all)
         }
-        Formula::Or { of } if junction == polarity.choice() => {
+        RawKind::Or { of } if junction == polarity.choice() => {
             push_all(alloc, forming, junction, of, all)
         }
-        Formula::Not { of } => push_one(alloc, forming.denied(), junction, of, all),
-        f => {
+        RawKind::Not { of } => push_one(alloc, forming.denied(), junction, of, all),
+        _ => {
             let core = formed(alloc, forming, f)?;
             junction.push(core, all)
         }

@@ -18,4 +18,4 @@ pub use forming::core_form;
 pub use literals::query_texts;
 pub use terms::copy_terms;
 pub use variable_trees::{VariableTree, variable_tree};
-pub use variables::{Variable, add_variables, free_variables};
+pub use variables::{Variable, add_variables, free_variables, test_variables};

@@ -1,15 +1,20 @@
 // The data texts of a query, each with its sort.
-ghost use Rattle.std.specs.Prelude.{◌≡◌, List, [], ◌∷◌, ◌++◌, drop, false, slice_get, IfOk, OnOk};
+ghost use Rattle.std.specs.Prelude.{◌≡◌, List, [], ◌∷◌, ◌++◌, drop, true, false, map, slice_get, IfOk, OnOk};
 ghost use Rattle.lrp_model.specs.Formulas.{form_of, forms_of};
+ghost use Rattle.lrp_model.specs.RawTerms.{data_of, is_data_kind, said_term, said_test};
 ghost use Rattle.lrp_model.specs.Rows.{relation_named, columns_in};
 ghost use Rattle.lrp_model.specs.Domains.{term_texts, sort_beside, text_beside, test_texts, form_texts, forms_texts};
+ghost use Rattle.lrp_model.specs.declared.formulas.DataTerm.TheVariants.{Var as data_name};
+ghost use Rattle.lrp_model.specs.declared.formulas.Test.TheVariants.{Equal};
 ghost use Rattle.lrp_model.specs.declared.relations.Sort.{Sort as SortOf};
 ghost use Rattle.lrp_model.specs.declared.relations.Column.{Column as ColumnOf};
 ghost use Rattle.lrp_core.specs.Literals.{AddsTexts, one_text, one_in};
 
+use crate::comparisons::are_data;
 use lrp_database::Database;
 use lrp_model::{
-    Column, Copies, DataTerm, DataText, Formula, List, Memory, Name, Query, Sort, Term, Test,
+    Column, Copies, DataText, List, Memory, Name, Op, Query, RawFormula, RawKind, RawTerm,
+    RawTermKind, Sort,
 };
 use std::alloc::Global;
 
@@ -18,6 +23,14 @@ use std::alloc::Global;
 struct Lookup<'a> {
     alloc: Global,
     database: &'a Database,
+}
+
+// A comparison's terms.
+#[derive(Clone, Copy)]
+struct Sides<'a> {
+    left: &'a RawTerm,
+    op: Op,
+    right: &'a RawTerm,
 }
 
 /// The data texts of a query's body in order, each with its sort: that of its column, or of the variable that it is equal to.
@@ -40,29 +53,40 @@ pub fn query_texts(
 #[cycle(literals)]
 fn add_formula(
     lookup: Lookup<'_>,
-    f: &Formula,
+    f: &RawFormula,
     binders: &mut Vec<Column>,
     all: &mut Vec<(Sort, DataText)>,
 ) -> Result<(), Memory>
     ensures { OnOk result (AddsTexts (form_texts (form_of f.now) lookup.entry.database.now
         binders.old.items) binders.old.items binders.new.items all.old.items all.new.items) }
 {
-    match f {
-        Formula::Atom { relation, terms } => add_atom(lookup, relation, terms.as_slice(), all),
-        Formula::Check { test } => add_test(lookup.alloc, test, binders.as_slice(), all),
-        Formula::Not { of } => add_formula(lookup, of, binders, all),
-        Formula::And { of } => add_formulas(lookup, of, binders, all),
-        Formula::Or { of } => add_formulas(lookup, of, binders, all),
-        Formula::Implies { left, right } => {
+    match &f.kind {
+        RawKind::Atom { relation, terms } => add_atom(lookup, relation, terms.as_slice(), all),
+        RawKind::Compare { left, op, right } => {
+            let sides = Sides {
+                left,
+                op: *op,
+                right,
+            };
+            add_comparison(lookup.alloc, sides, binders.as_slice(), all)
+        }
+        RawKind::Member { .. } => Ok(()),
+        RawKind::Group { of } => add_formula(lookup, of, binders, all),
+        RawKind::Ranged { of, .. } => add_formula(lookup, of, binders, all),
+        RawKind::Paired { right, .. } => add_formula(lookup, right, binders, all),
+        RawKind::Not { of } => add_formula(lookup, of, binders, all),
+        RawKind::And { of } => add_formulas(lookup, of, binders, all),
+        RawKind::Or { of } => add_formulas(lookup, of, binders, all),
+        RawKind::Implies { left, right } => {
             add_formula(lookup, left, binders, all)?;
             add_formula(lookup, right, binders, all)
         }
-        Formula::Exists { name, sort, of } => {
-            let binder = binder_of(lookup.alloc, name, sort)?;
+        RawKind::Exists { binder, of } => {
+            let binder = binder_of(lookup.alloc, &binder.name, &binder.sort)?;
             add_bound(lookup, binder, of, binders, all)
         }
-        Formula::Forall { name, sort, of } => {
-            let binder = binder_of(lookup.alloc, name, sort)?;
+        RawKind::Forall { binder, of } => {
+            let binder = binder_of(lookup.alloc, &binder.name, &binder.sort)?;
             add_bound(lookup, binder, of, binders, all)
         }
     }
@@ -71,7 +95,7 @@ fn add_formula(
 #[cycle(literals)]
 fn add_formulas(
     lookup: Lookup<'_>,
-    fs: &[Formula],
+    fs: &[RawFormula],
     binders: &mut Vec<Column>,
     all: &mut Vec<(Sort, DataText)>,
 ) -> Result<(), Memory>
@@ -89,7 +113,7 @@ fn add_formulas(
 fn add_bound(
     lookup: Lookup<'_>,
     binder: Column,
-    of: &Formula,
+    of: &RawFormula,
     binders: &mut Vec<Column>,
     all: &mut Vec<(Sort, DataText)>,
 ) -> Result<(), Memory>
@@ -115,12 +139,12 @@ fn binder_of(alloc: Global, name: &Name, sort: &Sort) -> Result<Column, Memory>
 fn add_atom(
     lookup: Lookup<'_>,
     relation: &Name,
-    terms: &[Term],
+    terms: &[RawTerm],
     all: &mut Vec<(Sort, DataText)>,
 ) -> Result<(), Memory>
     ensures { OnOk result (all.new.items ≡ all.old.items
         ++ term_texts (columns_in (relation_named lookup.entry.database.now relation.now))
-        terms.now) }
+        (map said_term terms.now)) }
 {
     if !has_text(terms) {
         return Ok(());
@@ -132,8 +156,8 @@ fn add_atom(
 }
 
 // Whether some term is a data text. Without one the relation need not be looked up.
-fn has_text(terms: &[Term]) -> bool
-    ensures { result ≡ false → (columns : List ColumnOf) → term_texts columns terms.now ≡ [] }
+fn has_text(terms: &[RawTerm]) -> bool
+    ensures { result ≡ false → (columns : List ColumnOf) → term_texts columns (map said_term terms.now) ≡ [] }
 {
     for term in terms {
         if is_text(term) {
@@ -143,27 +167,19 @@ fn has_text(terms: &[Term]) -> bool
     false
 }
 
-fn is_text(term: &Term) -> bool
-    ensures { result ≡ false → (sort : SortOf) → one_text sort term.now ≡ [] }
+fn is_text(term: &RawTerm) -> bool
+    ensures { result ≡ false → (sort : SortOf) → one_text sort (said_term term.now) ≡ [] }
 {
-    match term {
-        Term::Data {
-            term: DataTerm::Const { .. },
-        } => true,
-        Term::Data {
-            term: DataTerm::Var { .. },
-        } => false,
-        Term::Time { .. } => false,
-    }
+    matches!(&term.kind, RawTermKind::Text { .. })
 }
 
 fn add_terms(
     alloc: Global,
     columns: &[Column],
-    terms: &[Term],
+    terms: &[RawTerm],
     all: &mut Vec<(Sort, DataText)>,
 ) -> Result<(), Memory>
-    ensures { OnOk result (all.new.items ≡ all.old.items ++ term_texts columns.now terms.now) }
+    ensures { OnOk result (all.new.items ≡ all.old.items ++ term_texts columns.now (map said_term terms.now)) }
 {
     for (i, term) in terms.iter().enumerate() {
         add_at(alloc, columns, i, term, all)?;
@@ -176,11 +192,11 @@ fn add_at(
     alloc: Global,
     columns: &[Column],
     i: usize,
-    term: &Term,
+    term: &RawTerm,
     all: &mut Vec<(Sort, DataText)>,
 ) -> Result<(), Memory>
     ensures { OnOk result (all.new.items ≡ all.old.items
-        ++ one_in (slice_get columns.now i) term.now) }
+        ++ one_in (slice_get columns.now i) (said_term term.now)) }
 {
     if i < columns.len() {
         return add_term(alloc, &columns[i].sort, term, all);
@@ -191,72 +207,89 @@ fn add_at(
 fn add_term(
     alloc: Global,
     sort: &Sort,
-    term: &Term,
+    term: &RawTerm,
     all: &mut Vec<(Sort, DataText)>,
 ) -> Result<(), Memory>
-    ensures { OnOk result (all.new.items ≡ all.old.items ++ one_text sort.now term.now) }
+    ensures { OnOk result (all.new.items ≡ all.old.items ++ one_text sort.now (said_term term.now)) }
 {
-    match term {
-        Term::Data {
-            term: DataTerm::Const { text },
-        } => add(alloc, sort, text, all),
-        Term::Data {
-            term: DataTerm::Var { .. },
-        } => Ok(()),
-        Term::Time { .. } => Ok(()),
+    match &term.kind {
+        RawTermKind::Text { text } => add(alloc, sort, text, all),
+        RawTermKind::Var { .. } => Ok(()),
+        RawTermKind::Int { .. } => Ok(()),
+        RawTermKind::Shifted { .. } => Ok(()),
     }
 }
 
-fn add_test(
+fn add_comparison(
     alloc: Global,
-    test: &Test,
+    sides: Sides<'_>,
     binders: &[Column],
     all: &mut Vec<(Sort, DataText)>,
 ) -> Result<(), Memory>
-    ensures { OnOk result (all.new.items ≡ all.old.items ++ test_texts binders.now test.now) }
+    ensures { OnOk result (all.new.items ≡ all.old.items ++ test_texts binders.now
+        (said_test sides.entry.left.now sides.entry.op sides.entry.right.now)) }
 {
-    match test {
-        Test::Equal { left, right } => {
-            add_beside(alloc, right, left, binders, all)?;
-            add_beside(alloc, left, right, binders, all)
-        }
-        Test::Compare { .. } => Ok(()),
-        Test::Member { .. } => Ok(()),
+    let Sides { left, op, right } = sides;
+    if are_data(left, op, right) {
+        return add_both(alloc, left, right, binders, all);
     }
+    Ok(())
 }
 
-// The text of a side of an equality, by the other side.
+// The texts of both sides of an equality of data terms.
+fn add_both(
+    alloc: Global,
+    left: &RawTerm,
+    right: &RawTerm,
+    binders: &[Column],
+    all: &mut Vec<(Sort, DataText)>,
+) -> Result<(), Memory>
+    requires left_is_data { is_data_kind left.now.kind ≡ true }
+    requires right_is_data { is_data_kind right.now.kind ≡ true }
+    ensures { OnOk result (all.new.items ≡ all.old.items ++ test_texts binders.now
+        (Equal (data_of left.now.kind) (data_of right.now.kind))) }
+{
+    add_beside(alloc, right, left, binders, all)?;
+    add_beside(alloc, left, right, binders, all)
+}
+
+// The text of a side of an equality, by the other side; both are data terms.
 fn add_beside(
     alloc: Global,
-    other: &DataTerm,
-    own: &DataTerm,
+    other: &RawTerm,
+    own: &RawTerm,
     binders: &[Column],
     all: &mut Vec<(Sort, DataText)>,
 ) -> Result<(), Memory>
+    requires { is_data_kind own.now.kind ≡ true }
     ensures { OnOk result (all.new.items ≡ all.old.items
-        ++ text_beside binders.now other.now own.now) }
+        ++ text_beside binders.now (data_of other.now.kind) (data_of own.now.kind)) }
 {
-    match own {
-        DataTerm::Var { .. } => Ok(()),
-        DataTerm::Const { text } => {
+    match &own.kind {
+        RawTermKind::Text { text } => {
             let sort = sort_of(alloc, binders, other)?;
             add(alloc, &sort, text, all)
         }
+        RawTermKind::Var { .. } => Ok(()),
+        RawTermKind::Int { .. } => Ok(()),
+        RawTermKind::Shifted { .. } => Ok(()),
     }
 }
 
 // The sort of a data term: that of its variable's innermost binder, or `data`.
-fn sort_of(alloc: Global, binders: &[Column], term: &DataTerm) -> Result<Sort, Memory>
-    ensures { IfOk result (λ sort. sort ≡ sort_beside binders.now term.now) }
+fn sort_of(alloc: Global, binders: &[Column], term: &RawTerm) -> Result<Sort, Memory>
+    ensures { IfOk result (λ sort. sort ≡ sort_beside binders.now (data_of term.now.kind)) }
 {
-    match term {
-        DataTerm::Const { .. } => Ok(Sort::Data),
-        DataTerm::Var { name } => sort_of_name(alloc, binders, name),
+    match &term.kind {
+        RawTermKind::Var { name } => sort_of_name(alloc, binders, name),
+        RawTermKind::Text { .. } => Ok(Sort::Data),
+        RawTermKind::Int { .. } => Ok(Sort::Data),
+        RawTermKind::Shifted { .. } => Ok(Sort::Data),
     }
 }
 
 fn sort_of_name(alloc: Global, binders: &[Column], name: &Name) -> Result<Sort, Memory>
-    ensures { IfOk result (λ sort. sort ≡ sort_beside binders.now (DataTerm.Var name.now)) }
+    ensures { IfOk result (λ sort. sort ≡ sort_beside binders.now (data_name name.now)) }
 {
     for column in binders {
         if column.name == *name {

@@ -1,12 +1,13 @@
 // Whether a formula is formed, or its negation.
 ghost use Rattle.std.specs.Prelude.{◌≡◌, IfOk};
+ghost use Rattle.lrp_model.specs.RawTerms.{said_test};
 ghost use Rattle.lrp_core.specs.Cores.{core_of};
 ghost use Rattle.lrp_core.specs.Polarities.{choice as choice_of, formed_test, opposite as opposite_of, with_polarity as signed_of};
 
 use crate::Core;
-use crate::comparisons::{negated, negative_test, positive_test};
+use crate::comparisons::{negated, negative_comparison, positive_comparison};
 use crate::junctions::Junction;
-use lrp_model::{Memory, Test};
+use lrp_model::{Memory, Op, RawTerm};
 use std::alloc::Global;
 
 /// The formula, or its negation.
@@ -47,13 +48,20 @@ impl Polarity {
         }
     }
 
-    /// The core form of a test, or of its negation.
-    pub fn test<'a>(self, alloc: Global, test: &'a Test) -> Result<Core<'a>, Memory>
-        ensures { IfOk result (λ core. core_of core ≡ formed_test self test.now) }
+    /// The core form of a comparison, or of its negation.
+    pub fn comparison<'a>(
+        self,
+        alloc: Global,
+        left: &'a RawTerm,
+        op: Op,
+        right: &'a RawTerm,
+    ) -> Result<Core<'a>, Memory>
+        ensures { IfOk result (λ core. core_of core
+            ≡ formed_test self (said_test left.now op right.now)) }
     {
         match self {
-            Polarity::Positive => Ok(positive_test(test)),
-            Polarity::Negative => negative_test(alloc, test),
+            Polarity::Positive => Ok(positive_comparison(left, op, right)),
+            Polarity::Negative => negative_comparison(alloc, left, op, right),
         }
     }
 }

@@ -1,16 +1,17 @@
 // Copies of the terms of an atom.
-ghost use Rattle.std.specs.Prelude.{◌≡◌, IfOk};
+ghost use Rattle.std.specs.Prelude.{◌≡◌, map, IfOk};
+ghost use Rattle.lrp_model.specs.RawTerms.{said_term};
 
-use lrp_model::{Copies, List, Memory, Term};
+use lrp_model::{List, Memory, RawTerm, Term};
 use std::alloc::Global;
 
-/// An equal list of terms, with no more room than it needs.
-pub fn copy_terms(alloc: Global, terms: &[Term]) -> Result<List<Term>, Memory>
-    ensures { IfOk result (λ made. made ≡ terms.now) }
+/// What the terms say, with no more room than it needs.
+pub fn copy_terms(alloc: Global, terms: &[RawTerm]) -> Result<List<Term>, Memory>
+    ensures { IfOk result (λ made. made ≡ map said_term terms.now) }
 {
     let mut made = Vec::with_capacity(alloc, terms.len())?;
     for term in terms {
-        made.push(term.copy(alloc)?)?;
+        made.push(term.said(alloc)?)?;
     }
     Ok(List::from_vec(made))
 }

@@ -2,11 +2,12 @@
 ghost use Rattle.std.specs.Prelude.{◌≡◌, [], ◌∷◌, IfOk, OnOk, map, true};
 ghost use Rattle.std.specs.List.{flat_map};
 ghost use Rattle.lrp_model.specs.Variables.{Variable as VariableOf, bound_by, same_variable, is_among as is_member, variables_of_time, variables_of_data, variables_of_term, variables_of_test, free, free_each};
+ghost use Rattle.lrp_model.specs.RawTerms.{time_of, data_of, said_term};
 ghost use Rattle.lrp_core.specs.Cores.{core_of, cores_of, test_of};
 ghost use Rattle.lrp_core.specs.FreeVariables.{variable_of, with_variable, with_variables, others, each_once};
 
 use crate::{Core, TermTest};
-use lrp_model::{Copies, DataTerm, List, Memory, Name, Sort, Term, TimeTerm};
+use lrp_model::{Copies, DataTerm, List, Memory, Name, RawTerm, RawTermKind, Sort, Test, TimeTerm};
 use std::alloc::Global;
 
 /// A variable for integers, or one for data texts. Two variables are one where their kinds and their names are.
@@ -39,6 +40,45 @@ pub fn free_variables(alloc: Global, core: &Core<'_>) -> Result<List<Variable>, 
     let mut all = few(alloc)?;
     add_free(alloc, &mut all, core)?;
     Ok(all)
+}
+
+/// The variables of a test, each once, in order of their first occurrences.
+pub fn test_variables(alloc: Global, test: &Test) -> Result<List<Variable>, Memory>
+    ensures { IfOk result (λ made. map variable_of made ≡ each_once (variables_of_test test.now)) }
+{
+    let mut all = few(alloc)?;
+    match test {
+        Test::Compare { left, right, .. } => {
+            add_time_of(alloc, &mut all, left)?;
+            add_time_of(alloc, &mut all, right)?;
+        }
+        Test::Member { term, .. } => add_time_of(alloc, &mut all, term)?,
+        Test::Equal { left, right } => {
+            add_data_of(alloc, &mut all, left)?;
+            add_data_of(alloc, &mut all, right)?;
+        }
+    }
+    Ok(all)
+}
+
+fn add_time_of(alloc: Global, all: &mut List<Variable>, term: &TimeTerm) -> Result<(), Memory>
+    ensures { OnOk result (map variable_of all.new
+        ≡ with_variables (map variable_of all.old) (variables_of_time term.now)) }
+{
+    match term {
+        TimeTerm::Var { name, .. } => add_time(alloc, all, name),
+        TimeTerm::Int { .. } => Ok(()),
+    }
+}
+
+fn add_data_of(alloc: Global, all: &mut List<Variable>, term: &DataTerm) -> Result<(), Memory>
+    ensures { OnOk result (map variable_of all.new
+        ≡ with_variables (map variable_of all.old) (variables_of_data term.now)) }
+{
+    match term {
+        DataTerm::Var { name } => add_data(alloc, all, name),
+        DataTerm::Const { .. } => Ok(()),
+    }
 }
 
 // An empty list with room for two: few formulas have more variables, and of those that stand in long ones each takes its room.
@@ -152,39 +192,46 @@ fn add_data(alloc: Global, all: &mut List<Variable>, name: &Name) -> Result<(), 
     Ok(())
 }
 
-fn add_time_term(alloc: Global, all: &mut List<Variable>, term: &TimeTerm) -> Result<(), Memory>
+fn add_time_term(alloc: Global, all: &mut List<Variable>, term: &RawTerm) -> Result<(), Memory>
     ensures { OnOk result (map variable_of all.new
-        ≡ with_variables (map variable_of all.old) (variables_of_time term.now)) }
+        ≡ with_variables (map variable_of all.old) (variables_of_time (time_of term.now.kind))) }
 {
-    match term {
-        TimeTerm::Var { name, .. } => add_time(alloc, all, name),
-        TimeTerm::Int { .. } => Ok(()),
+    match &term.kind {
+        RawTermKind::Var { name } => add_time(alloc, all, name),
+        RawTermKind::Shifted { name, .. } => add_time(alloc, all, name),
+        RawTermKind::Int { .. } => Ok(()),
+        RawTermKind::Text { .. } => Ok(()),
     }
 }
 
-fn add_data_term(alloc: Global, all: &mut List<Variable>, term: &DataTerm) -> Result<(), Memory>
+fn add_data_term(alloc: Global, all: &mut List<Variable>, term: &RawTerm) -> Result<(), Memory>
     ensures { OnOk result (map variable_of all.new
-        ≡ with_variables (map variable_of all.old) (variables_of_data term.now)) }
+        ≡ with_variables (map variable_of all.old) (variables_of_data (data_of term.now.kind))) }
 {
-    match term {
-        DataTerm::Var { name } => add_data(alloc, all, name),
-        DataTerm::Const { .. } => Ok(()),
+    match &term.kind {
+        RawTermKind::Var { name } => add_data(alloc, all, name),
+        RawTermKind::Text { .. } => Ok(()),
+        RawTermKind::Int { .. } => Ok(()),
+        RawTermKind::Shifted { .. } => Ok(()),
     }
 }
 
-fn add_term(alloc: Global, all: &mut List<Variable>, term: &Term) -> Result<(), Memory>
+fn add_term(alloc: Global, all: &mut List<Variable>, term: &RawTerm) -> Result<(), Memory>
     ensures { OnOk result (map variable_of all.new
-        ≡ with_variables (map variable_of all.old) (variables_of_term term.now)) }
+        ≡ with_variables (map variable_of all.old) (variables_of_term (said_term term.now))) }
 {
-    match term {
-        Term::Time { term } => add_time_term(alloc, all, term),
-        Term::Data { term } => add_data_term(alloc, all, term),
+    match &term.kind {
+        RawTermKind::Shifted { name, .. } => add_time(alloc, all, name),
+        RawTermKind::Var { name } => add_data(alloc, all, name),
+        RawTermKind::Int { .. } => Ok(()),
+        RawTermKind::Text { .. } => Ok(()),
     }
 }
 
-fn add_terms(alloc: Global, all: &mut List<Variable>, terms: &[Term]) -> Result<(), Memory>
+fn add_terms(alloc: Global, all: &mut List<Variable>, terms: &[RawTerm]) -> Result<(), Memory>
     ensures { OnOk result (map variable_of all.new
-        ≡ with_variables (map variable_of all.old) (flat_map variables_of_term terms.now)) }
+        ≡ with_variables (map variable_of all.old)
+        (flat_map variables_of_term (map said_term terms.now))) }
 {
     for term in terms {
         add_term(alloc, all, term)?;

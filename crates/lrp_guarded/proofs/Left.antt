@@ -1,6 +1,8 @@
 -- What is left of an `and`: its variables, and the sort elements that are needed still.
 use Rattle.std.proofs.Common.{◌≡◌, ◌+◌, ◌<◌, ◌≤◌, ℕ, zero, suc, Bool, true, false, ◌||◌, List, [], ◌∷◌, ◌++◌, length, drop, get_or, map, flat_map, refl, sym, ap, ◌∙◌, append_assoc, arith}
 use Rattle.std.proofs.lemmas.List.{drop_more}
+use Rattle.lrp_model.specs.declared.raw.RawTerm.{RawTerm}
+use Rattle.lrp_model.specs.RawTerms.{said_term}
 use Rattle.lrp_core.specs.FreeVariables.{variable_of, with_variables}
 use Rattle.lrp_core.specs.VariableTrees.{tree_of, free_tree}
 use Rattle.lrp_core.specs.declared.core_forms.Core.{Core}
@@ -45,8 +47,8 @@ alone_end e [] = refl
 alone_end e (c ∷ cs) = refl
 
 -- no term is left
-pub alone_past : (e : SortElement) (cs : List Column) (ts : List Term) (i : ℕ) → length ts ≤ i → stands_alone e (drop i cs) (drop i ts) ≡ false
-alone_past e cs ts i le = ap (stands_alone e (drop i cs)) (drop_all ts i le) ∙ alone_end e (drop i cs)
+pub alone_past : (e : SortElement) (cs : List Column) (ts : List RawTerm) (i : ℕ) → length ts ≤ i → stands_alone e (drop i cs) (map said_term (drop i ts)) ≡ false
+alone_past e cs ts i le = ap (λ x. stands_alone e (drop i cs) (map said_term x)) (drop_all ts i le) ∙ alone_end e (drop i cs)
 
 -- no column is left
 pub alone_none : (e : SortElement) (cs : List Column) (ts : List Term) (i : ℕ) → length cs ≤ i → stands_alone e (drop i cs) ts ≡ false

@@ -2,6 +2,7 @@
 use Rattle.std.proofs.Common.{◌≡◌, ◌<◌, ◌≤◌, ◌+◌, ℕ, zero, suc, Bool, true, false, cond, List, [], ◌∷◌, ◌++◌, length, take, map, Some, slice_get, refl, sym, ap, subst, ◌∙◌, append_assoc, append-nil, get_or}
 use Rattle.std.specs.List.{AllZip, AllByRecursion}
 use Rattle.std.proofs.lemmas.List.{take_more}
+use Rattle.lrp_model.specs.RawTerms.{said_term}
 use Rattle.lrp_core.specs.Cores.{core_of, cores_of}
 use Rattle.lrp_core.specs.FreeVariables.{variable_of}
 use Rattle.lrp_core.specs.VariableTrees.{tree_of, trees_of, free_tree}
@@ -139,7 +140,7 @@ tree_same : (own : VariableTree) (f : Form) → tree_of own ≡ free_tree f → 
 tree_same own f e = same_as_once (map variable_of (out-VariableTree own).variables) (free f) (tree_variables _ _ _ _ (sym (tree_of-opened own) ∙ e))
 
 module _ (over : Ground) (K index : ℕ) (core : Core) (own : VariableTree) (old new : Elements) where
-  pub atom_out : (name : Identifier) (terms : List Term) (e : RankedAtom) → core_of core ≡ atom name terms → e.relation.now ≡ name → e.terms.now ≡ terms → map variable_of e.variables.now ≡ map variable_of (out-VariableTree own).variables → e.rows ≡ length (rows_of over.structure.relations name)
+  pub atom_out : (name : Identifier) (terms : List Term) (e : RankedAtom) → core_of core ≡ atom name terms → e.relation.now ≡ name → map said_term e.terms.now ≡ terms → map variable_of e.variables.now ≡ map variable_of (out-VariableTree own).variables → e.rows ≡ length (rows_of over.structure.relations name)
       → new.atoms.items ≡ old.atoms.items ++ e ∷ [] → new.sorts.items ≡ old.sorts.items → new.others.items ≡ old.others.items → new.tests ≡ old.tests → new.negations.items ≡ old.negations.items → SortsOut over K index core own old new
   atom_out name terms e is n t v r a s o ts ns = record {
     next = λ fs gs stands known can h.

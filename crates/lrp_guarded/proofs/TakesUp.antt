@@ -1,6 +1,7 @@
 -- An atom, a sort element or a test is made and taken up; variables are brought, and spent ones dropped.
 use Rattle.std.proofs.Common.{◌≡◌, ◌≤◌, ◌<◌, ◌+◌, ℕ, zero, suc, Bool, true, false, cond, not, List, [], ◌∷◌, ◌++◌, length, take, Option, Some, None, is_some, filter, map, slice_get, get_or, remove, refl, sym, ap, ap₂, subst, ◌∙◌, arith}
 use Rattle.std.specs.List.{AllZip}
+use Rattle.lrp_model.specs.RawTerms.{said_term}
 use Rattle.lrp_core.specs.FreeVariables.{variable_of, with_variables}
 use Rattle.lrp_core.specs.declared.core_forms.Core.{Core}
 use Rattle.lrp_core.specs.declared.variables.Variable.{Variable as ProgramVariable}
@@ -110,12 +111,12 @@ module _ (index : ℕ) (before : Making) (old : ProgramStanding) where
 
 -- the atom that a value of the program is
 abbrev pub atom_of : RankedAtom → Atom
-atom_of e = record { name = e.relation.now; terms = e.terms.now }
+atom_of e = record { name = e.relation.now; terms = map said_term e.terms.now }
 
 module _ (index : ℕ) (before mid after : Making) (old new : ProgramStanding) (left : Elements) where
   pub atom_taken : (e : RankedAtom) → index < length old.left.atoms.items → e ≡ get_or old.left.atoms.items index e → left.atoms.items ≡ remove old.left.atoms.items index
-      → left.sorts.items ≡ filter (λ x. not (stands_alone (sort_element x) (columns_in (relation_named before.sources.now.database.now e.relation.now)) e.terms.now)) old.left.sorts.items → left.others ≡ old.left.others → left.tests ≡ old.left.tests → left.negations ≡ old.left.negations
-      → ((over : Ground) (K : ℕ) (steps : Steps) → true ≡ true → CanPlan over.structure K (atom e.relation.now e.terms.now) → IsMaking over K before steps → IsMaking over K mid (scan_of e.relation.now e.terms.now over.structure steps))
+      → left.sorts.items ≡ filter (λ x. not (stands_alone (sort_element x) (columns_in (relation_named before.sources.now.database.now e.relation.now)) (map said_term e.terms.now))) old.left.sorts.items → left.others ≡ old.left.others → left.tests ≡ old.left.tests → left.negations ≡ old.left.negations
+      → ((over : Ground) (K : ℕ) (steps : Steps) → true ≡ true → CanPlan over.structure K (atom e.relation.now (map said_term e.terms.now)) → IsMaking over K before steps → IsMaking over K mid (scan_of e.relation.now (map said_term e.terms.now) over.structure steps))
       → ((vs : List Variable) → HaveSame (map variable_of e.variables.now) vs → Follows (taking_up true vs) mid after (with_left old left) new)
       → Follows (λ over at. take_atom over index (slice_get at.atoms index) at) before after old new
   atom_taken e lt is ea es eo et en makes up = record {
@@ -127,20 +128,20 @@ module _ (index : ℕ) (before mid after : Making) (old new : ProgramStanding) (
         let same : atom_of e ≡ a = ap₂ (λ n ts. record { name = n; terms = ts }) h.name h.terms in
         let can : CanPlan over.structure K (atom_form (atom_of e)) = subst (λ b. CanPlan over.structure K (atom_form b)) (sym same) h.can in
         let vs : HaveSame (map variable_of e.variables.now) (free (atom_form (atom_of e))) = subst (λ b. HaveSame (map variable_of e.variables.now) (free (atom_form b))) (sym same) h.variables in
-        let m : IsMaking over K mid (scan_of e.relation.now e.terms.now over.structure at.steps) = makes over K at.steps refl can s.making in
+        let m : IsMaking over K mid (scan_of e.relation.now (map said_term e.terms.now) over.structure at.steps) = makes over K at.steps refl can s.making in
         let rest : Standing = record at { atoms = remove at.atoms index; sorts = still_needed over.structure (atom_of e) at.sorts } in
-        let sorts : left.sorts.items ≡ filter (λ x. not (stands_alone (sort_element x) (columns_in (relation_named over.structure.relations e.relation.now)) e.terms.now)) old.left.sorts.items =
-        es ∙ ap (λ db. filter (λ x. not (stands_alone (sort_element x) (columns_in (relation_named db e.relation.now)) e.terms.now)) old.left.sorts.items) s.making.database in
+        let sorts : left.sorts.items ≡ filter (λ x. not (stands_alone (sort_element x) (columns_in (relation_named over.structure.relations e.relation.now)) (map said_term e.terms.now))) old.left.sorts.items =
+        es ∙ ap (λ db. filter (λ x. not (stands_alone (sort_element x) (columns_in (relation_named db e.relation.now)) (map said_term e.terms.now))) old.left.sorts.items) s.making.database in
         let are : AreLeft over K fs left rest = record {
           atoms = subst (λ xs. AllZip (IsAtom over K) xs (remove at.atoms index)) (sym ea) (zip_remove (IsAtom over K) old.left.atoms.items at.atoms index l.atoms);
           sorts = subst (λ xs. AllZip IsSortElement xs (still_needed over.structure (atom_of e) at.sorts)) (sym sorts)
-              (zip_filter IsSortElement _ _ (λ x y r. ap (λ z. not (stands_alone z (columns_in (relation_named over.structure.relations e.relation.now)) e.terms.now)) (ap₂ (λ t v. record { sort = t; variable = v }) r.sort r.name)) old.left.sorts.items at.sorts l.sorts);
+              (zip_filter IsSortElement _ _ (λ x y r. ap (λ z. not (stands_alone z (columns_in (relation_named over.structure.relations e.relation.now)) (map said_term e.terms.now))) (ap₂ (λ t v. record { sort = t; variable = v }) r.sort r.name)) old.left.sorts.items at.sorts l.sorts);
           others = subst (λ xs. AllZip (IsPart over K fs) xs.items at.others) (sym eo) l.others;
           tests = et ∙ l.tests;
           are_tests = l.are_tests;
           negations = subst (λ xs. AllZip (IsDenied over K fs) xs.items at.negations) (sym en) l.negations;
         } in
-        let r = taken_so before mid after old new left (free (atom_form (atom_of e))) over K fs _ (atom e.relation.now e.terms.now) at rest s are m (up (free (atom_form (atom_of e))) vs) in
+        let r = taken_so before mid after old new left (free (atom_form (atom_of e))) over K fs _ (atom e.relation.now (map said_term e.terms.now)) at rest s are m (up (free (atom_form (atom_of e))) vs) in
         subst (λ o. Stands over K fs after new (take_atom over index o at)) (sym got.1) (subst (λ b. Stands over K fs after new (take_atom over index (Some b) at)) same r);
   }
 

@@ -1,6 +1,7 @@
 -- How where the making of an `and` stands in the program follows the rules of an `and` under guards.
 use Rattle.std.specs.Prelude.{◌≡◌, ℕ, zero, suc, Bool, cond, List, [], ◌++◌, length, Option, Some, None, map, slice_get}
 use Rattle.std.specs.List.{AllZip}
+use Rattle.lrp_model.specs.RawTerms.{said_term}
 use Rattle.lrp_core.specs.Cores.{core_of}
 use Rattle.lrp_core.specs.FreeVariables.{variable_of}
 use Rattle.lrp_core.specs.VariableTrees.{tree_of, free_tree}
@@ -29,7 +30,7 @@ use Rattle.lrp_guarded.specs.declared.making.Making.{Making}
 -- an atom of the program
 pub record IsAtom (over : Ground) (K : ℕ) (e : RankedAtom) (a : Atom) : Type 0 where
   pub name : e.relation.now ≡ a.name
-  pub terms : e.terms.now ≡ a.terms
+  pub terms : map said_term e.terms.now ≡ a.terms
   pub variables : HaveSame (map variable_of e.variables.now) (free (atom_form a))
   pub can : CanPlan over.structure K (atom_form a)
 

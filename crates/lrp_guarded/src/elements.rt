@@ -1,12 +1,12 @@
 // The elements of an `and` that are left.
 use lrp_core::{Variable, VariableTree};
-use lrp_model::{List, Name, Sort, Term, Test};
+use lrp_model::{List, Name, RawTerm, Sort, Test};
 
 /// An atom, with its free variables and the number of its relation's rows.
 #[derive(Clone, Copy)]
 pub(crate) struct RankedAtom<'a> {
     pub(crate) relation: &'a Name,
-    pub(crate) terms: &'a List<Term>,
+    pub(crate) terms: &'a List<RawTerm>,
     pub(crate) variables: &'a List<Variable>,
     pub(crate) rows: u64,
 }

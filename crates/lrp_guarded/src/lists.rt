@@ -3,7 +3,7 @@ ghost use Rattle.std.specs.Prelude.{◌≡◌, ◌++◌, ◌∷◌, [], cond, no
 ghost use Rattle.lrp_core.specs.FreeVariables.{variable_of, with_variables, each_once};
 ghost use Rattle.lrp_model.specs.Variables.{bound_by, is_among, variables_of_test};
 
-use lrp_core::{Core, TermTest, Variable, add_variables, free_variables};
+use lrp_core::{Variable, add_variables, test_variables};
 use lrp_model::{Copies, List, Memory, Name, Sort, Test};
 use std::alloc::Global;
 
@@ -65,14 +65,6 @@ fn keep_if(
         found.push(variable.copy(alloc)?)?;
     }
     Ok(())
-}
-
-/// The variables of a test, each once.
-pub(crate) fn test_variables(alloc: Global, test: &Test) -> Result<List<Variable>, Memory>
-    ensures { IfOk result (λ made. map variable_of made ≡ each_once (variables_of_test test.now)) }
-{
-    let test = TermTest::of(test);
-    free_variables(alloc, &Core::Check { test })
 }
 
 /// The variables of tests, each after the others where it is none of them yet.

@@ -18,8 +18,8 @@ ghost use Rattle.lrp_plan.specs.Sources.{AreSources};
 ghost use Rattle.lrp_plan.specs.Taking.{HaveSame};
 ghost use Rattle.lrp_guarded.specs.Making.{IsMaking, AreDataSorts, Makes, MakesFrom, MakesTo, DropsFrom};
 
-use crate::lists::{add_test, add_tests, test_variables, without};
-use lrp_core::{Core, Variable, add_variables, free_variables};
+use crate::lists::{add_test, add_tests, without};
+use lrp_core::{Core, Variable, add_variables, free_variables, test_variables};
 use lrp_model::{Copies, List, Memory, Test};
 use lrp_plan::drafts::{Draft, PlannedOperand};
 use lrp_plan::leaves::{plan_atom, plan_sorted, plan_test};

@@ -3,6 +3,7 @@ ghost use Rattle.std.specs.Prelude.{◌≡◌, ℕ, ◌&&◌, List as ListOf, fi
 ghost use Rattle.std.specs.Str.{bytes_eq};
 ghost use Rattle.lrp_core.specs.FreeVariables.{variable_of, with_variables};
 ghost use Rattle.lrp_core.specs.declared.core_forms.Core.{Core as CoreForm};
+ghost use Rattle.lrp_model.specs.RawTerms.{said_term};
 ghost use Rattle.lrp_model.specs.Rows.{columns_in, relation_named};
 ghost use Rattle.lrp_model.specs.Sorts.{same_sort};
 ghost use Rattle.lrp_plan_laws.specs.Projections.{PlanGround as Ground};
@@ -15,7 +16,7 @@ ghost use Rattle.lrp_guarded.specs.Standing.{AreElementsLeft as AreLeft};
 use crate::elements::{Elements, Part, RankedAtom, RankedSort};
 use crate::lists::add_tests;
 use lrp_core::{Variable, add_variables};
-use lrp_model::{Column, Copies, DataTerm, List, Memory, Name, Op, Term, Test, TimeTerm};
+use lrp_model::{Column, Copies, DataTerm, List, Memory, Op, RawTerm, RawTermKind, Test, TimeTerm};
 use lrp_plan::sources::Sources;
 use std::alloc::Global;
 
@@ -26,7 +27,7 @@ pub(crate) fn still_needed<'a>(
     sorts: Vec<RankedSort<'a>>,
 ) -> Result<Vec<RankedSort<'a>>, Memory>
     ensures { IfOk result (λ made. made.items ≡ filter (λ e. not (alone (sort_element e)
-        (columns_in (relation_named sources.now.database.now atom.entry.relation.now)) atom.entry.terms.now))
+        (columns_in (relation_named sources.now.database.now atom.entry.relation.now)) (map said_term atom.entry.terms.now)))
         sorts.entry.items) }
 {
     match sources.database.relation(atom.relation) {
@@ -44,11 +45,11 @@ pub(crate) fn still_needed<'a>(
 fn needed<'a>(
     alloc: Global,
     columns: &[Column],
-    terms: &[Term],
+    terms: &[RawTerm],
     sorts: Vec<RankedSort<'a>>,
 ) -> Result<Vec<RankedSort<'a>>, Memory>
     ensures { IfOk result (λ made. made.items
-        ≡ filter (λ e. not (alone (sort_element e) columns.now terms.now)) sorts.entry.items) }
+        ≡ filter (λ e. not (alone (sort_element e) columns.now (map said_term terms.now))) sorts.entry.items) }
 {
     let mut left = Vec::new(alloc);
     for sort in sorts {
@@ -60,8 +61,8 @@ fn needed<'a>(
 }
 
 // Whether the variable of a sort element stands alone in a column of its sort.
-fn stands_alone(element: RankedSort<'_>, columns: &[Column], terms: &[Term]) -> bool
-    ensures { result ≡ alone (sort_element element.entry) columns.now terms.now }
+fn stands_alone(element: RankedSort<'_>, columns: &[Column], terms: &[RawTerm]) -> bool
+    ensures { result ≡ alone (sort_element element.entry) columns.now (map said_term terms.now) }
 {
     for i in 0..terms.len() {
         if i >= columns.len() {
@@ -75,21 +76,12 @@ fn stands_alone(element: RankedSort<'_>, columns: &[Column], terms: &[Term]) -> 
 }
 
 // Whether the term is the variable of a sort element, and the column has its sort.
-fn is_alone(element: RankedSort<'_>, column: &Column, term: &Term) -> bool
-    ensures { result ≡ is_alone_at (sort_element element.entry) column.now term.now }
+fn is_alone(element: RankedSort<'_>, column: &Column, term: &RawTerm) -> bool
+    ensures { result ≡ is_alone_at (sort_element element.entry) column.now (said_term term.now) }
 {
-    match term {
-        Term::Data { term } => is_name(term, element.name) && column.sort.is_same(element.sort),
-        Term::Time { .. } => false,
-    }
-}
-
-fn is_name(term: &DataTerm, name: &Name) -> bool
-    ensures { result ≡ is_named_term name.now term.now }
-{
-    match term {
-        DataTerm::Var { name: own } => own == name,
-        DataTerm::Const { .. } => false,
+    match &term.kind {
+        RawTermKind::Var { name } => name == element.name && column.sort.is_same(element.sort),
+        _ => false,
     }
 }
 

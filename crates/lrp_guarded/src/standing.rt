@@ -12,10 +12,10 @@ ghost use Rattle.lrp_guarded.specs.Making.{IsMaking, MakesTo};
 ghost use Rattle.lrp_guarded.specs.Standing.{IsStandingOf as IsStanding, IsGuard, AreElements, FollowsRule as Follows, taking_up, subtracting as taking_off, bringing};
 
 use crate::elements::{Elements, RankedAtom, RankedSort};
-use crate::lists::{shared, test_variables, without};
+use crate::lists::{shared, without};
 use crate::making::Making;
 use crate::needs::{any_value, still_needed};
-use lrp_core::{Core, Variable, add_variables};
+use lrp_core::{Core, Variable, add_variables, test_variables};
 use lrp_model::{List, Memory};
 use lrp_plan::drafts::{PlannedOperand, no_step};
 use lrp_plan::taking::split_covered;

@@ -41,7 +41,7 @@ impl<'a> Model for Keep<'a> {
 
     ghost Value = { KeepView };
 
-    ghost use Rattle.lrp_model.specs.contracts.formulas.Formula as formulas;
+    ghost use Rattle.lrp_model.specs.contracts.raw.RawFormula as formulas;
     ghost use Rattle.std.specs.Coded.{codes};
 
     ghost coded = { Prim.hlevel (codes, formulas.the_row.coded) };

@@ -11,9 +11,10 @@ use Rattle.lrp_model.specs.Faults.{fault_if}
 use Rattle.lrp_model.specs.Formulas.{Form, Forms, atom, test, sorted, negation, conjunction, disjunction, implication, exists, forall, no_forms, form, joined}
 use Rattle.lrp_model.specs.Rows.{relation_named}
 use Rattle.lrp_model.specs.Sorts.{same_sort, is_data}
-use Rattle.lrp_model.specs.RawQueries.{RawForm, RawForms, RawQuestion, raw_atom, raw_compare, raw_member, raw_not, raw_and, raw_or, raw_implies, raw_group, raw_exists, raw_forall, no_raws, raw}
+use Rattle.lrp_model.specs.RawQueries.{RawForm, RawForms, RawQuestion, raw_atom, raw_compare, raw_member, raw_not, raw_and, raw_or, raw_implies, raw_group, raw_exists, raw_forall, raw_ranged, raw_paired, no_raws, raw}
 use Rattle.lrp_model.specs.Sorting.{Binders, binder_sort, alone_sort, shifted_sort, kind_sort, term_sort, is_data_term, differs, variable_faults, kind_faults, term_faults, column_faults, atom_faults, binder_faults, widened, form_faults, forms_faults, IsWellSorted}
-use Rattle.lrp_model.specs.Checked.{time_of, data_of, term_of, plain, plain_each, plain_question}
+use Rattle.lrp_model.specs.Checked.{term_of, plain, plain_each, plain_question}
+use Rattle.lrp_model.specs.RawTerms.{time_of, data_of}
 use Rattle.lrp_model.specs.declared.formulas.DataTerm.TheVariants.{Var as data_var}
 use Rattle.lrp_model.specs.declared.formulas.Op.TheVariants.{Le, Lt, Ge, Gt, Eq}
 use Rattle.lrp_model.specs.declared.formulas.Test.{Test}
@@ -112,6 +113,8 @@ mutual
       let x = both_none (widened bs [] f (form_faults f db bs)) (widened bs [] g (form_faults g db bs)) e in
       (sorted_form f db bs (not_wide bs [] f (form_faults f db bs) x.0).1, sorted_form g db bs (not_wide bs [] g (form_faults g db bs) x.1).1)
   sorted_form (raw_group p f) db bs e = sorted_form f db bs (not_wide bs [] f (form_faults f db bs) e).1
+  sorted_form (raw_ranged word o from to f) db bs e = sorted_form f db bs (not_wide bs [] f (form_faults f db bs) e).1
+  sorted_form (raw_paired word o f g) db bs e = sorted_form g db bs (not_wide bs [] g (form_faults g db bs) e).1
   sorted_form (raw_exists p c f) db bs e =
       (own_name_of db bs c (both_none (binder_faults db bs c) _ e).0, sorted_form f db (c ∷ bs) (not_wide_inside db bs c f (form_faults f db (c ∷ bs)) e).1)
   sorted_form (raw_forall p c f) db bs e =

@@ -185,7 +185,7 @@ fn joined_atom(
     ensures { IfOk result (IsJoinedAtom (names_of rows.now) (atom_in atom.now) tests.now vars.now) }
 {
     let relation = number_of(&atom.name, rows);
-    let terms = copy_terms(alloc, atom.terms.as_slice())?;
+    let terms = equal_terms(alloc, atom.terms.as_slice())?;
     let tests = covered(alloc, tests, vars)?;
     let vars = vars.copy(alloc)?;
     Ok(JoinedAtom {
@@ -194,6 +194,17 @@ fn joined_atom(
         vars,
         tests,
     })
+}
+
+// An equal list of terms, with no more room than it needs.
+fn equal_terms(alloc: Global, terms: &[Term]) -> Result<List<Term>, Memory>
+    ensures { IfOk result (λ made. made ≡ terms.now) }
+{
+    let mut made = Vec::with_capacity(alloc, terms.len())?;
+    for term in terms {
+        made.push(term.copy(alloc)?)?;
+    }
+    Ok(List::from_vec(made))
 }
 
 // The variables, and those of terms that are further ones.

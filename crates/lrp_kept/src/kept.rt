@@ -3,14 +3,15 @@ ghost use Rattle.std.specs.Prelude.{◌≡◌, true};
 ghost use Rattle.std.specs.List.{list_all};
 ghost use Rattle.lrp_model.specs.Core.{conjuncts, disjuncts};
 ghost use Rattle.lrp_model.specs.Formulas.{question_of, form_of};
+ghost use Rattle.lrp_model.specs.RawTerms.{time_of, data_of, said_test};
 ghost use Rattle.lrp_model.specs.Variables.{head_variables, variables_of_data, variables_of_test, variables_of_time};
 ghost use Rattle.lrp_kept.specs.Asked.{conjuncts_of, tests_in_atoms};
 ghost use Rattle.lrp_kept.specs.KeptForm.{all_occur, all_pass, bound_variables, is_conjunctive as is_conjunctive_form, is_disjunct as is_disjunct_form, is_kept as is_kept_query};
 ghost use Rattle.lrp_kept.specs.Signs.{kept_signed};
 
-use crate::looking::{Sought, has_element, is_test, occurs};
+use crate::looking::{Sought, has_element, is_comparison, occurs};
 use crate::signs::{Signed, matrix_of};
-use lrp_model::{Column, DataTerm, Formula, Query, Sort, Test, TimeTerm};
+use lrp_model::{Column, Op, Query, RawFormula, RawKind, RawTerm, RawTermKind, Sort};
 
 /// Whether a query is in kept form: its core form, taken without sort elements, is an `or` of one or more conjunctions of
 /// atoms, `in` points, comparisons and equalities, each behind any number of `exists`; and in each of them every variable of
@@ -23,14 +24,17 @@ pub fn is_kept(query: &Query) -> bool
 
 // Whether the core form is a disjunct or an `or` of disjuncts.
 #[cycle(disjuncts)]
-fn are_disjuncts(columns: &[Column], f: &Formula, holds: bool) -> bool
+fn are_disjuncts(columns: &[Column], f: &RawFormula, holds: bool) -> bool
     ensures { result ≡ all_pass (is_disjunct_form columns.now)
         (disjuncts (kept_signed holds (form_of f.now))) }
 {
-    match f {
-        Formula::Not { of } => are_disjuncts(columns, of, !holds),
-        Formula::Or { of } if holds => each_are_disjuncts(columns, of),
-        Formula::Implies { left, right } if holds => {
+    match &f.kind {
+        RawKind::Not { of } => are_disjuncts(columns, of, !holds),
+        RawKind::Group { of } => are_disjuncts(columns, of, holds),
+        RawKind::Ranged { of, .. } => are_disjuncts(columns, of, holds),
+        RawKind::Paired { right, .. } => are_disjuncts(columns, right, holds),
+        RawKind::Or { of } if holds => each_are_disjuncts(columns, of),
+        RawKind::Implies { left, right } if holds => {
             are_disjuncts(columns, left, false) && are_disjuncts(columns, right, true)
         }
         _ => is_disjunct(columns, f, holds),
@@ -38,7 +42,7 @@ fn are_disjuncts(columns: &[Column], f: &Formula, holds: bool) -> bool
 }
 
 #[cycle(disjuncts)]
-fn each_are_disjuncts(columns: &[Column], fs: &[Formula]) -> bool
+fn each_are_disjuncts(columns: &[Column], fs: &[RawFormula]) -> bool
     ensures { result ≡ list_all (λ f. all_pass (is_disjunct_form columns.now)
         (disjuncts (kept_signed true (form_of f)))) fs.now }
 {
@@ -51,7 +55,7 @@ fn each_are_disjuncts(columns: &[Column], fs: &[Formula]) -> bool
 }
 
 // Whether the core form is a disjunct of a query with this head.
-fn is_disjunct(columns: &[Column], f: &Formula, holds: bool) -> bool
+fn is_disjunct(columns: &[Column], f: &RawFormula, holds: bool) -> bool
     ensures { result ≡ is_disjunct_form columns.now (kept_signed holds (form_of f.now)) }
 {
     let whole = matrix_of(f, holds);
@@ -80,17 +84,20 @@ fn columns_occur(columns: &[Column], whole: Signed) -> bool
 }
 
 // Whether the variables of the `exists` with which a core form begins occur in atoms.
-fn bound_occur(f: &Formula, holds: bool, whole: Signed) -> bool
+fn bound_occur(f: &RawFormula, holds: bool, whole: Signed) -> bool
     ensures { result ≡ all_occur (conjuncts_of whole.entry)
         (bound_variables (kept_signed holds (form_of f.now))) }
 {
-    match f {
-        Formula::Not { of } => bound_occur(of, !holds, whole),
-        Formula::Exists { name, sort, of } if holds => {
-            occurs(whole, sort, name) && bound_occur(of, holds, whole)
+    match &f.kind {
+        RawKind::Not { of } => bound_occur(of, !holds, whole),
+        RawKind::Group { of } => bound_occur(of, holds, whole),
+        RawKind::Ranged { of, .. } => bound_occur(of, holds, whole),
+        RawKind::Paired { right, .. } => bound_occur(right, holds, whole),
+        RawKind::Exists { binder, of } if holds => {
+            occurs(whole, &binder.sort, &binder.name) && bound_occur(of, holds, whole)
         }
-        Formula::Forall { name, sort, of } if !holds => {
-            occurs(whole, sort, name) && bound_occur(of, holds, whole)
+        RawKind::Forall { binder, of } if !holds => {
+            occurs(whole, &binder.sort, &binder.name) && bound_occur(of, holds, whole)
         }
         _ => true,
     }
@@ -98,23 +105,29 @@ fn bound_occur(f: &Formula, holds: bool, whole: Signed) -> bool
 
 // Whether the variables of the tests among the elements of a core form occur in atoms of the whole.
 #[cycle(tests)]
-fn tests_occur(f: &Formula, holds: bool, whole: Signed) -> bool
+fn tests_occur(f: &RawFormula, holds: bool, whole: Signed) -> bool
     ensures { result ≡ tests_in_atoms whole.entry (conjuncts (kept_signed holds (form_of f.now))) }
 {
-    match f {
-        Formula::Not { of } => tests_occur(of, !holds, whole),
-        Formula::And { of } if holds => tests_of_each_occur(of, holds, whole),
-        Formula::Or { of } if !holds => tests_of_each_occur(of, holds, whole),
-        Formula::Implies { left, right } if !holds => {
+    match &f.kind {
+        RawKind::Not { of } => tests_occur(of, !holds, whole),
+        RawKind::Group { of } => tests_occur(of, holds, whole),
+        RawKind::Ranged { of, .. } => tests_occur(of, holds, whole),
+        RawKind::Paired { right, .. } => tests_occur(right, holds, whole),
+        RawKind::And { of } if holds => tests_of_each_occur(of, holds, whole),
+        RawKind::Or { of } if !holds => tests_of_each_occur(of, holds, whole),
+        RawKind::Implies { left, right } if !holds => {
             tests_occur(left, true, whole) && tests_occur(right, false, whole)
         }
-        Formula::Check { test } if is_test(test, holds) => test_occurs(test, whole),
+        RawKind::Compare { left, op, right } if is_comparison(*op, holds) => {
+            sides_occur(left, *op, right, whole)
+        }
+        RawKind::Member { term, .. } if holds => time_occurs(term, whole),
         _ => true,
     }
 }
 
 #[cycle(tests)]
-fn tests_of_each_occur(fs: &[Formula], holds: bool, whole: Signed) -> bool
+fn tests_of_each_occur(fs: &[RawFormula], holds: bool, whole: Signed) -> bool
     ensures { result ≡ list_all (λ f. tests_in_atoms whole.entry
         (conjuncts (kept_signed holds (form_of f)))) fs.now }
 {
@@ -126,31 +139,36 @@ fn tests_of_each_occur(fs: &[Formula], holds: bool, whole: Signed) -> bool
     true
 }
 
-// Whether the variables of a test occur in atoms.
-fn test_occurs(test: &Test, whole: Signed) -> bool
-    ensures { result ≡ all_occur (conjuncts_of whole.entry) (variables_of_test test.now) }
+// Whether the variables of both sides of a comparison occur in atoms.
+fn sides_occur(left: &RawTerm, op: Op, right: &RawTerm, whole: Signed) -> bool
+    ensures { result ≡ all_occur (conjuncts_of whole.entry)
+        (variables_of_test (said_test left.now op right.now)) }
 {
-    match test {
-        Test::Compare { left, right, .. } => time_occurs(left, whole) && time_occurs(right, whole),
-        Test::Member { term, .. } => time_occurs(term, whole),
-        Test::Equal { left, right } => data_occurs(left, whole) && data_occurs(right, whole),
+    if op == Op::Eq && left.is_data() && right.is_data() {
+        data_occurs(left, whole) && data_occurs(right, whole)
+    } else {
+        time_occurs(left, whole) && time_occurs(right, whole)
     }
 }
 
-fn time_occurs(term: &TimeTerm, whole: Signed) -> bool
-    ensures { result ≡ all_occur (conjuncts_of whole.entry) (variables_of_time term.now) }
+fn time_occurs(term: &RawTerm, whole: Signed) -> bool
+    ensures { result ≡ all_occur (conjuncts_of whole.entry)
+        (variables_of_time (time_of term.now.kind)) }
 {
-    match term {
-        TimeTerm::Var { name, .. } => occurs(whole, &Sort::Time, name),
-        TimeTerm::Int { .. } => true,
+    match &term.kind {
+        RawTermKind::Var { name } | RawTermKind::Shifted { name, .. } => {
+            occurs(whole, &Sort::Time, name)
+        }
+        RawTermKind::Int { .. } | RawTermKind::Text { .. } => true,
     }
 }
 
-fn data_occurs(term: &DataTerm, whole: Signed) -> bool
-    ensures { result ≡ all_occur (conjuncts_of whole.entry) (variables_of_data term.now) }
+fn data_occurs(term: &RawTerm, whole: Signed) -> bool
+    ensures { result ≡ all_occur (conjuncts_of whole.entry)
+        (variables_of_data (data_of term.now.kind)) }
 {
-    match term {
-        DataTerm::Var { name } => occurs(whole, &Sort::Data, name),
-        DataTerm::Const { .. } => true,
+    match &term.kind {
+        RawTermKind::Var { name } => occurs(whole, &Sort::Data, name),
+        RawTermKind::Int { .. } | RawTermKind::Shifted { .. } | RawTermKind::Text { .. } => true,
     }
 }

@@ -1,8 +1,10 @@
 // Elements of the conjunction that a core form is, looked for in the formula as it stands.
-ghost use Rattle.std.specs.Prelude.{◌≡◌, true, not};
+ghost use Rattle.std.specs.Prelude.{◌≡◌, true, not, map};
 ghost use Rattle.std.specs.List.{list_any};
 ghost use Rattle.lrp_model.specs.Texts.{Identifier};
 ghost use Rattle.lrp_model.specs.Formulas.{Form, form_of, atom, test as test_form};
+ghost use Rattle.lrp_model.specs.RawTerms.{said_term, said_test};
+ghost use Rattle.lrp_model.specs.declared.raw.RawTerm.{RawTerm as RawTermOf};
 ghost use Rattle.lrp_model.specs.Variables.{bound_by, is_among, variables_of_term};
 ghost use Rattle.lrp_model.specs.Core.{conjuncts};
 ghost use Rattle.lrp_kept.specs.Asked.{is_sought, conjuncts_of};
@@ -10,7 +12,7 @@ ghost use Rattle.lrp_kept.specs.KeptForm.{some_passes, is_neither, is_atom_with}
 ghost use Rattle.lrp_kept.specs.Signs.{kept_signed};
 
 use crate::signs::Signed;
-use lrp_model::{DataTerm, Formula, Name, Op, Sort, Term, Test, TimeTerm};
+use lrp_model::{Name, Op, RawFormula, RawKind, RawTerm, RawTermKind, Sort};
 
 /// What is looked for: an element that is neither an atom nor a test, an atom, or an atom in which the variable of a
 /// binder of this sort and name occurs.
@@ -37,25 +39,29 @@ pub(crate) fn occurs(whole: Signed, sort: &Sort, name: &Name) -> bool
 }
 
 #[cycle(looking)]
-fn some_element(f: &Formula, holds: bool, sought: Sought) -> bool
+fn some_element(f: &RawFormula, holds: bool, sought: Sought) -> bool
     ensures { result ≡ some_passes (is_sought sought.entry)
         (conjuncts (kept_signed holds (form_of f.now))) }
 {
-    match f {
-        Formula::Not { of } => some_element(of, !holds, sought),
-        Formula::And { of } if holds => some_of(of, holds, sought),
-        Formula::Or { of } if !holds => some_of(of, holds, sought),
-        Formula::Implies { left, right } if !holds => {
+    match &f.kind {
+        RawKind::Not { of } => some_element(of, !holds, sought),
+        RawKind::Group { of } => some_element(of, holds, sought),
+        RawKind::Ranged { of, .. } => some_element(of, holds, sought),
+        RawKind::Paired { right, .. } => some_element(right, holds, sought),
+        RawKind::And { of } if holds => some_of(of, holds, sought),
+        RawKind::Or { of } if !holds => some_of(of, holds, sought),
+        RawKind::Implies { left, right } if !holds => {
             some_element(left, true, sought) || some_element(right, false, sought)
         }
-        Formula::Atom { terms, .. } if holds => is_atom_sought(terms.as_slice(), sought),
-        Formula::Check { test } if is_test(test, holds) => false,
+        RawKind::Atom { terms, .. } if holds => is_atom_sought(terms.as_slice(), sought),
+        RawKind::Compare { op, .. } if is_comparison(*op, holds) => false,
+        RawKind::Member { .. } if holds => false,
         _ => is_neither_sought(sought),
     }
 }
 
 #[cycle(looking)]
-fn some_of(fs: &[Formula], holds: bool, sought: Sought) -> bool
+fn some_of(fs: &[RawFormula], holds: bool, sought: Sought) -> bool
     ensures { result ≡ list_any (λ f. some_passes (is_sought sought.entry)
         (conjuncts (kept_signed holds (form_of f)))) fs.now }
 {
@@ -67,14 +73,12 @@ fn some_of(fs: &[Formula], holds: bool, sought: Sought) -> bool
     false
 }
 
-/// Whether the core form of a test, or of its negation, is a test.
-pub(crate) fn is_test(test: &Test, holds: bool) -> bool
-    ensures { is_neither (kept_signed holds (test_form test.now)) ≡ not result }
+/// Whether the core form of a comparison, or of its negation, is a test: the negation of an `=` is none.
+pub(crate) fn is_comparison(op: Op, holds: bool) -> bool
+    ensures { (left right : RawTermOf)
+        → is_neither (kept_signed holds (test_form (said_test left op right))) ≡ not result }
 {
-    match test {
-        Test::Compare { op, .. } => holds || *op != Op::Eq,
-        _ => holds,
-    }
+    holds || op != Op::Eq
 }
 
 // Whether elements that are neither atoms nor tests are looked for.
@@ -85,8 +89,8 @@ fn is_neither_sought(sought: Sought) -> bool
 }
 
 // Whether an atom of these terms is looked for.
-fn is_atom_sought(terms: &[Term], sought: Sought) -> bool
-    ensures { (relation : Identifier) → result ≡ is_sought sought.entry (atom relation terms.now) }
+fn is_atom_sought(terms: &[RawTerm], sought: Sought) -> bool
+    ensures { (relation : Identifier) → result ≡ is_sought sought.entry (atom relation (map said_term terms.now)) }
 {
     match sought {
         Sought::Neither => false,
@@ -96,8 +100,8 @@ fn is_atom_sought(terms: &[Term], sought: Sought) -> bool
 }
 
 // Whether the variable of a binder of this sort and name is among the terms.
-fn has_variable(terms: &[Term], sort: &Sort, name: &Name) -> bool
-    ensures { result ≡ list_any (λ term. is_among (variables_of_term term)
+fn has_variable(terms: &[RawTerm], sort: &Sort, name: &Name) -> bool
+    ensures { result ≡ list_any (λ term. is_among (variables_of_term (said_term term))
         (bound_by sort.now name.now)) terms.now }
 {
     for term in terms {
@@ -109,17 +113,12 @@ fn has_variable(terms: &[Term], sort: &Sort, name: &Name) -> bool
 }
 
 // Whether the term has the variable of a binder of this sort and name.
-fn is_variable(term: &Term, sort: &Sort, name: &Name) -> bool
-    ensures { result ≡ is_among (variables_of_term term.now) (bound_by sort.now name.now) }
+fn is_variable(term: &RawTerm, sort: &Sort, name: &Name) -> bool
+    ensures { result ≡ is_among (variables_of_term (said_term term.now)) (bound_by sort.now name.now) }
 {
-    match term {
-        Term::Time { term } => match term {
-            TimeTerm::Var { name: own, .. } => sort.is_time() && name == own,
-            TimeTerm::Int { .. } => false,
-        },
-        Term::Data { term } => match term {
-            DataTerm::Var { name: own } => !sort.is_time() && name == own,
-            DataTerm::Const { .. } => false,
-        },
+    match &term.kind {
+        RawTermKind::Shifted { name: own, .. } => sort.is_time() && name == own,
+        RawTermKind::Var { name: own } => !sort.is_time() && name == own,
+        RawTermKind::Int { .. } | RawTermKind::Text { .. } => false,
     }
 }

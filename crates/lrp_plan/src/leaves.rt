@@ -1,7 +1,8 @@
 // The steps of core forms that have no part, and the step of a quantifier.
-ghost use Rattle.std.specs.Prelude.{ℕ, OnOk};
+ghost use Rattle.std.specs.Prelude.{ℕ, map, OnOk};
 ghost use Rattle.lrp_core.specs.Cores.{test_of};
 ghost use Rattle.lrp_model.specs.Formulas.{atom, test as test_form, sorted};
+ghost use Rattle.lrp_model.specs.RawTerms.{said_term};
 ghost use Rattle.lrp_model.specs.Satisfaction.{Structure};
 ghost use Rattle.lrp_model.specs.Steps.{drop_of};
 ghost use Rattle.lrp_plan.specs.Drafts.{Extends};
@@ -11,7 +12,7 @@ ghost use Rattle.lrp_plan.specs.Sources.{AreSources};
 use crate::drafts::Draft;
 use crate::sources::Sources;
 use lrp_core::{TermTest, copy_terms};
-use lrp_model::{Copies, Memory, Name, Sort, Term};
+use lrp_model::{Copies, Memory, Name, RawTerm, Sort};
 use std::alloc::Global;
 
 /// The step of an atom.
@@ -19,10 +20,10 @@ pub fn plan_atom(
     sources: &Sources<'_>,
     draft: &mut Draft,
     relation: &Name,
-    terms: &[Term],
+    terms: &[RawTerm],
 ) -> Result<(), Memory>
     ensures { OnOk result ((M : Structure) (K : ℕ) → AreSources M sources.now
-        → MakesSteps M K (atom relation.now terms.now) draft.old draft.new) }
+        → MakesSteps M K (atom relation.now (map said_term terms.now)) draft.old draft.new) }
 {
     let alloc = sources.alloc;
     let facts = sources.facts(relation);

@@ -14,7 +14,7 @@ ghost use Rattle.lrp_plan.specs.Taking.{NextTest, TakesElement, TakesIn, TakesOf
 use crate::drafts::{Draft, PlannedOperand};
 use crate::elements::Kind;
 use crate::waiting::Turn;
-use lrp_core::{Core, TermTest, Variable, add_variables, covers, free_variables};
+use lrp_core::{Variable, add_variables, covers, test_variables};
 use lrp_model::{List, Memory, Test};
 use std::alloc::Global;
 use std::mem;
@@ -177,11 +177,11 @@ fn take_next(alloc: Global, draft: &mut Draft, taking: &mut Taking) -> Result<()
 }
 
 // The variables of a test.
+#[tactic(auto, using(crate::proofs::Sorting::same_as_once))]
 fn variables_of(alloc: Global, test: &Test) -> Result<List<Variable>, Memory>
     ensures { IfOk result (λ made. HaveSame (map variable_of made) (free (test_form test.now))) }
 {
-    let test = TermTest::of(test);
-    free_variables(alloc, &Core::Check { test })
+    test_variables(alloc, test)
 }
 
 // The last step joined with the result so far, or the tests selected of it where there is no result.

@@ -6,9 +6,10 @@ use Rattle.std.proofs.lemmas.Bool.{eqb-true}
 use Rattle.lrp_model.specs.Sorts.{same_sort, is_time, is_data, FitsColumn}
 use Rattle.lrp_model.specs.Rows.{relation_named}
 use Rattle.lrp_model.specs.Faults.{fault_if}
-use Rattle.lrp_model.specs.RawQueries.{RawForm, RawForms, RawQuestion, raw_atom, raw_compare, raw_member, raw_not, raw_and, raw_or, raw_implies, raw_group, raw_exists, raw_forall, no_raws, raw}
+use Rattle.lrp_model.specs.RawQueries.{RawForm, RawForms, RawQuestion, raw_atom, raw_compare, raw_member, raw_not, raw_and, raw_or, raw_implies, raw_group, raw_exists, raw_forall, raw_ranged, raw_paired, no_raws, raw}
 use Rattle.lrp_model.specs.Sorting.{Binders, binder_sort, alone_sort, shifted_sort, kind_sort, term_sort, is_data_term, differs, variable_faults, kind_faults, term_faults, column_faults, atom_faults, widened, form_faults, forms_faults, IsWellSorted}
-use Rattle.lrp_model.specs.Checked.{time_of, data_of, term_of, plain, plain_each, plain_question}
+use Rattle.lrp_model.specs.Checked.{term_of, plain, plain_each, plain_question}
+use Rattle.lrp_model.specs.RawTerms.{time_of, data_of}
 use Rattle.lrp_model.specs.declared.tokens.Place.{Place}
 use Rattle.lrp_model.specs.declared.relations.Sort.{Sort}
 use Rattle.lrp_model.specs.declared.relations.Sort.TheVariants.{Time}
@@ -83,6 +84,8 @@ mutual
       let x = both_none (widened bs [] f (form_faults f db bs)) (widened bs [] g (form_faults g db bs)) e in
       (all_append (FitsAtom db) (atoms (plain f bs)) (atoms (plain g bs))).1 (atoms_fit f db bs (not_wide bs [] f (form_faults f db bs) x.0).1, atoms_fit g db bs (not_wide bs [] g (form_faults g db bs) x.1).1)
   atoms_fit (raw_group p f) db bs e = atoms_fit f db bs (not_wide bs [] f (form_faults f db bs) e).1
+  atoms_fit (raw_ranged word o from to f) db bs e = atoms_fit f db bs (not_wide bs [] f (form_faults f db bs) e).1
+  atoms_fit (raw_paired word o f g) db bs e = atoms_fit g db bs (not_wide bs [] g (form_faults g db bs) e).1
   atoms_fit (raw_exists p c f) db bs e = atoms_fit f db (c ∷ bs) (not_wide_inside db bs c f (form_faults f db (c ∷ bs)) e).1
   atoms_fit (raw_forall p c f) db bs e = atoms_fit f db (c ∷ bs) (not_wide_inside db bs c f (form_faults f db (c ∷ bs)) e).1
 

@@ -7,10 +7,11 @@ use Rattle.lrp_model.specs.Rows.{relation_named, columns_in}
 use Rattle.lrp_model.specs.Sorts.{is_data}
 use Rattle.lrp_model.specs.Faults.{fault_if}
 use Rattle.lrp_model.specs.Domains.{database_texts, all_texts, term_texts, sort_beside, text_beside, test_texts, form_texts, forms_texts}
-use Rattle.lrp_model.specs.RawQueries.{RawForm, RawForms, RawQuestion, raw_atom, raw_compare, raw_member, raw_not, raw_and, raw_or, raw_implies, raw_group, raw_exists, raw_forall, no_raws, raw}
+use Rattle.lrp_model.specs.RawQueries.{RawForm, RawForms, RawQuestion, raw_atom, raw_compare, raw_member, raw_not, raw_and, raw_or, raw_implies, raw_group, raw_exists, raw_forall, raw_ranged, raw_paired, no_raws, raw}
 use Rattle.lrp_model.specs.Sorting.{Binders, binder_sort, alone_sort, shifted_sort, kind_sort, term_sort, is_data_term, differs, term_faults, column_faults, atom_faults, widened, form_faults, forms_faults, IsWellSorted}
 use Rattle.lrp_model.specs.DatabaseMeaning.{column_of}
-use Rattle.lrp_model.specs.Checked.{time_of, data_of, term_of, is_equality, compare_of, plain, plain_each, plain_question}
+use Rattle.lrp_model.specs.Checked.{term_of, compare_of, plain, plain_each, plain_question}
+use Rattle.lrp_model.specs.RawTerms.{time_of, data_of, is_equality}
 use Rattle.lrp_model.specs.declared.tokens.Place.{Place}
 use Rattle.lrp_model.specs.declared.relations.Sort.{Sort}
 use Rattle.lrp_model.specs.declared.relations.Sort.TheVariants.{Data}
@@ -109,6 +110,8 @@ mutual
       (all_append (λ entry. is_data entry.0 ≡ true) (form_texts (plain f bs) db columns) (form_texts (plain g bs) db columns)).1
       (form_data f db bs columns m (not_wide bs [] f (form_faults f db bs) x.0).1, form_data g db bs columns m (not_wide bs [] g (form_faults g db bs) x.1).1)
   form_data (raw_group p f) db bs columns m e = form_data f db bs columns m (not_wide bs [] f (form_faults f db bs) e).1
+  form_data (raw_ranged word o from to f) db bs columns m e = form_data f db bs columns m (not_wide bs [] f (form_faults f db bs) e).1
+  form_data (raw_paired word o f g) db bs columns m e = form_data g db bs columns m (not_wide bs [] g (form_faults g db bs) e).1
   form_data (raw_exists p c f) db bs columns m e =
       form_data f db (c ∷ bs) (record { name = c.name; sort = c.sort } ∷ columns) (binds_more c columns bs m) (not_wide_inside db bs c f (form_faults f db (c ∷ bs)) e).1
   form_data (raw_forall p c f) db bs columns m e =

@@ -5,9 +5,10 @@ use Rattle.std.specs.List.{AllByRecursion}
 use Rattle.std.specs.Cmp.Lexicographic.{bytes_decides}
 use Rattle.lrp_model.specs.Texts.{Identifier, without}
 use Rattle.lrp_model.specs.Variables.{Variable, time_variable, data_variable, bound_by, same_variable, variables_of_time, variables_of_data, variables_of_term, variables_of_test, free, free_each}
-use Rattle.lrp_model.specs.RawQueries.{RawForm, RawForms, raw_atom, raw_compare, raw_member, raw_not, raw_and, raw_or, raw_implies, raw_group, raw_exists, raw_forall, no_raws, raw}
+use Rattle.lrp_model.specs.RawQueries.{RawForm, RawForms, raw_atom, raw_compare, raw_member, raw_not, raw_and, raw_or, raw_implies, raw_group, raw_exists, raw_forall, raw_ranged, raw_paired, no_raws, raw}
 use Rattle.lrp_model.specs.Sorting.{Binders, binder_sort, TermSort, alone_sort, kind_sort, term_sort, is_data_term, unlike, variable_faults, kind_faults, term_faults, time_faults, compare_faults, term_names, free_names, free_names_each, widened, form_faults, forms_faults}
-use Rattle.lrp_model.specs.Checked.{time_of, data_of, term_of, compare_of, plain, plain_each}
+use Rattle.lrp_model.specs.Checked.{term_of, compare_of, plain, plain_each}
+use Rattle.lrp_model.specs.RawTerms.{time_of, data_of}
 use Rattle.lrp_model.specs.declared.tokens.Place.{Place}
 use Rattle.lrp_model.specs.declared.relations.Sort.{Sort}
 use Rattle.lrp_model.specs.declared.relations.Sort.TheVariants.{Time, Data, Named}
@@ -235,6 +236,8 @@ mutual
       (raw_bound f db bs (not_wide bs [] f (form_faults f db bs) x.0).1)
       (raw_bound g db bs (not_wide bs [] g (form_faults g db bs) x.1).1)
   raw_bound (raw_group p f) db bs e = raw_bound f db bs (not_wide bs [] f (form_faults f db bs) e).1
+  raw_bound (raw_ranged word o from to f) db bs e = raw_bound f db bs (not_wide bs [] f (form_faults f db bs) e).1
+  raw_bound (raw_paired word o f g) db bs e = raw_bound g db bs (not_wide bs [] g (form_faults g db bs) e).1
   raw_bound (raw_exists p c f) db bs e = under c bs (free_names f) (free (plain f (c ∷ bs))) (raw_bound f db (c ∷ bs) (not_wide_inside db bs c f (form_faults f db (c ∷ bs)) e).1)
   raw_bound (raw_forall p c f) db bs e = under c bs (free_names f) (free (plain f (c ∷ bs))) (raw_bound f db (c ∷ bs) (not_wide_inside db bs c f (form_faults f db (c ∷ bs)) e).1)
 

@@ -10,7 +10,7 @@ use Rattle.lrp_model.specs.Sorts.{is_time}
 use Rattle.lrp_model.specs.Faults.{fault_if, is_named_in, ninth}
 use Rattle.lrp_model.specs.Variables.{Variable, time_variable, data_variable, bound_by, free, head_variables}
 use Rattle.lrp_model.specs.Satisfaction.{HaveDistinctNames}
-use Rattle.lrp_model.specs.RawQueries.{RawForm, RawForms, RawQuestion, raw_atom, raw_compare, raw_member, raw_not, raw_and, raw_or, raw_implies, raw_group, raw_exists, raw_forall, no_raws, raw}
+use Rattle.lrp_model.specs.RawQueries.{RawForm, RawForms, RawQuestion, raw_atom, raw_compare, raw_member, raw_not, raw_and, raw_or, raw_implies, raw_group, raw_exists, raw_forall, raw_ranged, raw_paired, no_raws, raw}
 use Rattle.lrp_model.specs.Sorting.{Binders, binder_sort, binder_faults, sort_faults, head_faults, free_names, widened, form_faults, forms_faults, query_fault, IsWellSorted}
 use Rattle.lrp_model.specs.DatabaseMeaning.{column_of}
 use Rattle.lrp_model.specs.Checked.{plain, plain_each, plain_question}
@@ -83,6 +83,8 @@ mutual
       let x = both_none (widened bs [] f (form_faults f db bs)) (widened bs [] g (form_faults g db bs)) e in
       (n, (narrow_scopes f db bs (not_wide bs [] f (form_faults f db bs) x.0).1 (narrow_child db bs f x.0), narrow_scopes g db bs (not_wide bs [] g (form_faults g db bs) x.1).1 (narrow_child db bs g x.1)))
   narrow_scopes (raw_group p f) db bs e n = narrow_scopes f db bs (not_wide bs [] f (form_faults f db bs) e).1 (narrow_child db bs f e)
+  narrow_scopes (raw_ranged word o from to f) db bs e n = narrow_scopes f db bs (not_wide bs [] f (form_faults f db bs) e).1 (narrow_child db bs f e)
+  narrow_scopes (raw_paired word o f g) db bs e n = narrow_scopes g db bs (not_wide bs [] g (form_faults g db bs) e).1 (narrow_child db bs g e)
   narrow_scopes (raw_exists p c f) db bs e n =
       let w : IsNarrow (bound_by c.sort c.name ∷ free (plain f (c ∷ bs))) = narrow_inside db bs c f e in
       (w, narrow_scopes f db (c ∷ bs) (not_wide_inside db bs c f (form_faults f db (c ∷ bs)) e).1 (narrow_tail (bound_by c.sort c.name) (free (plain f (c ∷ bs))) w))

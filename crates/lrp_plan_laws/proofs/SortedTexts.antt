@@ -9,10 +9,11 @@ use Rattle.lrp_model.specs.Faults.{fault_if}
 use Rattle.lrp_model.specs.Core.{is_named, has_named_sort}
 use Rattle.lrp_model.specs.Domains.{row_texts, database_texts, term_texts, sort_beside, text_beside, test_texts, form_texts, forms_texts}
 use Rattle.lrp_model.specs.Plans.{HasNoNamedSorts}
-use Rattle.lrp_model.specs.RawQueries.{RawForm, RawForms, RawQuestion, raw_atom, raw_compare, raw_member, raw_not, raw_and, raw_or, raw_implies, raw_group, raw_exists, raw_forall, no_raws, raw}
+use Rattle.lrp_model.specs.RawQueries.{RawForm, RawForms, RawQuestion, raw_atom, raw_compare, raw_member, raw_not, raw_and, raw_or, raw_implies, raw_group, raw_exists, raw_forall, raw_ranged, raw_paired, no_raws, raw}
 use Rattle.lrp_model.specs.Sorting.{Binders, binder_sort, alone_sort, shifted_sort, kind_sort, term_sort, is_data_term, differs, term_faults, column_faults, atom_faults, has_sort, sort_faults, binder_faults, head_faults, widened, form_faults, forms_faults, IsWellSorted}
 use Rattle.lrp_model.specs.DatabaseMeaning.{column_of}
-use Rattle.lrp_model.specs.Checked.{time_of, data_of, term_of, is_equality, compare_of, plain, plain_each, plain_question}
+use Rattle.lrp_model.specs.Checked.{term_of, compare_of, plain, plain_each, plain_question}
+use Rattle.lrp_model.specs.RawTerms.{time_of, data_of, is_equality}
 use Rattle.lrp_model.specs.declared.tokens.Place.{Place}
 use Rattle.lrp_model.specs.declared.relations.Sort.{Sort}
 use Rattle.lrp_model.specs.declared.relations.Sort.TheVariants.{Time, Data, Named}
@@ -138,6 +139,8 @@ mutual
       let x = both_none (widened bs [] f (form_faults f db bs)) (widened bs [] g (form_faults g db bs)) e in
       (binds_plainly f db bs none (not_wide bs [] f (form_faults f db bs) x.0).1, binds_plainly g db bs none (not_wide bs [] g (form_faults g db bs) x.1).1)
   binds_plainly (raw_group p f) db bs none e = binds_plainly f db bs none (not_wide bs [] f (form_faults f db bs) e).1
+  binds_plainly (raw_ranged word o from to f) db bs none e = binds_plainly f db bs none (not_wide bs [] f (form_faults f db bs) e).1
+  binds_plainly (raw_paired word o f g) db bs none e = binds_plainly g db bs none (not_wide bs [] g (form_faults g db bs) e).1
   binds_plainly (raw_exists p c f) db bs none e =
       (binder_unnamed db bs c none (both_none (binder_faults db bs c) (widened (c ∷ bs) (c.name ∷ []) f (form_faults f db (c ∷ bs))) e).0, binds_plainly f db (c ∷ bs) none (not_wide_inside db bs c f (form_faults f db (c ∷ bs)) e).1)
   binds_plainly (raw_forall p c f) db bs none e =
@@ -282,6 +285,8 @@ mutual
       (all_append (λ entry. entry.0 ≡ Data) (form_texts (plain f bs) db columns) (form_texts (plain g bs) db columns)).1
       (form_data f db bs columns none m u (not_wide bs [] f (form_faults f db bs) x.0).1, form_data g db bs columns none m u (not_wide bs [] g (form_faults g db bs) x.1).1)
   form_data (raw_group p f) db bs columns none m u e = form_data f db bs columns none m u (not_wide bs [] f (form_faults f db bs) e).1
+  form_data (raw_ranged word o from to f) db bs columns none m u e = form_data f db bs columns none m u (not_wide bs [] f (form_faults f db bs) e).1
+  form_data (raw_paired word o f g) db bs columns none m u e = form_data g db bs columns none m u (not_wide bs [] g (form_faults g db bs) e).1
   form_data (raw_exists p c f) db bs columns none m u e =
       let s : IsUnnamed c.sort = binder_unnamed db bs c none (both_none (binder_faults db bs c) (widened (c ∷ bs) (c.name ∷ []) f (form_faults f db (c ∷ bs))) e).0 in
       form_data f db (c ∷ bs) (record { name = c.name; sort = c.sort } ∷ columns) none (binds_more c columns bs m) (unnamed_more c bs s u) (not_wide_inside db bs c f (form_faults f db (c ∷ bs)) e).1

@@ -1,8 +1,9 @@
--- The texts of a database and of a query are data texts.
+-- The texts of a database are data texts, and what terms and tests need for theirs to be.
 use Rattle.std.proofs.Common.{◌&&◌, ℕ, suc, Bool, true, false, List, [], ◌∷◌, ◌++◌, length, map, flat_map, reverse, refl, sym, subst, if◌then◌else◌, arith}
 use Rattle.std.specs.List.{AllByRecursion}
 use Rattle.std.specs.Str.{IsUtf8}
-use Rattle.lrp_model.specs.Checked.{data_of, is_equality, plain, plain_each, plain_question, term_of, time_of}
+use Rattle.lrp_model.specs.Checked.{plain, plain_each, plain_question, term_of}
+use Rattle.lrp_model.specs.RawTerms.{data_of, is_equality, time_of}
 use Rattle.lrp_model.specs.Columns.{column_text}
 use Rattle.lrp_model.specs.DatabaseMeaning.{column_of}
 use Rattle.lrp_model.specs.DatabaseReading.{IsDatabase}
@@ -100,13 +101,6 @@ term_entry true (data_const x) t c cs rest h k = (h, k)
 term_entry true (data_var v) t c cs rest h k = k
 term_entry false d t c cs rest h k = k
 
-term_entries : (cs : List Column) (bs : Binders) (ts : List (Located WrittenTerm)) → AllByRecursion (λ t. IsGood t.item) ts → AllByRecursion IsEntry (term_texts cs (map (term_of bs) (map raw_term ts)))
-term_entries [] bs [] h = tt
-term_entries [] bs (t ∷ ts) h = tt
-term_entries (c ∷ cs) bs [] h = tt
-term_entries (c ∷ cs) bs (t ∷ ts) h =
-    term_entry (is_data_term (term_sort bs (raw_term t))) (data_of (term_kind t.item)) (time_of (term_kind t.item)) c cs (map (term_of bs) (map raw_term ts)) (data_good t.item h.0) (term_entries cs bs ts h.1)
-
 beside_entry : (binders : List Column) (other d : DataTerm) → IsGoodData d → AllByRecursion IsEntry (text_beside binders other d)
 beside_entry binders other (data_const t) h = (h, tt)
 beside_entry binders other (data_var v) h = tt
@@ -114,60 +108,6 @@ beside_entry binders other (data_var v) h = tt
 pub test_entries : (b : Bool) (binders : List Column) (d e : DataTerm) (x y : TimeTerm) (op : Op) → IsGoodData d → IsGoodData e → AllByRecursion IsEntry (test_texts binders (if b then Equal d e else Compare x op y))
 test_entries true binders d e x y op h k = both (text_beside binders e d) (text_beside binders d e) (beside_entry binders e d h) (beside_entry binders d e k)
 test_entries false binders d e x y op h k = tt
-
--- ---- formulas
-
-mutual
-  form_entries : (f : WrittenFormula) → AllByRecursion TextPart (formula_text f) → FitsSizes f → (bs : Binders) (db : List Relation) (binders : List Column) → AllByRecursion IsEntry (form_texts (plain (raw_form f) bs) db binders)
-  form_entries (atom_formula p n ts) h short bs db binders =
-      term_entries (columns_in (relation_named db n)) bs ts (terms_good ts (all_front TextPart (separated comma (located_text term_text) ts) (any (symbol_token Close) ∷ []) h.1.1) short)
-  form_entries (compared l op r) h short bs db binders =
-      test_entries (is_equality op && is_data_term (term_sort bs (raw_term l)) && is_data_term (term_sort bs (raw_term r))) binders (data_of (term_kind l.item)) (data_of (term_kind r.item)) (time_of (term_kind l.item)) (time_of (term_kind r.item)) op
-      (data_good l.item (term_good l.place l.item (all_front TextPart (located_text term_text l) (any (symbol_token (op_symbol op)) ∷ located_text term_text r) h) short.0))
-      (data_good r.item (term_good r.place r.item (all_behind TextPart (located_text term_text l) (any (symbol_token (op_symbol op)) ∷ located_text term_text r) h).1 short.1))
-  form_entries (member t i k) h short bs db binders = tt
-  form_entries (denied p f) h short bs db binders = form_entries f h.1 short bs db binders
-  form_entries (all_of p f fs) h short bs db binders =
-      let behind = members_text And fs ++ any (symbol_token Close) ∷ [] in
-      both (form_texts (plain (raw_form f) bs) db binders) (forms_texts (plain_each (raw_forms fs) bs) db binders)
-      (form_entries f (all_front TextPart (formula_text f) behind h.1) short.0 bs db binders)
-      (forms_entries fs And (all_front TextPart (members_text And fs) (any (symbol_token Close) ∷ []) (all_behind TextPart (formula_text f) behind h.1)) short.1 bs db binders)
-  form_entries (any_of p f fs) h short bs db binders =
-      let behind = members_text Or fs ++ any (symbol_token Close) ∷ [] in
-      both (form_texts (plain (raw_form f) bs) db binders) (forms_texts (plain_each (raw_forms fs) bs) db binders)
-      (form_entries f (all_front TextPart (formula_text f) behind h.1) short.0 bs db binders)
-      (forms_entries fs Or (all_front TextPart (members_text Or fs) (any (symbol_token Close) ∷ []) (all_behind TextPart (formula_text f) behind h.1)) short.1 bs db binders)
-  form_entries (implied p f g) h short bs db binders =
-      let last = any (symbol_token Close) ∷ [] in
-      let behind = any (word_token Implies) ∷ (formula_text g ++ last) in
-      both (form_texts (plain (raw_form f) bs) db binders) (form_texts (plain (raw_form g) bs) db binders)
-      (form_entries f (all_front TextPart (formula_text f) behind h.1) short.0 bs db binders)
-      (form_entries g (all_front TextPart (formula_text g) last (all_behind TextPart (formula_text f) behind h.1).1) short.1 bs db binders)
-  form_entries (group p f) h short bs db binders = form_entries f (all_front TextPart (formula_text f) (any (symbol_token Close) ∷ []) h.1) short bs db binders
-  form_entries (some p c f) h short bs db binders = form_entries f (all_behind TextPart (column_text c) (formula_text f) h.1) short (c ∷ bs) db (record { name = c.name; sort = c.sort } ∷ binders)
-  form_entries (every p c f) h short bs db binders = form_entries f (all_behind TextPart (column_text c) (formula_text f) h.1) short (c ∷ bs) db (record { name = c.name; sort = c.sort } ∷ binders)
-  form_entries (hole p) h short bs db binders = tt
-
-  forms_entries : (fs : FurtherMembers) (w : Word) → AllByRecursion TextPart (members_text w fs) → FitSizes fs → (bs : Binders) (db : List Relation) (binders : List Column) → AllByRecursion IsEntry (forms_texts (plain_each (raw_forms fs) bs) db binders)
-  forms_entries (last f) w h short bs db binders = both (form_texts (plain (raw_form f) bs) db binders) [] (form_entries f h.1 short bs db binders) tt
-  forms_entries (more f fs) w h short bs db binders =
-      both (form_texts (plain (raw_form f) bs) db binders) (forms_texts (plain_each (raw_forms fs) bs) db binders)
-      (form_entries f (all_front TextPart (formula_text f) (members_text w fs) h.1) short.0 bs db binders)
-      (forms_entries fs w (all_behind TextPart (formula_text f) (members_text w fs) h.1) short.1 bs db binders)
-
--- ---- a query
-
--- the texts of a query's body are data texts
-pub query_entries : (bytes : List ℕ) (q : RawQuestion) → IsQuery bytes q → (db : List Relation) → AllByRecursion IsEntry (form_texts (plain_question q).body db (plain_question q).head)
-query_entries bytes q is db =
-    let tree = is.tree in
-    let body = formula_text tree.body in
-    let last = any (symbol_token CloseBrace) ∷ any end_token ∷ [] in
-    let columns = separated comma column_text tree.head in
-    let parts = takes_texted (query_text tree) (tokens bytes) [] is.text.spelled (tokens_texted (suc (length bytes)) start bytes is.text.utf8) in
-    let inside = all_behind TextPart columns (any (symbol_token Bar) ∷ (body ++ last)) parts.1 in
-    let entries = form_entries tree.body (all_front TextPart body last inside.1) is.text.lawful.sizes (reverse tree.head) db (map column_of tree.head) in
-    subst (λ r. AllByRecursion IsEntry (form_texts (plain_question r).body db (plain_question r).head)) (sym is.meant) entries
 
 -- ---- a database
 
@@ -192,7 +132,3 @@ pub database_entries : (bytes : List ℕ) (db : List Relation) → IsDatabase by
 database_entries bytes db d =
     let kept : AreKept db = subst AreKept (sym d.meant) (tree_kept d.tree d.text.lawful d.sound (tree_named bytes d.tree d.text.spelled) (tree_texted bytes d.tree d.text.utf8 d.text.spelled)) in
     relations_entries db kept.each
-
--- and so are those of both
-pub all_entries : (bytes query : List ℕ) (db : List Relation) (q : RawQuestion) → IsDatabase bytes db → IsQuery query q → AllByRecursion IsEntry (all_texts db (plain_question q))
-all_entries bytes query db q d is = both (database_texts db) (form_texts (plain_question q).body db (plain_question q).head) (database_entries bytes db d) (query_entries query q is db)

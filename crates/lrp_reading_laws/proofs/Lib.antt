@@ -1,3 +1,3 @@
 pub mod Databases
 pub mod DataTextLemmas
-pub mod TenseTextLemmas
+pub mod FormulaTexts

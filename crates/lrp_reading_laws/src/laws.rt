@@ -13,7 +13,6 @@ ghost use Rattle.lrp_model.specs.declared.faults.QueryFault.{QueryFault};
 ghost use Rattle.lrp_model.specs.declared.relations.Relation.{Relation};
 ghost use Rattle.lrp_tense.specs.Expanding.{expanded_question};
 ghost use Rattle.lrp_tense.specs.TenseReading.{IsTenseQuery, IsTenseQueryFault};
-ghost use Rattle.lrp_tense.specs.Trees.{TenseQuestion};
 
 /// A text is of one database at most.
 pub fn texts_are_of_one_database()
@@ -53,7 +52,7 @@ pub fn queries_have_one_fault()
 
 /// The text of a query with temporal operators has no fault.
 pub fn tense_queries_have_no_fault()
-    ensures { (bytes : List ℕ) (q : TenseQuestion) (fault : QueryFault)
+    ensures { (bytes : List ℕ) (q : RawQuestion) (fault : QueryFault)
         → IsTenseQuery bytes q → IsTenseQueryFault bytes fault → ⊥ }
 {}
 
@@ -73,7 +72,7 @@ pub fn read_texts_are_data_texts()
 
 /// The texts of a database and of the expansion of a query with temporal operators are data texts.
 pub fn expanded_texts_are_data_texts()
-    ensures { (database query : List ℕ) (relations : List Relation) (q : TenseQuestion)
+    ensures { (database query : List ℕ) (relations : List Relation) (q : RawQuestion)
         → IsDatabase database relations
         → IsTenseQuery query q
         → AllByRecursion (λ entry. IsDataText entry.1)

@@ -8,6 +8,7 @@ use Rattle.lrp_model.specs.Tokens.{Spells}
 use Rattle.lrp_model.specs.Lexing.{tokens, tokens_from, after, skip, run, behind_run, word_or_name, text_from, symbol_from, scan}
 use Rattle.lrp_model.specs.Queries.{WrittenTerm, WrittenFormula, WrittenQuery, query_text, FitsQuery}
 use Rattle.lrp_model.specs.Queries.WrittenTerm.{variable, shifted}
+use Rattle.lrp_model.specs.Queries.Language.{first_order}
 use Rattle.lrp_model.specs.Queries.WrittenFormula.{atom_formula, compared, denied, all_of, some}
 use Rattle.lrp_model.specs.Queries.FurtherMembers.{last, more}
 use Rattle.lrp_model.specs.QueryReading.{IsQuery}
@@ -21,7 +22,7 @@ abbrev here : WrittenTerm → ℕ → Located WrittenTerm
 here t at = record { place = place at; item = t }
 
 -- some trip leaves at u or within 15 minutes behind it
-abbrev written_some : WrittenFormula
+abbrev written_some : WrittenFormula first_order
 written_some =
     some (place 60) (binder (codes "v") 67 Time 70) (some (place 75) (binder (codes "w") 82 Time 85) (some (place 90) (binder (codes "k") 97 Data 100) (all_of (place 105)
     (atom_formula (place 106) (codes "trip") (here (variable (codes "v")) 111 ∷ here (variable (codes "w")) 114 ∷ here (variable (codes "k")) 117 ∷ [])) (
@@ -29,7 +30,7 @@ written_some =
     last (compared (here (variable (codes "v")) 135) Le (here (shifted (codes "u") false 15) 140)))))))
 
 -- the query as it is written
-abbrev written_sample : WrittenQuery
+abbrev written_sample : WrittenQuery first_order
 written_sample = record {
   head = binder (codes "t") 3 Time 6 ∷ binder (codes "l") 12 Data 15 ∷ [];
   body = some (place 22) (binder (codes "u") 29 Time 32) (all_of (place 37)

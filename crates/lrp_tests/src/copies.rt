@@ -5,7 +5,6 @@ use lrp_edits::Edit;
 use lrp_io::{File, MemShelf, MemSink};
 use lrp_model::*;
 use lrp_sample::Texts;
-use lrp_tense::{TenseFormula, TenseKind, TenseQuery};
 use lrp_token::Resume;
 use std::alloc::Global;
 use std::mem::forget;
@@ -67,9 +66,21 @@ fn written_relations_are_copied(rt: HostRuntime) {
     assert!(rt; relation.copy(alloc).is_ok());
 }
 
-fn denied(rt: &impl Abort, alloc: Global) -> Formula {
-    let of = Box::new(alloc, Formula::Check { test: member() }).expect(rt, "memory");
-    Formula::Not { of }
+fn denied(rt: &impl Abort, alloc: Global) -> RawFormula {
+    let term = RawTerm {
+        kind: RawTermKind::Int { value: 3 },
+        place: PLACE,
+    };
+    let point = RowPoint {
+        offset: 1,
+        period: 4,
+    };
+    let kind = RawKind::Member { term, point };
+    let of = Box::new(alloc, RawFormula { kind, place: PLACE }).expect(rt, "memory");
+    RawFormula {
+        kind: RawKind::Not { of },
+        place: PLACE,
+    }
 }
 
 #[test]
@@ -112,7 +123,7 @@ fn raw_queries_are_copied(rt: HostRuntime) {
     forget(query);
 }
 
-fn since(rt: &impl Abort, alloc: Global) -> TenseFormula {
+fn since(rt: &impl Abort, alloc: Global) -> RawFormula {
     let point = RowPoint {
         offset: 1,
         period: 4,
@@ -121,25 +132,26 @@ fn since(rt: &impl Abort, alloc: Global) -> TenseFormula {
         kind: RawTermKind::Int { value: 3 },
         place: PLACE,
     };
-    let kind = TenseKind::Member { term, point };
-    let left = Box::new(alloc, TenseFormula { kind, place: PLACE }).expect(rt, "memory");
-    let kind = TenseKind::And {
+    let kind = RawKind::Member { term, point };
+    let left = Box::new(alloc, RawFormula { kind, place: PLACE }).expect(rt, "memory");
+    let kind = RawKind::And {
         of: Vec::new(alloc),
     };
-    let right = Box::new(alloc, TenseFormula { kind, place: PLACE }).expect(rt, "memory");
-    let kind = TenseKind::Since {
+    let right = Box::new(alloc, RawFormula { kind, place: PLACE }).expect(rt, "memory");
+    let kind = RawKind::Paired {
+        word: Paired::Since,
         name: name(rt, alloc, "t"),
         name_place: PLACE,
         left,
         right,
     };
-    TenseFormula { kind, place: PLACE }
+    RawFormula { kind, place: PLACE }
 }
 
 #[test]
 fn queries_with_operators_are_copied(rt: HostRuntime) {
     let alloc = rt.alloc();
-    let query = TenseQuery {
+    let query = RawQuery {
         head: list(&rt, alloc, raw_column(&rt, alloc)),
         body: since(&rt, alloc),
     };

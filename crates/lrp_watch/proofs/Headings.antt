@@ -5,7 +5,7 @@ use Rattle.std.specs.List.{AllByRecursion, list_any}
 use Rattle.std.specs.Str.{bytes_eq}
 use Rattle.lrp_model.specs.Formulas.{Question}
 use Rattle.lrp_model.specs.Kept.{IsRowOf}
-use Rattle.lrp_model.specs.RawQueries.{RawForm, RawForms, RawQuestion, raw_atom, raw_compare, raw_member, raw_not, raw_and, raw_or, raw_implies, raw_group, raw_exists, raw_forall, no_raws, raw}
+use Rattle.lrp_model.specs.RawQueries.{RawForm, RawForms, RawQuestion, raw_atom, raw_compare, raw_member, raw_not, raw_and, raw_or, raw_implies, raw_group, raw_exists, raw_forall, raw_ranged, raw_paired, no_raws, raw}
 use Rattle.lrp_model.specs.Rows.{relation_named, rows_of}
 use Rattle.lrp_model.specs.Faults.{fault_if, is_named_in, ninth}
 use Rattle.lrp_model.specs.Sorting.{Binders, atom_faults, binder_faults, column_faults, form_faults, forms_faults, has_sort, head_faults, query_fault, query_faults, sort_faults, term_faults, widened}
@@ -72,6 +72,8 @@ module _ (rows : List Row) (name : Identifier) where
       form_same (raw_group p f) bs = ap (widened bs [] f) (form_same f bs)
       form_same (raw_exists p c f) bs = ap₂ (λ xs ys. xs ++ widened (c ∷ bs) (c.name ∷ []) f ys) (binder_same bs c) (form_same f (c ∷ bs))
       form_same (raw_forall p c f) bs = ap₂ (λ xs ys. xs ++ widened (c ∷ bs) (c.name ∷ []) f ys) (binder_same bs c) (form_same f (c ∷ bs))
+      form_same (raw_ranged word o from to f) bs = ap (widened bs [] f) (form_same f bs)
+      form_same (raw_paired word o f g) bs = ap (widened bs [] g) (form_same g bs)
 
       forms_same : (fs : RawForms) (bs : Binders) → forms_faults fs new bs ≡ forms_faults fs db bs
       forms_same no_raws bs = refl

@@ -26,7 +26,7 @@ push_all-loop-f-preserved t c =
 pub push_one-returns-in-And : goal.push_one-returns-in-And
 push_one-returns-in-And t c =
     subst (λ x. OnOk c.push_all.result (cores_of c.push_all.new.all.items ≡ joined (cores_of c.args.all.now.items) x))
-    (inner-And c.args.forming.polarity c.args.junction c.args.f.now c.in-And.of c.args.forming.named (search (rules, c.if-eq.true, c.eq.ensures)) (search (rules, c.if-eq-2.true, c.eq-then-eq.ensures)) c.in-And.is) (rw c.deref.ensures.value at c.push_all.ensures)
+    (inner-And c.args.forming.polarity c.args.junction c.args.f.now c.in-And.of c.args.forming.named (search (rules, c.if-eq.true, c.eq.ensures)) (search (rules, c.if-eq-2.true, c.eq-then-eq.ensures)) c.in-And.is) (rw c.deref-in-And.ensures.value at c.push_all.ensures)
 
 pub push_one-returns-in-Or : goal.push_one-returns-in-Or
 push_one-returns-in-Or t c =

@@ -1,7 +1,6 @@
-use Rattle.std.proofs.Common.{sym, ap, subst, OnOk, ◌∙◌}
-use Rattle.lrp_model.specs.Formulas.{form_of, forms_of, conjunction, disjunction}
+use Rattle.std.proofs.Common.{subst, OnOk}
 use Rattle.lrp_model.specs.Domains.{form_texts}
-use Rattle.lrp_model.proofs.Views.{form_of-And, form_of-Or}
+use Rattle.lrp_model.proofs.Views.{and_form, or_form}
 use Rattle.lrp_core.specs.Literals.{AddsTexts}
 use Rattle.lrp_core.proofs.Literal.{texts_more}
 use Rattle.lrp_core.proofs.literals.+literals.Goals as goal
@@ -9,12 +8,12 @@ use Rattle.lrp_core.proofs.literals.+literals.Goals as goal
 pub add_formula-returns-in-And : goal.add_formula-returns-in-And
 add_formula-returns-in-And t c =
     subst (λ g. OnOk c.add_formulas.result (AddsTexts (form_texts g c.args.lookup.database.now c.args.binders.now.items) c.args.binders.now.items c.add_formulas.new.binders.items c.args.all.now.items c.add_formulas.new.all.items))
-    (sym (ap form_of c.in-And.is ∙ form_of-And c.in-And.of ∙ ap (λ xs. conjunction (forms_of xs)) (sym c.deref-in-And.ensures.value))) c.add_formulas.ensures
+    (and_form c.args.f.now c.in-And.of c.deref-in-And.result.now c.in-And.is c.deref-in-And.ensures.value) c.add_formulas.ensures
 
 pub add_formula-returns-in-Or : goal.add_formula-returns-in-Or
 add_formula-returns-in-Or t c =
     subst (λ g. OnOk c.add_formulas-in-Or.result (AddsTexts (form_texts g c.args.lookup.database.now c.args.binders.now.items) c.args.binders.now.items c.add_formulas-in-Or.new.binders.items c.args.all.now.items c.add_formulas-in-Or.new.all.items))
-    (sym (ap form_of c.in-Or.is ∙ form_of-Or c.in-Or.of ∙ ap (λ xs. disjunction (forms_of xs)) (sym c.deref-in-Or.ensures.value))) c.add_formulas-in-Or.ensures
+    (or_form c.args.f.now c.in-Or.of c.deref-in-Or.result.now c.in-Or.is c.deref-in-Or.ensures.value) c.add_formulas-in-Or.ensures
 
 pub add_formulas-loop-f-preserved : goal.add_formulas-loop-f-preserved
 add_formulas-loop-f-preserved t c =

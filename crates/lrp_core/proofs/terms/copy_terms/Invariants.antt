@@ -1,6 +1,7 @@
-use Rattle.std.proofs.Common.{◌≡◌, take}
+use Rattle.std.proofs.Common.{◌≡◌, map, take}
+use Rattle.lrp_model.specs.RawTerms.{said_term}
 use Rattle.lrp_core.proofs.terms.copy_terms.Given as goal
 
--- the copies so far are of the terms so far
+-- what the terms so far say
 abbrev pub invariant-loop-term : goal.invariant-loop-term
-invariant-loop-term l = l.made.items ≡ take l.term-index l.terms
+invariant-loop-term l = l.made.items ≡ map said_term (take l.term-index l.terms)

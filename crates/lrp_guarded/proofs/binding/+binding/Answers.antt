@@ -1,4 +1,5 @@
 use Rattle.std.proofs.Common.{map, refl, sym, ap, subst, ◌∙◌}
+use Rattle.lrp_model.specs.RawTerms.{said_term}
 use Rattle.lrp_core.specs.Cores.{core_of, cores_of}
 use Rattle.lrp_core.specs.FreeVariables.{variable_of}
 use Rattle.lrp_core.proofs.CoreViews.{core_of-And, core_of-Or}
@@ -9,7 +10,7 @@ use Rattle.lrp_guarded.proofs.Bound.{leaf_bound, as_bound, exists_bound, some_mo
 use Rattle.lrp_guarded.proofs.binding.+binding.Goals as goal
 
 pub binds-returns-in-Atom : goal.binds-returns-in-Atom
-binds-returns-in-Atom t c = leaf_bound c.free_variables.result (core_of c.args.core.now) (atom c.in-Atom.relation.now c.in-Atom.terms.now) (ap core_of c.in-Atom.is) refl c.free_variables.ensures.members
+binds-returns-in-Atom t c = leaf_bound c.free_variables.result (core_of c.args.core.now) (atom c.in-Atom.relation.now (map said_term c.in-Atom.terms.now)) (ap core_of c.in-Atom.is) refl c.free_variables.ensures.members
 
 pub binds-returns-in-And : goal.binds-returns-in-And
 binds-returns-in-And t c =

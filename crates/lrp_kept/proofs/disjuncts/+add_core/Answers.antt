@@ -1,4 +1,5 @@
-use Rattle.std.proofs.Common.{refl, sym, ap, ◌∙◌}
+use Rattle.std.proofs.Common.{refl, sym, ap, ◌∙◌, map}
+use Rattle.lrp_model.specs.RawTerms.{said_term}
 use Rattle.lrp_model.specs.Formulas.{atom, test, sorted, negation, conjunction, disjunction, exists}
 use Rattle.lrp_core.specs.Cores.{core_of, cores_of, test_of}
 use Rattle.lrp_core.proofs.CoreViews.{core_of-And, core_of-Or}
@@ -16,7 +17,7 @@ returns-in-And t c =
     all_elements_of c.add_each.result (core_of c.args.core.now) (cores_of c.deref-in-And.result.now) c.args.draft.now c.add_each.new.draft (ap core_of c.in-And.is ∙ core_of-And c.in-And.of ∙ ap (λ xs. conjunction (cores_of xs)) (sym c.deref-in-And.ensures.value)) c.add_each.ensures
 
 pub returns-in-Atom : goal.returns-in-Atom
-returns-in-Atom t c = one_element_of c.add_element.result (core_of c.args.core.now) (atom c.in-Atom.relation.now c.in-Atom.terms.now) c.args.draft.now c.add_element.new.draft (ap core_of c.in-Atom.is) refl refl c.add_element.ensures
+returns-in-Atom t c = one_element_of c.add_element.result (core_of c.args.core.now) (atom c.in-Atom.relation.now (map said_term c.in-Atom.terms.now)) c.args.draft.now c.add_element.new.draft (ap core_of c.in-Atom.is) refl refl c.add_element.ensures
 
 pub returns-in-Check : goal.returns-in-Check
 returns-in-Check t c = one_element_of c.add_element-in-Check.result (core_of c.args.core.now) (test (test_of c.in-Check.test)) c.args.draft.now c.add_element-in-Check.new.draft (ap core_of c.in-Check.is) refl refl c.add_element-in-Check.ensures

@@ -1,4 +1,5 @@
-use Rattle.std.proofs.Common.{refl, ap, ◌∙◌}
+use Rattle.std.proofs.Common.{refl, ap, ◌∙◌, map}
+use Rattle.lrp_model.specs.RawTerms.{said_term}
 use Rattle.lrp_model.specs.Formulas.{sorted, negation, conjunction, disjunction, exists}
 use Rattle.lrp_core.specs.Cores.{core_of, cores_of, test_of}
 use Rattle.lrp_core.proofs.CoreViews.{core_of-And, core_of-Or}
@@ -7,7 +8,7 @@ use Rattle.lrp_kept.proofs.disjuncts.add_element.Goals as goal
 
 pub returns-in_ok-push-in-Atom : goal.returns-in_ok-push-in-Atom
 returns-in_ok-push-in-Atom c =
-    atom_added (core_of c.args.element.now) c.in-Atom.relation.now c.in-Atom.terms.now (record { name = c.in_ok-name-in-Atom.name; terms = c.in_ok-terms-in-Atom.terms }) c.args.draft.now _ (ap core_of c.in-Atom.is) c.in_ok-name-in-Atom.ensures (c.in_ok-terms-in-Atom.ensures ∙ c.as_slice.ensures) c.in_ok-push-in-Atom.ensures.items refl refl
+    atom_added (core_of c.args.element.now) c.in-Atom.relation.now (map said_term c.in-Atom.terms.now) (record { name = c.in_ok-name-in-Atom.name; terms = c.in_ok-terms-in-Atom.terms }) c.args.draft.now _ (ap core_of c.in-Atom.is) c.in_ok-name-in-Atom.ensures (c.in_ok-terms-in-Atom.ensures ∙ ap (map said_term) c.as_slice.ensures) c.in_ok-push-in-Atom.ensures.items refl refl
 
 pub returns-in_ok-push-in-Check : goal.returns-in_ok-push-in-Check
 returns-in_ok-push-in-Check c = test_added (core_of c.args.element.now) (test_of c.in-Check.test) c.in_ok-test-in-Check.test c.args.draft.now _ (ap core_of c.in-Check.is) c.in_ok-test-in-Check.ensures refl c.in_ok-push-in-Check.ensures.ok refl

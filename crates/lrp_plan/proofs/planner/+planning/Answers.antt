@@ -4,6 +4,7 @@ use Rattle.lrp_core.specs.Cores.{core_of, cores_of, test_of}
 use Rattle.lrp_core.specs.FreeVariables.{variable_of}
 use Rattle.lrp_core.proofs.CoreViews.{core_of-And, core_of-Or}
 use Rattle.lrp_core.proofs.TreeViews.{inner_known}
+use Rattle.lrp_model.specs.RawTerms.{said_term}
 use Rattle.lrp_model.specs.Formulas.{atom, test, sorted, negation, exists, conjunction, disjunction}
 use Rattle.lrp_model.specs.Conjunctions.{first_or_0}
 use Rattle.lrp_plan.specs.declared.taking.Taking.{Taking}
@@ -19,7 +20,7 @@ use Rattle.lrp_plan.proofs.planner.+planning.Goals as goal
 
 pub plan_core-returns-in-Atom : goal.plan_core-returns-in-Atom
 plan_core-returns-in-Atom t c =
-    leaf_planned c.plan_atom.result c.args.sources.now c.args.inner.now (core_of c.args.core.now) (atom c.in-Atom.relation.now c.as_slice.result.now) c.args.draft.now c.plan_atom.new.draft (ap core_of c.in-Atom.is ∙ ap (atom c.in-Atom.relation.now) (sym c.as_slice.ensures)) c.plan_atom.ensures
+    leaf_planned c.plan_atom.result c.args.sources.now c.args.inner.now (core_of c.args.core.now) (atom c.in-Atom.relation.now (map said_term c.as_slice.result.now)) c.args.draft.now c.plan_atom.new.draft (ap core_of c.in-Atom.is ∙ ap (λ ts. atom c.in-Atom.relation.now (map said_term ts)) (sym c.as_slice.ensures)) c.plan_atom.ensures
 
 pub plan_core-returns-in-Check : goal.plan_core-returns-in-Check
 plan_core-returns-in-Check t c =

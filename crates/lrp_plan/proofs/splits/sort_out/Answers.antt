@@ -1,4 +1,5 @@
-use Rattle.std.proofs.Common.{refl, sym, ap, ◌∙◌}
+use Rattle.std.proofs.Common.{refl, sym, ap, ◌∙◌, map}
+use Rattle.lrp_model.specs.RawTerms.{said_term}
 use Rattle.lrp_core.specs.Cores.{core_of, cores_of, test_of}
 use Rattle.lrp_core.proofs.CoreViews.{core_of-And, core_of-Or}
 use Rattle.lrp_model.specs.Formulas.{exists, conjunction, disjunction, test}
@@ -18,7 +19,7 @@ returns-else-is_test c =
     other_sorted c.add_positive.result c.args.sources.now c.args.index c.args.core.now c.args.tree.now (test (test_of c.in-Check.test)) _ c.args.parts.now c.add_positive.new.parts (ap core_of c.in-Check.is) i.0 i.1 refl refl c.add_positive.ensures
 
 pub returns-in-Atom : goal.returns-in-Atom
-returns-in-Atom c = atom_sorted c.add_positive-in-Atom.result c.args.sources.now c.args.index c.args.core.now c.args.tree.now c.in-Atom.relation.now c.in-Atom.terms.now c.facts.result c.rank_of-rank.result c.args.parts.now c.add_positive-in-Atom.new.parts (ap core_of c.in-Atom.is) c.facts.ensures c.rank_of-rank.ensures.same c.rank_of-rank.ensures.below c.add_positive-in-Atom.ensures
+returns-in-Atom c = atom_sorted c.add_positive-in-Atom.result c.args.sources.now c.args.index c.args.core.now c.args.tree.now c.in-Atom.relation.now (map said_term c.in-Atom.terms.now) c.facts.result c.rank_of-rank.result c.args.parts.now c.add_positive-in-Atom.new.parts (ap core_of c.in-Atom.is) c.facts.ensures c.rank_of-rank.ensures.same c.rank_of-rank.ensures.below c.add_positive-in-Atom.ensures
 
 pub returns-in-Sorted : goal.returns-in-Sorted
 returns-in-Sorted c =

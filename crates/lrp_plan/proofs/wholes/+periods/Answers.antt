@@ -1,4 +1,5 @@
-use Rattle.std.proofs.Common.{sym, ap, ◌∙◌, arith}
+use Rattle.std.proofs.Common.{sym, ap, ◌∙◌, arith, map}
+use Rattle.lrp_model.specs.RawTerms.{said_term}
 use Rattle.lrp_core.specs.Cores.{core_of, cores_of}
 use Rattle.lrp_core.proofs.CoreViews.{core_of-And, core_of-Or}
 use Rattle.lrp_model.specs.Formulas.{conjunction}
@@ -7,7 +8,7 @@ use Rattle.lrp_plan.proofs.WholePeriods.{atom_whole, same_whole, each_more, each
 use Rattle.lrp_plan.proofs.wholes.+periods.Goals as goal
 
 pub with_core-returns-in-Atom : goal.with_core-returns-in-Atom
-with_core-returns-in-Atom t c = atom_whole c.args.sources.now (core_of c.args.core.now) c.in-Atom.relation.now c.in-Atom.terms.now c.facts.result _ _ (ap core_of c.in-Atom.is) c.facts.ensures c.with_facts.ensures
+with_core-returns-in-Atom t c = atom_whole c.args.sources.now (core_of c.args.core.now) c.in-Atom.relation.now (map said_term c.in-Atom.terms.now) c.facts.result _ _ (ap core_of c.in-Atom.is) c.facts.ensures c.with_facts.ensures
 
 pub with_core-returns-in-And : goal.with_core-returns-in-And
 with_core-returns-in-And t c =

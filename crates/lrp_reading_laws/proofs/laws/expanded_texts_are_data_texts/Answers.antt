@@ -1,4 +1,4 @@
-use Rattle.lrp_reading_laws.proofs.TenseTextLemmas.{tense_entries}
+use Rattle.lrp_reading_laws.proofs.FormulaTexts.{tense_entries}
 use Rattle.lrp_reading_laws.proofs.laws.expanded_texts_are_data_texts.Goals as goal
 
 pub returns : goal.returns

@@ -1,4 +1,4 @@
-use Rattle.lrp_reading_laws.proofs.DataTextLemmas.{all_entries}
+use Rattle.lrp_reading_laws.proofs.FormulaTexts.{all_entries}
 use Rattle.lrp_reading_laws.proofs.laws.read_texts_are_data_texts.Goals as goal
 
 pub returns : goal.returns

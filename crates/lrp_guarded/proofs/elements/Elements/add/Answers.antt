@@ -1,4 +1,5 @@
-use Rattle.std.proofs.Common.{refl, ap, ◌∙◌}
+use Rattle.std.proofs.Common.{refl, ap, ◌∙◌, map}
+use Rattle.lrp_model.specs.RawTerms.{said_term}
 use Rattle.lrp_core.specs.Cores.{core_of, cores_of, test_of}
 use Rattle.lrp_core.proofs.CoreViews.{core_of-And, core_of-Or}
 use Rattle.lrp_model.specs.Formulas.{exists, conjunction, disjunction}
@@ -15,7 +16,7 @@ returns-in_ok-add_check-in-Check c = λ over K s.
 
 pub returns-in_ok-push-in-Atom : goal.returns-in_ok-push-in-Atom
 returns-in_ok-push-in-Atom c = λ over K s.
-    atom_out over K c.args.index c.args.core.now c.args.tree.now c.args.self.now _ c.in-Atom.relation.now c.in-Atom.terms.now _ (ap core_of c.in-Atom.is) refl refl refl (c.facts.ensures over.structure s).rows c.in_ok-push-in-Atom.ensures.items refl refl refl refl
+    atom_out over K c.args.index c.args.core.now c.args.tree.now c.args.self.now _ c.in-Atom.relation.now (map said_term c.in-Atom.terms.now) _ (ap core_of c.in-Atom.is) refl refl refl (c.facts.ensures over.structure s).rows c.in_ok-push-in-Atom.ensures.items refl refl refl refl
 
 pub returns-in_ok-push-in-Sorted : goal.returns-in_ok-push-in-Sorted
 returns-in_ok-push-in-Sorted c = λ over K s.

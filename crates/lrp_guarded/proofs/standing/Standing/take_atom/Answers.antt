@@ -1,4 +1,5 @@
-use Rattle.std.proofs.Common.{refl, sym, ap, subst, ◌∙◌}
+use Rattle.std.proofs.Common.{refl, sym, ap, subst, ◌∙◌, map}
+use Rattle.lrp_model.specs.RawTerms.{said_term}
 use Rattle.lrp_model.specs.Rows.{relation_named, columns_in}
 use Rattle.lrp_plan_laws.specs.GuardedConjunctions.{stands_alone}
 use Rattle.lrp_guarded.specs.Needs.{sort_element}
@@ -29,7 +30,7 @@ use Rattle.lrp_guarded.proofs.standing.Standing.take_atom.Goals as goal
 pub returns-in_ok-take_up : goal.returns-in_ok-take_up
 returns-in_ok-take_up c = one_taken c.args.index c.args.making.now c.leaf.new.self c.take_up.new.making c.args.self.now c.take_up.new.self (record { atoms = c.remove-atom.new.self; sorts = c.in_ok-self.field-0; others = c.args.self.now.left.others; tests = c.args.self.now.left.tests; negations = c.args.self.now.left.negations })
     c.remove-atom.result (subst (λ n. c.args.index < n) (c.len.ensures ∙ c.args.self.now.left.atoms.ok.0) c.if-index-len.true) c.remove-atom.ensures.value c.remove-atom.ensures.items
-    (c.in_ok-self.ensures ∙ ap (λ v. filter (λ x. not (stands_alone (sort_element x) (columns_in (relation_named c.args.making.now.sources.now.database.now c.remove-atom.result.relation.now)) c.remove-atom.result.terms.now)) v.items) c.replace-sorts.ensures.value) refl refl refl
+    (c.in_ok-self.ensures ∙ ap (λ v. filter (λ x. not (stands_alone (sort_element x) (columns_in (relation_named c.args.making.now.sources.now.database.now c.remove-atom.result.relation.now)) (map said_term c.remove-atom.result.terms.now))) v.items) c.replace-sorts.ensures.value) refl refl refl
     c.in_ok-leaf.ensures (λ vs same. c.in_ok-take_up.ensures vs (subst (λ us. HaveSame (map variable_of us) vs) (sym c.as_slice.ensures) same))
 
 -- src/standing.rt:110:5

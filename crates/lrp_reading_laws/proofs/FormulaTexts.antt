@@ -1,7 +1,8 @@
--- The texts of a query with temporal operators are data texts, and those of its expansion are the same.
+-- The texts of a query are data texts, and those of its expansion are the same.
 use Rattle.std.proofs.Common.{◌&&◌, ℕ, suc, List, [], ◌∷◌, ◌++◌, length, map, reverse, sym, subst}
 use Rattle.std.specs.List.{AllByRecursion}
-use Rattle.lrp_model.specs.Checked.{data_of, is_equality, plain, plain_each, plain_question, term_of, time_of}
+use Rattle.lrp_model.specs.Checked.{plain, plain_each, plain_question, term_of}
+use Rattle.lrp_model.specs.RawTerms.{data_of, is_equality, time_of}
 use Rattle.lrp_model.specs.Columns.{column_text}
 use Rattle.lrp_model.specs.DatabaseMeaning.{column_of}
 use Rattle.lrp_model.specs.DatabaseReading.{IsDatabase}
@@ -10,10 +11,16 @@ use Rattle.lrp_model.specs.Databases.{comma}
 use Rattle.lrp_model.specs.Domains.{all_texts, database_texts, form_texts, forms_texts, term_texts}
 use Rattle.lrp_model.specs.Rows.{columns_in, relation_named}
 use Rattle.lrp_model.specs.Lexing.{tokens, start}
-use Rattle.lrp_model.specs.Queries.{WrittenTerm, FitsTerm, op_symbol, term_text}
+use Rattle.lrp_model.specs.Queries.{Language, WrittenTerm, WrittenFormula, FurtherMembers, FitsTerm, FitsSizes, FitSizes, op_symbol, term_text, formula_text, members_text, interval_text, query_text}
+use Rattle.lrp_model.specs.Queries.Language.{first_order, temporal}
+use Rattle.lrp_model.specs.Queries.WrittenFormula.{atom_formula, compared, member, denied, all_of, any_of, implied, group, some, every, ranged, paired, hole}
+use Rattle.lrp_model.specs.Queries.FurtherMembers.{last, more}
+use Rattle.lrp_model.specs.QueryReading.{IsQuery, IsQueryIn}
+use Rattle.lrp_model.specs.declared.raw.Ranged.TheVariants.{Once, Always}
+use Rattle.lrp_model.specs.declared.raw.Paired.TheVariants.{Since, Until}
 use Rattle.lrp_model.specs.Queries.WrittenTerm.{integer, text_term, variable, shifted}
-use Rattle.lrp_model.specs.QueryMeaning.{raw_term, term_kind}
-use Rattle.lrp_model.specs.RawQueries.{RawForm, RawForms, raw_atom, raw_compare, raw_member, raw_not, raw_and, raw_or, raw_implies, raw_group, raw_exists, raw_forall, no_raws, raw}
+use Rattle.lrp_model.specs.QueryMeaning.{raw_term, raw_form, raw_forms, term_kind}
+use Rattle.lrp_model.specs.RawQueries.{RawForm, RawForms, RawQuestion, raw_atom, raw_compare, raw_member, raw_not, raw_and, raw_or, raw_implies, raw_group, raw_exists, raw_forall, raw_ranged, raw_paired, no_raws, raw}
 use Rattle.lrp_model.specs.Sorting.{Binders, is_data_term, term_sort}
 use Rattle.lrp_model.specs.Tokens.{located_text, separated}
 use Rattle.lrp_model.specs.Tokens.Token.{word_token, symbol_token, end_token}
@@ -29,11 +36,7 @@ use Rattle.lrp_model.specs.declared.tokens.Word.{Word}
 use Rattle.lrp_model.specs.declared.tokens.Word.TheVariants.{And, Or, Implies}
 use Rattle.lrp_model.specs.declared.written.Located.{Located}
 use Rattle.lrp_tense.specs.Expanding.{Naming, renamed, renamed_kind, expanded, expanded_each, expanded_question, moment_of, between_of, renamed_to, operator_number, operators}
-use Rattle.lrp_tense.specs.TenseQueries.{WrittenTense, FurtherTenses, FitsTenseSizes, FitTenseSizes, interval_text, tense_text, tenses_text, tense_query_text}
-use Rattle.lrp_tense.specs.TenseQueries.WrittenTense.{atom, compared, member, denied, all_of, any_of, implied, group, some, every, once_in, always_in, since_when, until_when, hole}
-use Rattle.lrp_tense.specs.TenseQueries.FurtherTenses.{last, more}
-use Rattle.lrp_tense.specs.TenseReading.{IsTenseQuery, tense_form, tense_forms}
-use Rattle.lrp_tense.specs.Trees.{TenseForm, TenseForms, TenseQuestion, tense_atom, tense_compare, tense_member, tense_not, tense_and, tense_or, tense_implies, tense_group, tense_exists, tense_forall, once, always, since, until, no_tenses, tense}
+use Rattle.lrp_tense.specs.TenseReading.{IsTenseQuery}
 use Rattle.lrp_text.proofs.NameTokens.{all_front, all_behind}
 use Rattle.lrp_reading_laws.proofs.DataTextLemmas.{TextPart, takes_texted, tokens_texted, IsGood, term_good, terms_good, IsGoodData, nothing_good, IsEntry, both, term_entry, test_entries, database_entries}
 
@@ -79,7 +82,7 @@ data_good (Int x) h = nothing_good
 data_good (Var v) h = tt
 data_good (Shifted v plus) h = nothing_good
 
--- ---- formulas without operators
+-- ---- formulas
 
 abbrev mutual
   HasGoodTexts : RawForm → Type 0
@@ -93,6 +96,8 @@ abbrev mutual
   HasGoodTexts (raw_group p f) = HasGoodTexts f
   HasGoodTexts (raw_exists p c f) = HasGoodTexts f
   HasGoodTexts (raw_forall p c f) = HasGoodTexts f
+  HasGoodTexts (raw_ranged word o from to f) = HasGoodTexts f
+  HasGoodTexts (raw_paired word o f g) = HasGoodTexts f × HasGoodTexts g
 
   HaveGoodTexts : RawForms → Type 0
   HaveGoodTexts no_raws = Unit {0}
@@ -119,117 +124,97 @@ mutual
   good_entries (raw_group p f) h bs db binders = good_entries f h bs db binders
   good_entries (raw_exists p c f) h bs db binders = good_entries f h (c ∷ bs) db (record { name = c.name; sort = c.sort } ∷ binders)
   good_entries (raw_forall p c f) h bs db binders = good_entries f h (c ∷ bs) db (record { name = c.name; sort = c.sort } ∷ binders)
+  good_entries (raw_ranged word o from to f) h bs db binders = good_entries f h bs db binders
+  good_entries (raw_paired word o f g) h bs db binders = good_entries g h.1 bs db binders
 
   each_entries : (fs : RawForms) → HaveGoodTexts fs → (bs : Binders) (db : List Relation) (binders : List Column) → AllByRecursion IsEntry (forms_texts (plain_each fs bs) db binders)
   each_entries no_raws h bs db binders = tt
   each_entries (raw f fs) h bs db binders =
       both (form_texts (plain f bs) db binders) (forms_texts (plain_each fs bs) db binders) (good_entries f h.0 bs db binders) (each_entries fs h.1 bs db binders)
 
--- ---- formulas with operators
-
-abbrev mutual
-  HasTenseTexts : TenseForm → Type 0
-  HasTenseTexts (tense_atom p n ts) = AllByRecursion IsGoodTerm ts
-  HasTenseTexts (tense_compare p l op r) = IsGoodTerm l × IsGoodTerm r
-  HasTenseTexts (tense_member p t point) = Unit {0}
-  HasTenseTexts (tense_not p f) = HasTenseTexts f
-  HasTenseTexts (tense_and p fs) = HaveTenseTexts fs
-  HasTenseTexts (tense_or p fs) = HaveTenseTexts fs
-  HasTenseTexts (tense_implies p f g) = HasTenseTexts f × HasTenseTexts g
-  HasTenseTexts (tense_group p f) = HasTenseTexts f
-  HasTenseTexts (tense_exists p c f) = HasTenseTexts f
-  HasTenseTexts (tense_forall p c f) = HasTenseTexts f
-  HasTenseTexts (once o from to f) = HasTenseTexts f
-  HasTenseTexts (always o from to f) = HasTenseTexts f
-  HasTenseTexts (since o f g) = HasTenseTexts f × HasTenseTexts g
-  HasTenseTexts (until o f g) = HasTenseTexts f × HasTenseTexts g
-
-  HaveTenseTexts : TenseForms → Type 0
-  HaveTenseTexts no_tenses = Unit {0}
-  HaveTenseTexts (tense f fs) = HasTenseTexts f × HaveTenseTexts fs
-
 -- to write operators out brings no text
 mutual
-  expanded_good : (f : TenseForm) → HasTenseTexts f → (number : Place → ℕ) (names : Naming) → HasGoodTexts (expanded f number names)
-  expanded_good (tense_atom p n ts) h number names = renamed_each names ts h
-  expanded_good (tense_compare p l op r) h number names = (renamed_good names l.kind h.0, renamed_good names r.kind h.1)
-  expanded_good (tense_member p t point) h number names = tt
-  expanded_good (tense_not p f) h number names = expanded_good f h number names
-  expanded_good (tense_and p fs) h number names = each_good fs h number names
-  expanded_good (tense_or p fs) h number names = each_good fs h number names
-  expanded_good (tense_implies p f g) h number names = (expanded_good f h.0 number names, expanded_good g h.1 number names)
-  expanded_good (tense_group p f) h number names = expanded_good f h number names
-  expanded_good (tense_exists p c f) h number names = expanded_good f h number (renamed_to c.name c.name ∷ names)
-  expanded_good (tense_forall p c f) h number names = expanded_good f h number (renamed_to c.name c.name ∷ names)
-  expanded_good (once o from to f) h number names =
+  expanded_good : (f : RawForm) → HasGoodTexts f → (number : Place → ℕ) (names : Naming) → HasGoodTexts (expanded f number names)
+  expanded_good (raw_atom p n ts) h number names = renamed_each names ts h
+  expanded_good (raw_compare p l op r) h number names = (renamed_good names l.kind h.0, renamed_good names r.kind h.1)
+  expanded_good (raw_member p t point) h number names = tt
+  expanded_good (raw_not p f) h number names = expanded_good f h number names
+  expanded_good (raw_and p fs) h number names = each_good fs h number names
+  expanded_good (raw_or p fs) h number names = each_good fs h number names
+  expanded_good (raw_implies p f g) h number names = (expanded_good f h.0 number names, expanded_good g h.1 number names)
+  expanded_good (raw_group p f) h number names = expanded_good f h number names
+  expanded_good (raw_exists p c f) h number names = expanded_good f h number (renamed_to c.name c.name ∷ names)
+  expanded_good (raw_forall p c f) h number names = expanded_good f h number (renamed_to c.name c.name ∷ names)
+  expanded_good (raw_ranged Once o from to f) h number names =
       ((tt, tt), ((tt, tt), (expanded_good f h number (renamed_to o.name (moment_of number o) ∷ names), tt)))
-  expanded_good (always o from to f) h number names =
+  expanded_good (raw_ranged Always o from to f) h number names =
       (((tt, tt), ((tt, tt), tt)), expanded_good f h number (renamed_to o.name (moment_of number o) ∷ names))
-  expanded_good (since o f g) h number names =
+  expanded_good (raw_paired Since o f g) h number names =
       ((tt, tt), (expanded_good g h.1 number (renamed_to o.name (moment_of number o) ∷ names), ((((tt, tt), ((tt, tt), tt)), expanded_good f h.0 number (renamed_to o.name (between_of number o) ∷ names)), tt)))
-  expanded_good (until o f g) h number names =
+  expanded_good (raw_paired Until o f g) h number names =
       ((tt, tt), (expanded_good g h.1 number (renamed_to o.name (moment_of number o) ∷ names), ((((tt, tt), ((tt, tt), tt)), expanded_good f h.0 number (renamed_to o.name (between_of number o) ∷ names)), tt)))
 
-  each_good : (fs : TenseForms) → HaveTenseTexts fs → (number : Place → ℕ) (names : Naming) → HaveGoodTexts (expanded_each fs number names)
-  each_good no_tenses h number names = tt
-  each_good (tense f fs) h number names = (expanded_good f h.0 number names, each_good fs h.1 number names)
+  each_good : (fs : RawForms) → HaveGoodTexts fs → (number : Place → ℕ) (names : Naming) → HaveGoodTexts (expanded_each fs number names)
+  each_good no_raws h number names = tt
+  each_good (raw f fs) h number names = (expanded_good f h.0 number names, each_good fs h.1 number names)
 
 -- ---- what is written
 
 mutual
-  tense_good : (f : WrittenTense) → AllByRecursion TextPart (tense_text f) → FitsTenseSizes f → HasTenseTexts (tense_form f)
-  tense_good (atom p n ts) h short = kinds_good ts (terms_good ts (all_front TextPart (separated comma (located_text term_text) ts) (any (symbol_token Close) ∷ []) h.1.1) short)
-  tense_good (compared l op r) h short = (
+  written_good : {l : Language} (f : WrittenFormula l) → AllByRecursion TextPart (formula_text f) → FitsSizes f → HasGoodTexts (raw_form f)
+  written_good (atom_formula p n ts) h short = kinds_good ts (terms_good ts (all_front TextPart (separated comma (located_text term_text) ts) (any (symbol_token Close) ∷ []) h.1.1) short)
+  written_good (compared l op r) h short = (
     located_good l (all_front TextPart (located_text term_text l) (any (symbol_token (op_symbol op)) ∷ located_text term_text r) h) short.0,
     located_good r (all_behind TextPart (located_text term_text l) (any (symbol_token (op_symbol op)) ∷ located_text term_text r) h).1 short.1,
   )
-  tense_good (member t i k) h short = tt
-  tense_good (denied p f) h short = tense_good f h.1 short
-  tense_good (all_of p f fs) h short =
-      let behind = tenses_text And fs ++ any (symbol_token Close) ∷ [] in
-      (tense_good f (all_front TextPart (tense_text f) behind h.1) short.0, tenses_good fs And (all_front TextPart (tenses_text And fs) (any (symbol_token Close) ∷ []) (all_behind TextPart (tense_text f) behind h.1)) short.1)
-  tense_good (any_of p f fs) h short =
-      let behind = tenses_text Or fs ++ any (symbol_token Close) ∷ [] in
-      (tense_good f (all_front TextPart (tense_text f) behind h.1) short.0, tenses_good fs Or (all_front TextPart (tenses_text Or fs) (any (symbol_token Close) ∷ []) (all_behind TextPart (tense_text f) behind h.1)) short.1)
-  tense_good (implied p f g) h short =
+  written_good (member t i k) h short = tt
+  written_good (denied p f) h short = written_good f h.1 short
+  written_good (all_of p f fs) h short =
+      let behind = members_text And fs ++ any (symbol_token Close) ∷ [] in
+      (written_good f (all_front TextPart (formula_text f) behind h.1) short.0, members_good fs And (all_front TextPart (members_text And fs) (any (symbol_token Close) ∷ []) (all_behind TextPart (formula_text f) behind h.1)) short.1)
+  written_good (any_of p f fs) h short =
+      let behind = members_text Or fs ++ any (symbol_token Close) ∷ [] in
+      (written_good f (all_front TextPart (formula_text f) behind h.1) short.0, members_good fs Or (all_front TextPart (members_text Or fs) (any (symbol_token Close) ∷ []) (all_behind TextPart (formula_text f) behind h.1)) short.1)
+  written_good (implied p f g) h short =
       let end = any (symbol_token Close) ∷ [] in
-      let behind = any (word_token Implies) ∷ (tense_text g ++ end) in
-      (tense_good f (all_front TextPart (tense_text f) behind h.1) short.0, tense_good g (all_front TextPart (tense_text g) end (all_behind TextPart (tense_text f) behind h.1).1) short.1)
-  tense_good (group p f) h short = tense_good f (all_front TextPart (tense_text f) (any (symbol_token Close) ∷ []) h.1) short
-  tense_good (some p c f) h short = tense_good f (all_behind TextPart (column_text c) (tense_text f) h.1) short
-  tense_good (every p c f) h short = tense_good f (all_behind TextPart (column_text c) (tense_text f) h.1) short
-  tense_good (once_in o from to f) h short = tense_good f (all_behind TextPart (interval_text from to) (tense_text f) h.1.1.1) short.2
-  tense_good (always_in o from to f) h short = tense_good f (all_behind TextPart (interval_text from to) (tense_text f) h.1.1.1) short.2
-  tense_good (since_when o f g) h short =
+      let behind = any (word_token Implies) ∷ (formula_text g ++ end) in
+      (written_good f (all_front TextPart (formula_text f) behind h.1) short.0, written_good g (all_front TextPart (formula_text g) end (all_behind TextPart (formula_text f) behind h.1).1) short.1)
+  written_good (group p f) h short = written_good f (all_front TextPart (formula_text f) (any (symbol_token Close) ∷ []) h.1) short
+  written_good (some p c f) h short = written_good f (all_behind TextPart (column_text c) (formula_text f) h.1) short
+  written_good (every p c f) h short = written_good f (all_behind TextPart (column_text c) (formula_text f) h.1) short
+  written_good (ranged t word o from to f) h short = written_good f (all_behind TextPart (interval_text from to) (formula_text f) h.1.1.1) short.2
+  written_good (paired t word o f g) h short =
       let end = any (symbol_token Close) ∷ [] in
-      let behind = any (symbol_token Comma) ∷ (tense_text g ++ end) in
-      (tense_good f (all_front TextPart (tense_text f) behind h.1.1.1) short.0, tense_good g (all_front TextPart (tense_text g) end (all_behind TextPart (tense_text f) behind h.1.1.1).1) short.1)
-  tense_good (until_when o f g) h short =
-      let end = any (symbol_token Close) ∷ [] in
-      let behind = any (symbol_token Comma) ∷ (tense_text g ++ end) in
-      (tense_good f (all_front TextPart (tense_text f) behind h.1.1.1) short.0, tense_good g (all_front TextPart (tense_text g) end (all_behind TextPart (tense_text f) behind h.1.1.1).1) short.1)
-  tense_good (hole p) h short = tt
+      let behind = any (symbol_token Comma) ∷ (formula_text g ++ end) in
+      (written_good f (all_front TextPart (formula_text f) behind h.1.1.1) short.0, written_good g (all_front TextPart (formula_text g) end (all_behind TextPart (formula_text f) behind h.1.1.1).1) short.1)
+  written_good (hole p) h short = tt
 
-  tenses_good : (fs : FurtherTenses) (w : Word) → AllByRecursion TextPart (tenses_text w fs) → FitTenseSizes fs → HaveTenseTexts (tense_forms fs)
-  tenses_good (last f) w h short = (tense_good f h.1 short, tt)
-  tenses_good (more f fs) w h short = (tense_good f (all_front TextPart (tense_text f) (tenses_text w fs) h.1) short.0, tenses_good fs w (all_behind TextPart (tense_text f) (tenses_text w fs) h.1) short.1)
+  members_good : {l : Language} (fs : FurtherMembers l) (w : Word) → AllByRecursion TextPart (members_text w fs) → FitSizes fs → HaveGoodTexts (raw_forms fs)
+  members_good (last f) w h short = (written_good f h.1 short, tt)
+  members_good (more f fs) w h short = (written_good f (all_front TextPart (formula_text f) (members_text w fs) h.1) short.0, members_good fs w (all_behind TextPart (formula_text f) (members_text w fs) h.1) short.1)
 
 -- ---- a query
 
 -- the texts of the written query's body are data texts
-body_good : (bytes : List ℕ) (q : TenseQuestion) → IsTenseQuery bytes q → HasTenseTexts q.body
-body_good bytes q is =
+body_good : (l : Language) (bytes : List ℕ) (q : RawQuestion) → IsQueryIn l bytes q → HasGoodTexts q.body
+body_good l bytes q is =
     let tree = is.tree in
-    let body = tense_text tree.body in
+    let body = formula_text tree.body in
     let end = any (symbol_token CloseBrace) ∷ any end_token ∷ [] in
     let columns = separated comma column_text tree.head in
-    let parts = takes_texted (tense_query_text tree) (tokens bytes) [] is.text.spelled (tokens_texted (suc (length bytes)) start bytes is.text.utf8) in
+    let parts = takes_texted (query_text tree) (tokens bytes) [] is.text.spelled (tokens_texted (suc (length bytes)) start bytes is.text.utf8) in
     let inside = all_behind TextPart columns (any (symbol_token Bar) ∷ (body ++ end)) parts.1 in
-    subst (λ (r : TenseQuestion). HasTenseTexts r.body) (sym is.meant) (tense_good tree.body (all_front TextPart body end inside.1) is.text.lawful.sizes)
+    subst (λ (r : RawQuestion). HasGoodTexts r.body) (sym is.meant) (written_good tree.body (all_front TextPart body end inside.1) is.text.lawful.sizes)
 
--- and those of a database and the expanded query
-pub tense_entries : (bytes query : List ℕ) (db : List Relation) (q : TenseQuestion) → IsDatabase bytes db → IsTenseQuery query q → AllByRecursion IsEntry (all_texts db (plain_question (expanded_question q)))
+-- and so are those of a database and the query
+pub all_entries : (bytes query : List ℕ) (db : List Relation) (q : RawQuestion) → IsDatabase bytes db → IsQuery query q → AllByRecursion IsEntry (all_texts db (plain_question q))
+all_entries bytes query db q d is =
+    both (database_texts db) (form_texts (plain_question q).body db (plain_question q).head) (database_entries bytes db d)
+    (good_entries q.body (body_good first_order query q is) (reverse q.head) db (map column_of q.head))
+
+-- of a database and the expanded query
+pub tense_entries : (bytes query : List ℕ) (db : List Relation) (q : RawQuestion) → IsDatabase bytes db → IsTenseQuery query q → AllByRecursion IsEntry (all_texts db (plain_question (expanded_question q)))
 tense_entries bytes query db q d is =
-    let good = expanded_good q.body (body_good query q is) (operator_number (operators q.body)) [] in
+    let good = expanded_good q.body (body_good temporal query q is) (operator_number (operators q.body)) [] in
     both (database_texts db) (form_texts (plain_question (expanded_question q)).body db (plain_question (expanded_question q)).head) (database_entries bytes db d)
     (good_entries (expanded_question q).body good (reverse q.head) db (map column_of q.head))
