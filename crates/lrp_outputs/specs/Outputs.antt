@@ -7,6 +7,7 @@ use Rattle.lrp_model.specs.declared.tuples.Spot.{Spot}
 use Rattle.lrp_answers.specs.declared.answer.Answer.{Answer}
 use Rattle.lrp_answer_text.specs.AnswerText.{answer_text}
 use Rattle.lrp_answer_text.specs.Lines.{is_json}
+use Rattle.lrp_lint.specs.Reports.{report_text}
 use Rattle.lrp_outputs.specs.First.{first_line, least_line}
 use Rattle.lrp_outputs.specs.Spots.{answer_tuple}
 use Rattle.lrp_outputs.specs.Outcomes.{Outcome}
@@ -60,6 +61,7 @@ output_text (output.Page page) = page_text page
 output_text (output.Count number) = count_line number
 output_text (output.Ranges lines) = ranges_text lines
 output_text (output.Leasts leasts) = leasts_text leasts
+output_text (output.Lint lint) = report_text lint
 output_text (output.Sample report) = sample_text report
 
 -- what the run ends with

@@ -7,6 +7,7 @@ use crate::ranges::RangeLines;
 use crate::report::Report;
 use crate::witness::Witness;
 use lrp_database::Database;
+use lrp_lint::LintReport;
 
 /// What a command writes.
 pub enum Output {
@@ -26,6 +27,8 @@ pub enum Output {
     Ranges(RangeLines),
     /// The least answers of a query while rows are added and taken out.
     Leasts(Leasts),
+    /// What is silently wrong in a database, and in a query over it.
+    Lint(LintReport),
     /// What is told of the sample.
     Sample(Report),
 }
@@ -42,6 +45,7 @@ impl Drop for Output {
             Output::Count(_) => {}
             Output::Ranges(lines) => drop(lines),
             Output::Leasts(leasts) => drop(leasts),
+            Output::Lint(lint) => drop(lint),
             Output::Sample(report) => drop(report),
         }
     }

@@ -138,27 +138,28 @@ module _ (texts : DatabaseTexts) (one_fault : OneDatabaseFault) (civil : Bool) (
 abbrev pub OneQueryFault : Bool → Type 0
 OneQueryFault tense = (db : List Relation) (bytes : List ℕ) (f g : QueryFault) → IsFaultyAs tense db bytes f → IsFaultyAs tense db bytes g → f ≡ g
 
-data QueryRefused (tense : Bool) (db : List Relation) (bytes : List ℕ) : Refusal → Type 0 where
+pub data QueryRefused (tense : Bool) (db : List Relation) (bytes : List ℕ) : Refusal → Type 0 where
   longer : 16777216 < length bytes → QueryRefused tense db bytes LongQuery
   wrong : (fault : QueryFault) → length bytes ≤ 16777216 → IsFaultyAs tense db bytes fault → QueryRefused tense db bytes (Query fault)
 
-query_refused : (tense : Bool) (db : List Relation) (seen : ShelfSeen) (name : Identifier) (bytes : List ℕ) (e : Refusal) → IsQueryReadOf tense db seen name bytes (Err e) → Lasts e → QueryRefused tense db bytes e
+pub query_refused : (tense : Bool) (db : List Relation) (seen : ShelfSeen) (name : Identifier) (bytes : List ℕ) (e : Refusal) → IsQueryReadOf tense db seen name bytes (Err e) → Lasts e → QueryRefused tense db bytes e
 query_refused tense db seen name bytes LongQuery is l = longer is.0
 query_refused tense db seen name bytes (Query fault) is l = wrong fault is.0 is.1
 query_refused tense db seen name bytes ReadQuery is l = absurd l
 query_refused tense db seen name bytes Memory is l = absurd l
 query_refused tense db seen name bytes _ is l = absurd is
 
-module _ (tense : Bool) (texts : QueryTexts tense) (one_fault : OneQueryFault tense) (db : List Relation) (bytes : List ℕ) where
-  query_stands : (q : Question) → length bytes ≤ 16777216 → IsSortedAs tense db bytes q → (e : Refusal) → QueryRefused tense db bytes e → ⊥
-  query_stands q short is _ (longer above) = no_longer (length bytes) short above
-  query_stands q short is _ (wrong fault below f) = texts.faultless db bytes q fault is f
-
-  query_refused_alike : (e f : Refusal) → QueryRefused tense db bytes e → QueryRefused tense db bytes f → e ≡ f
+module _ (tense : Bool) (one_fault : OneQueryFault tense) (db : List Relation) (bytes : List ℕ) where
+  pub query_refused_alike : (e f : Refusal) → QueryRefused tense db bytes e → QueryRefused tense db bytes f → e ≡ f
   query_refused_alike _ _ (longer above) (longer more) = refl
   query_refused_alike _ _ (longer above) (wrong g short is) = absurd (no_longer (length bytes) short above)
   query_refused_alike _ _ (wrong f short is) (longer above) = absurd (no_longer (length bytes) short above)
   query_refused_alike _ _ (wrong f short is) (wrong g below again) = ap Query (one_fault db bytes f g is again)
+
+module _ (tense : Bool) (texts : QueryTexts tense) (one_fault : OneQueryFault tense) (db : List Relation) (bytes : List ℕ) where
+  query_stands : (q : Question) → length bytes ≤ 16777216 → IsSortedAs tense db bytes q → (e : Refusal) → QueryRefused tense db bytes e → ⊥
+  query_stands q short is _ (longer above) = no_longer (length bytes) short above
+  query_stands q short is _ (wrong fault below f) = texts.faultless db bytes q fault is f
 
   module _ (seen further : ShelfSeen) (name : Identifier) where
     one_question : (d e : Source Question) → IsQueryReadOf tense db seen name bytes (Ok d) → IsQueryReadOf tense db further name bytes (Ok e) → d ≡ e
@@ -171,7 +172,7 @@ module _ (tense : Bool) (texts : QueryTexts tense) (one_fault : OneQueryFault te
     query_of_bytes = by_parts (IsQueryReadOf tense db seen name bytes) (IsQueryReadOf tense db further name bytes) (λ d e. d ≡ e) one_question
         (λ d f i j l. query_stands d.says i.1 i.2 f (query_refused tense db further name bytes f j l))
         (λ e d i j l. query_stands d.says j.1 j.2 e (query_refused tense db seen name bytes e i l))
-        (λ e f i j l m. query_refused_alike e f (query_refused tense db seen name bytes e i l) (query_refused tense db further name bytes f j m))
+        (λ e f i j l m. query_refused_alike tense one_fault db bytes e f (query_refused tense db seen name bytes e i l) (query_refused tense db further name bytes f j m))
 
     pub query_agree : ((read : List ℕ) → AreBytesOf seen name read → read ≡ bytes) → ((read : List ℕ) → AreBytesOf further name read → read ≡ bytes)
         → (r s : Result (Source Question) Refusal) → IsQueryRead tense db seen name r → IsQueryRead tense db further name s → Lasting r → Lasting s → Agree (λ d e. d ≡ e) r s

@@ -3,7 +3,7 @@ use Rattle.std.proofs.Common.{◌≡◌, ◌≢◌, ◌⊎◌, inl, inr, ℕ, Bo
 use Rattle.lrp_io.specs.Bytes.{appended}
 use Rattle.lrp_io.specs.declared.shelf.File.{File}
 use Rattle.lrp_words.specs.Commands.{FilesAsked, Task}
-use Rattle.lrp_words.specs.Commands.Task.{ask, decide, list, count, ranges, explain, check, watch, sample}
+use Rattle.lrp_words.specs.Commands.Task.{ask, decide, list, count, ranges, explain, check, lint, watch, sample}
 use Rattle.lrp_model.specs.AnswerTexts.{IsAnswerText}
 use Rattle.lrp_model.specs.Formulas.{Question}
 use Rattle.lrp_model.specs.Rows.{Tuple}
@@ -33,6 +33,7 @@ use Rattle.lrp_outputs.specs.declared.refusal.Refusal.TheVariants.{Usage, ReadDa
 use Rattle.lrp_outputs.specs.declared.status.Status.{Status}
 use Rattle.lrp_outputs.specs.declared.status.Status.TheVariants as status
 use Rattle.lrp_run_laws.proofs.Explained.{Explained, OutcomeFor, is_memory}
+use Rattle.lrp_run_laws.proofs.LintCauses.{lint_explained}
 use Rattle.lrp_run_laws.proofs.WatchCauses.{watch_explained}
 use Rattle.lrp_run_laws.proofs.Cases.{Asked, Reached, Telling, output, form, other, stale, many, rows, want, Case, unread_database, long_database, no_database, unread_query, long_query, no_query, no_head, above_period, above_bound, planned, wanted, reached, answer_goes_on, canonical_goes_on, decide_goes_on, explain_goes_on, list_goes_on, number_goes_on, ranges_go_on}
 
@@ -188,6 +189,7 @@ explained (check database civil) seen outcome due = record {
   told = λ held e. ap (λ (bytes : List ℕ). two_files bytes []) (due.is.told held e);
   is = check_read civil database seen outcome due.is.bytes due.first due.is.is due.next;
 }
+explained (lint of) seen outcome due = lint_explained of seen outcome due
 explained (watch database query edits cap way auto) seen outcome due = watch_explained database query edits cap way auto seen outcome due
 explained (sample seed size) seen outcome due = record {
   files = two_files [] [];

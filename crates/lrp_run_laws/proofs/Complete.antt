@@ -1,9 +1,10 @@
 -- A lawful task comes to its output, or to want of memory.
 use Rattle.std.proofs.Common.{◌≡◌, ◌≢◌, ◌⊎◌, ◌||◌, inl, inr, ◌<◌, ◌≤◌, ◌^◌, ◌∙◌, ℕ, ℤ, Bool, true, false, List, length, refl, sym, ap, subst, Option, Some, None, Ok, arith}
+use Rattle.std.specs.List.{AllByRecursion}
 use Rattle.lrp_io.specs.Causes.{Rose}
 use Rattle.lrp_io.specs.declared.shelf.File.{File}
-use Rattle.lrp_words.specs.Commands.{FilesAsked, Task}
-use Rattle.lrp_words.specs.Commands.Task.{ask, decide, list, count, ranges, explain, check, watch, sample}
+use Rattle.lrp_words.specs.Commands.{FilesAsked, FilesLinted, Task}
+use Rattle.lrp_words.specs.Commands.Task.{ask, decide, list, count, ranges, explain, check, lint, watch, sample}
 use Rattle.lrp_model.specs.Checked.{plain_question}
 use Rattle.lrp_model.specs.DatabaseReading.{IsDatabase, IsDatabaseFault}
 use Rattle.lrp_model.specs.Formulas.{Question}
@@ -21,18 +22,18 @@ use Rattle.lrp_model.specs.declared.relations.Column.{Column}
 use Rattle.lrp_model.specs.declared.relations.Relation.{Relation}
 use Rattle.lrp_tense.specs.Expanding.{expanded_question}
 use Rattle.lrp_tense.specs.TenseReading.{IsTenseQuery, IsTenseQueryFault}
-use Rattle.lrp_tense.specs.Trees.{TenseQuestion}
 use Rattle.lrp_edits.specs.EditReading.{IsEditsFault, SaysEdits}
 use Rattle.lrp_edits.specs.declared.edits.Edit.{Edit}
 use Rattle.lrp_kept.specs.KeptForm.{is_kept}
 use Rattle.lrp_token.specs.Reading.{IsNoToken, HasOtherCounts}
-use Rattle.lrp_run_laws.specs.Contents.{Contents, digest_of, Keeping, OverDatabase, OverEdits, OverQuery, Asking, SaysRelations, Watching, WhereFit, contents_of}
+use Rattle.lrp_run_laws.specs.Contents.{Contents, digest_of, Keeping, Linting, OverDatabase, OverEdits, OverNamed, OverQuery, Asking, SaysRelations, Watching, WhereFit, contents_of}
 use Rattle.lrp_run_laws.specs.Tasks.{IsAnswerable, IsLawfulTask, IsResumable, IsTellable, HasFewCells, PassesLimit}
 use Rattle.lrp_run_laws.specs.Runs.{IsRunOf, IsComplete, EndsComplete, Run, task_asked, HaveStoodStill}
-use Rattle.lrp_run_laws.specs.Reasons.{HasManyRows, HasOtherHead, IsRefusedBehind, IsReason, HasReasonFor, HasTaskReason, AreNoEdits, IsNoDatabase, IsNoQuery, IsNoTokenOf, HasMany, IsAboveLimits, IsDatabaseRefused, IsQueryRefused, IsQueryAbove, HasFailedFile, HasFailedOneOf}
+use Rattle.lrp_run_laws.specs.Reasons.{HasManyRows, HasOtherHead, IsRefusedBehind, IsReason, HasReasonFor, HasTaskReason, AreNoEdits, IsNoDatabase, IsNoQuery, IsNoTokenOf, HasMany, IsAboveLimits, IsDatabaseRefused, IsQueryRefused, IsQueryAbove, HasFailedFile, HasFailedOneOf, WhereNamed}
 use Rattle.lrp_top.specs.Resuming.{IsResumed, IsFresh, IsTokenOf, IsStale, shape_of}
 use Rattle.lrp_top.specs.Seen.{ShelfSeen, SinkSeen, HasFailed}
-use Rattle.lrp_top.specs.Written.{IsSortedAs, IsFaultyAs, plain_if}
+use Rattle.lrp_top.specs.Due.{query_named}
+use Rattle.lrp_top.specs.Written.{IsPlacedAs, IsSortedAs, IsFaultyAs, plain_if}
 use Rattle.lrp_outputs.specs.declared.head.HeadNeed.{HeadNeed}
 use Rattle.lrp_outputs.specs.declared.head.HeadNeed.TheVariants as needs
 use Rattle.lrp_outputs.specs.declared.head.HeadNeed.TheVariants.{Canon}
@@ -57,6 +58,11 @@ pub record QueryTexts (tense : Bool) : Type 0 where
   pub one : (db : List Relation) (bytes : List ℕ) (q other : Question) → IsSortedAs tense db bytes q → IsSortedAs tense db bytes other → q ≡ other
   pub faultless : (db : List Relation) (bytes : List ℕ) (q : Question) (fault : QueryFault) → IsSortedAs tense db bytes q → IsFaultyAs tense db bytes fault → ⊥
 
+-- with its places, a text is of one query at most over a database, and then has no fault
+pub record PlacedTexts (tense : Bool) : Type 0 where
+  pub one : (db : List Relation) (bytes : List ℕ) (raw other : RawQuestion) → IsPlacedAs tense db bytes raw → IsPlacedAs tense db bytes other → raw ≡ other
+  pub faultless : (db : List Relation) (bytes : List ℕ) (raw : RawQuestion) (fault : QueryFault) → IsPlacedAs tense db bytes raw → IsFaultyAs tense db bytes fault → ⊥
+
 -- a text is of one list of edits of a database at most, and then has no fault
 pub record EditTexts : Type 0 where
   pub one : (bytes : List ℕ) (db : List Relation) (edits other : List Edit) → SaysEdits bytes db edits → SaysEdits bytes db other → edits ≡ other
@@ -80,8 +86,8 @@ plain_texts one none sorted = record {
 }
 
 -- of queries with temporal operators
-pub tense_texts : ((bytes : List ℕ) (q other : TenseQuestion) → IsTenseQuery bytes q → IsTenseQuery bytes other → q ≡ other)
-    → ((bytes : List ℕ) (q : TenseQuestion) (fault : QueryFault) → IsTenseQuery bytes q → IsTenseQueryFault bytes fault → ⊥)
+pub tense_texts : ((bytes : List ℕ) (q other : RawQuestion) → IsTenseQuery bytes q → IsTenseQuery bytes other → q ≡ other)
+    → ((bytes : List ℕ) (q : RawQuestion) (fault : QueryFault) → IsTenseQuery bytes q → IsTenseQueryFault bytes fault → ⊥)
     → ((db : List Relation) (q : RawQuestion) (fault : QueryFault) → IsWellSorted db q → IsSortFault db q fault → ⊥)
     → QueryTexts true
 tense_texts one none sorted = record {
@@ -91,6 +97,35 @@ tense_texts one none sorted = record {
     | inr sorts ↦ sorted db (expanded_question a.written) fault a.sorted (subst (λ w. IsSortFault db (expanded_question w) fault) (one bytes sorts.written a.written sorts.query a.query) sorts.unsorted)
   ];
 }
+
+-- of queries with their places
+pub plain_placed : ((bytes : List ℕ) (q other : RawQuestion) → IsQuery bytes q → IsQuery bytes other → q ≡ other)
+    → ((bytes : List ℕ) (q : RawQuestion) (fault : QueryFault) → IsQuery bytes q → IsQueryFault bytes fault → ⊥)
+    → ((db : List Relation) (q : RawQuestion) (fault : QueryFault) → IsWellSorted db q → IsSortFault db q fault → ⊥)
+    → PlacedTexts false
+plain_placed one none sorted = record {
+  one = λ db bytes raw other a b. one bytes raw other a.query b.query;
+  faultless = λ db bytes raw fault a f. elim f [
+    | inl text ↦ none bytes raw fault a.query text
+    | inr sorts ↦ sorted db raw fault a.sorted (subst (λ r. IsSortFault db r fault) (one bytes sorts.raw raw sorts.query a.query) sorts.unsorted)
+  ];
+}
+
+pub tense_placed : ((bytes : List ℕ) (q other : RawQuestion) → IsTenseQuery bytes q → IsTenseQuery bytes other → q ≡ other)
+    → ((bytes : List ℕ) (q : RawQuestion) (fault : QueryFault) → IsTenseQuery bytes q → IsTenseQueryFault bytes fault → ⊥)
+    → ((db : List Relation) (q : RawQuestion) (fault : QueryFault) → IsWellSorted db q → IsSortFault db q fault → ⊥)
+    → PlacedTexts true
+tense_placed one none sorted = record {
+  one = λ db bytes raw other a b. a.is ∙ ap expanded_question (one bytes a.written b.written a.query b.query) ∙ sym b.is;
+  faultless = λ db bytes raw fault a f. elim f [
+    | inl text ↦ none bytes a.written fault a.query text
+    | inr sorts ↦ sorted db raw fault a.sorted (subst (λ r. IsSortFault db r fault) (ap expanded_question (one bytes sorts.written a.written sorts.query a.query) ∙ sym a.is) sorts.unsorted)
+  ];
+}
+
+pub each_placed : PlacedTexts false → PlacedTexts true → (tense : Bool) → PlacedTexts tense
+each_placed plain operators false = plain
+each_placed plain operators true = operators
 
 -- of both
 pub each_texts : QueryTexts false → QueryTexts true → (tense : Bool) → QueryTexts tense
@@ -247,6 +282,33 @@ module _ (texts : DatabaseTexts) (queries : QueryTexts false) (edits : EditTexts
       let same : over.edits ≡ free.holds.holds.holds.edits = edits.one files.edits free.db over.edits free.holds.holds.holds.edits over.says.is free.holds.holds.holds.says.is in
       free.holds.holds.holds.holds (subst (PassesLimit way cap free.db q) same over.holds)
 
+-- ---- a database that is looked over
+
+-- the named file did not fail
+no_named_failed : (query : Option Identifier) (seen : ShelfSeen) → AllByRecursion (λ name. HasFailed seen name → ⊥) (query_named query) → WhereNamed query (HasFailed seen) → ⊥
+no_named_failed None seen still h = h
+no_named_failed (Some name) seen still h = still.0 h
+
+-- nor is its query refused
+no_named_query : (query : Option Identifier) (tense : Bool) (texts : PlacedTexts tense) (files : Contents) (db : List Relation) → OverNamed query tense files (λ db asked. Unit {0}) db → WhereNamed query (λ name. IsNoQuery files tense db) → ⊥
+no_named_query None tense texts files db over h = h
+no_named_query (Some name) tense texts files db over h = elim h [
+  | inl long ↦ no_longer (length files.query) over.says.short long
+  | inr fault ↦ texts.faultless db files.query over.raw fault.0 over.says.is fault.1
+]
+
+module _ (texts : DatabaseTexts) (of : FilesLinted) (placed : PlacedTexts of.tense) (files : Contents) (free : Linting of files (λ db asked. Unit {0})) where
+  lint_database : IsNoDatabase files of.civil → ⊥
+  lint_database h = elim h [
+    | inl long ↦ no_longer (length files.database) free.says.short long
+    | inr fault ↦ texts.faultless (plain_if of.civil files.database) free.db fault.0 free.says.is fault.1
+  ]
+
+  lint_query : OverDatabase of.civil files (λ db. WhereNamed of.query (λ name. IsNoQuery files of.tense db)) → ⊥
+  lint_query h =
+      no_named_query of.query of.tense placed files free.db free.holds
+      (subst (λ db. WhereNamed of.query (λ name. IsNoQuery files of.tense db)) (texts.one (plain_if of.civil files.database) h.db free.db h.says.is free.says.is) h.holds)
+
 -- ---- a run
 
 module _ (task : Task) (files : Contents) (seen : ShelfSeen) (taken : SinkSeen) (no_database_for : IsDatabaseRefused files task → ⊥) (no_query_for : IsQueryRefused files task → ⊥) (none_above : IsQueryAbove files task → ⊥) (no_failed : HasFailedFile seen files task → ⊥) (no_rise : Rose taken.faults_before taken.faults → ⊥) where
@@ -296,7 +358,7 @@ asking of files Holds Keeps keep h = record {
 no_canon : (need : HeadNeed) → need ≢ Canon → Some need ≡ Some Canon → ⊥
 no_canon need other e = let same : need ≡ Canon = cc in other same
 
-module _ (texts : DatabaseTexts) (queries : (tense : Bool) → QueryTexts tense) (edits : EditTexts) (one : OneToken) (rows : OneRowCount) (files : Contents) (run : Run) where
+module _ (texts : DatabaseTexts) (queries : (tense : Bool) → QueryTexts tense) (placed : (tense : Bool) → PlacedTexts tense) (edits : EditTexts) (one : OneToken) (rows : OneRowCount) (files : Contents) (run : Run) where
   -- neither file failed
   none_failed : {civil : Bool} {database query : Identifier} → (HasFailed run.seen database → ⊥) → (HasFailed run.seen query → ⊥) → HasFailedOneOf run.seen files civil database query → ⊥
   none_failed first second (inl failed) = first failed
@@ -340,6 +402,14 @@ module _ (texts : DatabaseTexts) (queries : (tense : Bool) → QueryTexts tense)
         | inr fault ↦ texts.faultless (plain_if civil files.database) lawful.db fault.0 lawful.says.is fault.1
       ]) (λ h. h) (λ h. h)
       (λ h. still.files.0 h) still.sink
+  complete (lint of) lawful still =
+      comes_so (lint of) files run.seen run.taken
+      (lint_database texts of (placed of.tense) files lawful) (lint_query texts of (placed of.tense) files lawful) (λ h. h)
+      (λ failed. elim failed [
+        | inl first ↦ still.files.0 first
+        | inr over ↦ no_named_failed of.query run.seen still.files.1 over.holds
+      ])
+      still.sink
   complete (watch database query changes cap way auto) lawful still =
       comes_so (watch database query changes cap way auto) files run.seen run.taken
       (watch_database texts (queries false) edits files cap way auto lawful) (watch_query texts (queries false) edits files cap way auto lawful) (watch_limits texts (queries false) edits files cap way auto lawful)
@@ -352,7 +422,7 @@ module _ (texts : DatabaseTexts) (queries : (tense : Bool) → QueryTexts tense)
       comes_so (sample seed size) files run.seen run.taken (λ h. h) (λ h. h) (λ h. h) (λ h. h) still.sink
 
 -- over a shelf that tells its files
-pub complete_run : DatabaseTexts → ((tense : Bool) → QueryTexts tense) → EditTexts → OneToken → OneRowCount → (task : Task) (held : List File) (run : Run) → IsRunOf task held run → IsLawfulTask task (contents_of held task) → HaveStoodStill task run → IsComplete task (contents_of held task) run
-complete_run texts queries edits one rows task held run is lawful still =
+pub complete_run : DatabaseTexts → ((tense : Bool) → QueryTexts tense) → ((tense : Bool) → PlacedTexts tense) → EditTexts → OneToken → OneRowCount → (task : Task) (held : List File) (run : Run) → IsRunOf task held run → IsLawfulTask task (contents_of held task) → HaveStoodStill task run → IsComplete task (contents_of held task) run
+complete_run texts queries placed edits one rows task held run is lawful still =
     let cause : HasTaskReason task run = subst (λ t. HasReasonFor t run) is.spelled (run_cause (task_asked run) run is.may_happen.outcome is.may_happen.due is.may_happen.ends) in
-    complete texts queries edits one rows (contents_of held task) run task lawful still run.ended (subst (λ files. IsReason run.ended task files run.seen run.taken) (cause.told held is.told) cause.is)
+    complete texts queries placed edits one rows (contents_of held task) run task lawful still run.ended (subst (λ files. IsReason run.ended task files run.seen run.taken) (cause.told held is.told) cause.is)

@@ -27,7 +27,6 @@ use Rattle.lrp_run_laws.specs.Contents.{Contents, SaysQuestion, SaysRelations}
 use Rattle.lrp_run_laws.specs.Following.{IsFollowed, IsShortWindow, IsUnfinished}
 use Rattle.lrp_tense.specs.Expanding.{expanded_question}
 use Rattle.lrp_tense.specs.TenseReading.{IsTenseQuery}
-use Rattle.lrp_tense.specs.Trees.{TenseQuestion}
 use Rattle.lrp_top.specs.Written.{plain_if}
 use Rattle.lrp_top.specs.Resuming.{IsResumed}
 use Rattle.lrp_run_laws.proofs.Alike.{WholeTuples, shaped}
@@ -113,7 +112,7 @@ HaveDataTexts db q = AllByRecursion (λ entry. IsDataText entry.1) (all_texts db
 
 -- what two files say has data texts
 pub have_texts : ((database query : List ℕ) (relations : List Relation) (q : RawQuestion) → IsDatabase database relations → IsQuery query q → HaveDataTexts relations (plain_question q))
-    → ((database query : List ℕ) (relations : List Relation) (q : TenseQuestion) → IsDatabase database relations → IsTenseQuery query q → HaveDataTexts relations (plain_question (expanded_question q)))
+    → ((database query : List ℕ) (relations : List Relation) (q : RawQuestion) → IsDatabase database relations → IsTenseQuery query q → HaveDataTexts relations (plain_question (expanded_question q)))
     → (tense civil : Bool) (files : Contents) (db : List Relation) (q : Question) → SaysRelations civil files db → SaysQuestion tense files db q → HaveDataTexts db q
 have_texts texts expanded false civil files db q says said = subst (HaveDataTexts db) (sym said.is.plain) (texts (plain_if civil files.database) files.query db said.is.raw says.is said.is.query)
 have_texts texts expanded true civil files db q says said = subst (HaveDataTexts db) (sym said.is.plain) (expanded (plain_if civil files.database) files.query db said.is.written says.is said.is.query)

@@ -1,5 +1,6 @@
 mod Cases
 mod Explained
+mod LintCauses
 mod WatchCauses
 mod Causes
 mod Canonical
@@ -7,6 +8,7 @@ mod Complete
 mod Agree
 mod Alike
 mod Watches
+mod Lints
 mod One
 mod Digest
 mod Follow

@@ -3,7 +3,7 @@ use Rattle.std.proofs.Common.{◌≡◌, ◌≢◌, inl, inr, ◌≤◌, ◌∙�
 use Rattle.lrp_io.specs.Files.{content_of}
 use Rattle.lrp_io.specs.declared.shelf.File.{File}
 use Rattle.lrp_words.specs.Commands.{FilesAsked, Task}
-use Rattle.lrp_words.specs.Commands.Task.{ask, decide, list, count as count_task, ranges as ranges_task, explain, check, watch, sample}
+use Rattle.lrp_words.specs.Commands.Task.{ask, decide, list, count as count_task, ranges as ranges_task, explain, check, lint, watch, sample}
 use Rattle.lrp_model.specs.AnswerTexts.{IsAnswerText}
 use Rattle.lrp_model.specs.Formulas.{Question}
 use Rattle.lrp_model.specs.Rows.{Tuple}
@@ -22,10 +22,9 @@ use Rattle.lrp_model.specs.Sorting.{IsSortFault}
 use Rattle.lrp_model.specs.declared.faults.QueryFault.{QueryFault}
 use Rattle.lrp_tense.specs.Expanding.{expanded_question}
 use Rattle.lrp_tense.specs.TenseReading.{IsTenseQuery, IsTenseQueryFault}
-use Rattle.lrp_tense.specs.Trees.{TenseQuestion}
 use Rattle.lrp_top.specs.Canonical.{IsCanonicalText}
 use Rattle.lrp_top.specs.Due.{IsDueOf, IsDueFor, IsDatabaseRead, IsQueryRead, IsPlanned, IsPlannedAs, IsCounted, AreRowsCounted, IsOutput, IsAnswered, IsDecided, IsExplained, IsListed, IsNumberTold, IsPlannedFor, IsRanged, IsWatchedFor}
-use Rattle.lrp_run_laws.specs.Contents.{Contents, contents_at, contents_of, SaysRelations, SaysQuestion}
+use Rattle.lrp_run_laws.specs.Contents.{Contents, contents_at, contents_of, named_content, SaysRelations, SaysQuestion}
 use Rattle.lrp_run_laws.specs.Runs.{IsRunOf, Run, task_asked}
 use Rattle.lrp_run_laws.specs.Pairs.{AreOneOutput, AreOneText, EndedAlike, IsDecidedByFiles}
 use Rattle.lrp_outputs.specs.Outcomes.{Outcome, line_of, refused_with, status_of, written_of}
@@ -50,7 +49,8 @@ use Rattle.lrp_outputs.specs.declared.status.Status.TheVariants as status
 use Rattle.lrp_run_laws.proofs.Agree.{Lasting, Agree, then_agree, SameText, Counted, OneDatabaseFault, OneQueryFault, database_agree, query_agree, planned_agree, cells_agree, rows_agree, resumed_agree, output_agree}
 use Rattle.lrp_run_laws.proofs.Alike.{OneRank, WholeTuples, OnePage, OneCells, OneCount, OneSize, OneListOfRanges, one_number, one_ranges, one_witness, one_listing, one_sample}
 use Rattle.lrp_run_laws.proofs.Canonical.{OneAnswerText, OneRowCount, one_canonical, own_answers}
-use Rattle.lrp_run_laws.proofs.Complete.{DatabaseTexts, EditTexts, QueryTexts, OneToken}
+use Rattle.lrp_run_laws.proofs.Complete.{DatabaseTexts, EditTexts, PlacedTexts, QueryTexts, OneToken}
+use Rattle.lrp_run_laws.proofs.Lints.{NamedReads, OneReport, lint_agree}
 use Rattle.lrp_run_laws.proofs.Watches.{OneEditsFault, edits_agree, form_fit_agree, watched_agree}
 
 -- what is known of texts, tokens, pages and counts
@@ -59,6 +59,8 @@ pub record Known : Type 0 where
   pub database_fault : OneDatabaseFault
   pub queries : (tense : Bool) → QueryTexts tense
   pub query_fault : (tense : Bool) → OneQueryFault tense
+  pub placed : (tense : Bool) → PlacedTexts tense
+  pub report : OneReport
   pub edits : EditTexts
   pub edits_fault : OneEditsFault
   pub token : OneToken
@@ -90,8 +92,8 @@ plain_faults one none fault db bytes f g (inr a) (inl b) = absurd (none bytes a.
 plain_faults one none fault db bytes f g (inr a) (inr b) = one_unsorted db a.raw b.raw f g (one bytes a.raw b.raw a.query b.query) a.unsorted b.unsorted
 
 -- and so has one with them
-pub tense_faults : ((bytes : List ℕ) (q other : TenseQuestion) → IsTenseQuery bytes q → IsTenseQuery bytes other → q ≡ other)
-    → ((bytes : List ℕ) (q : TenseQuestion) (fault : QueryFault) → IsTenseQuery bytes q → IsTenseQueryFault bytes fault → ⊥)
+pub tense_faults : ((bytes : List ℕ) (q other : RawQuestion) → IsTenseQuery bytes q → IsTenseQuery bytes other → q ≡ other)
+    → ((bytes : List ℕ) (q : RawQuestion) (fault : QueryFault) → IsTenseQuery bytes q → IsTenseQueryFault bytes fault → ⊥)
     → ((bytes : List ℕ) (fault other : QueryFault) → IsTenseQueryFault bytes fault → IsTenseQueryFault bytes other → fault ≡ other)
     → OneQueryFault true
 tense_faults one none fault db bytes f g (inl a) (inl b) = fault bytes f g a b
@@ -229,6 +231,11 @@ module _ (known : Known) (files : Contents) (seen further : ShelfSeen) (database
 reads_only : (seen : ShelfSeen) (held : List File) (name : Identifier) (bytes : List ℕ) → seen.files ≡ Some held → bytes ≡ content_of held name → ReadsOnly seen name bytes
 reads_only seen held name bytes told e read is = is held told ∙ sym e
 
+-- and those of a named file
+named_reads : (seen : ShelfSeen) (held : List File) (query : Option Identifier) (bytes : List ℕ) → seen.files ≡ Some held → bytes ≡ named_content held query → NamedReads seen query bytes
+named_reads seen held None bytes told e = tt
+named_reads seen held (Some name) bytes told e = reads_only seen held name bytes told e
+
 module _ (known : Known) (seen further : ShelfSeen) (held more : List File) (told : seen.files ≡ Some held) (again : further.files ≡ Some more) where
   abbrev Alike : Task → Type 0
   Alike task = contents_of held task ≡ contents_of more task → (o v : Outcome) → IsDueOf task seen o → IsDueOf task further v → Lasting o → Lasting v → Agree (AreOneOutput task (contents_of held task)) o v
@@ -274,6 +281,10 @@ module _ (known : Known) (seen further : ShelfSeen) (held more : List File) (tol
       (database_agree known.databases known.database_fault civil (content_of held database) seen further database
       (reads_only seen held database (content_of held database) told refl) (reads_only further more database (content_of held database) again (ap (λ (c : Contents). c.database) same)))
       (λ d e i j one. output_agree (TellsRelations d.says) (TellsRelations e.says) (λ a b. a ≡ b) (λ a b x y. x.0 ∙ ap (λ (s : Source (List Relation)). database_bytes s.says) one ∙ sym y.0))
+  due_alike (lint of) same =
+      lint_agree known.databases known.database_fault known.placed known.query_fault known.report of (content_of held of.database) (named_content held of.query) seen further
+      (reads_only seen held of.database (content_of held of.database) told refl) (reads_only further more of.database (content_of held of.database) again (ap (λ (c : Contents). c.database) same))
+      (named_reads seen held of.query (named_content held of.query) told refl) (named_reads further more of.query (named_content held of.query) again (ap (λ (c : Contents). c.query) same))
   due_alike (watch database query edits cap way auto) same =
       watch_agree known (contents_of held (watch database query edits cap way auto)) seen further database query edits cap way auto
       (reads_only seen held database (content_of held database) told refl) (reads_only further more database (content_of held database) again (ap (λ (c : Contents). c.database) same))

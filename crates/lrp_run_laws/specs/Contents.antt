@@ -1,12 +1,14 @@
 -- What the files of a task say.
-use Rattle.std.specs.Prelude.{◌≡◌, ℕ, ◌≤◌, Bool, true, false, ◌||◌, List, [], length, Some}
+use Rattle.std.specs.Prelude.{◌≡◌, ℕ, ◌≤◌, Bool, true, false, ◌||◌, List, [], length, Option, Some, None}
 use Rattle.lrp_io.specs.Files.{content_of}
 use Rattle.lrp_io.specs.declared.shelf.File.{File}
-use Rattle.lrp_words.specs.Commands.{FilesAsked, Task}
-use Rattle.lrp_words.specs.Commands.Task.{ask, decide, list, count, ranges, explain, check, watch, sample}
+use Rattle.lrp_words.specs.Commands.{FilesAsked, FilesLinted, Task}
+use Rattle.lrp_words.specs.Commands.Task.{ask, decide, list, count, ranges, explain, check, lint, watch, sample}
 use Rattle.lrp_model.specs.DatabaseReading.{IsDatabase}
 use Rattle.lrp_model.specs.Formulas.{Question}
 use Rattle.lrp_model.specs.Plans.{IsWithinLimits}
+use Rattle.lrp_model.specs.RawQueries.{RawQuestion}
+use Rattle.lrp_model.specs.Texts.{Identifier}
 use Rattle.lrp_model.specs.declared.plans.Planning.{Planning}
 use Rattle.lrp_model.specs.declared.relations.Relation.{Relation}
 use Rattle.lrp_plan_laws.specs.GuardedPlans.{plan_by}
@@ -15,7 +17,7 @@ use Rattle.lrp_edits.specs.declared.edits.Edit.{Edit}
 use Rattle.lrp_kept.specs.KeptForm.{is_kept}
 use Rattle.lrp_token.specs.Files.{files_digest}
 use Rattle.lrp_top.specs.Seen.{ShelfSeen}
-use Rattle.lrp_top.specs.Written.{IsSortedAs, plain_if}
+use Rattle.lrp_top.specs.Written.{IsPlacedAs, IsSortedAs, plain_if}
 use Rattle.lrp_model.specs.Limits.{most_bytes}
 
 -- the bytes of its files
@@ -31,6 +33,11 @@ two_files database query = record { database = database; query = query; edits = 
 abbrev pub contents_at : List File → FilesAsked → Contents
 contents_at held of = two_files (content_of held of.database) (content_of held of.query)
 
+-- those of a query's file, where one is named
+abbrev pub named_content : List File → Option Identifier → List ℕ
+named_content held None = []
+named_content held (Some name) = content_of held name
+
 -- those that files hold; a task that reads no query or no edits has no bytes of them
 abbrev pub contents_of : List File → Task → Contents
 contents_of held (ask of cap canon) = contents_at held of
@@ -40,6 +47,7 @@ contents_of held (count of from to cap) = contents_at held of
 contents_of held (ranges of from to limit json cap) = contents_at held of
 contents_of held (explain of) = contents_at held of
 contents_of held (check database civil) = two_files (content_of held database) []
+contents_of held (lint of) = two_files (content_of held of.database) (named_content held of.query)
 contents_of held (watch database query edits cap way auto) = record { database = content_of held database; query = content_of held query; edits = content_of held edits }
 contents_of held (sample seed size) = two_files [] []
 
@@ -81,6 +89,26 @@ pub record WhereWithinLimits (way : Planning) (Holds : List Relation → Questio
 -- there are a database and a query over it within the limits where it is planned by this way, and of them this holds
 abbrev pub Asking : FilesAsked → Contents → (List Relation → Question → Type 0) → Type 0
 Asking of files Holds = OverDatabase of.civil files (OverQuery of.tense files (WhereWithinLimits of.way Holds))
+
+-- the query's bytes are at most 16,777,216 and the text of a query that is well-sorted over the relations, and that with its places is this one
+pub record SaysPlaced (tense : Bool) (files : Contents) (db : List Relation) (raw : RawQuestion) : Type 0 where
+  pub short : length files.query ≤ most_bytes
+  pub is : IsPlacedAs tense db files.query raw
+
+-- there is a query with its places over the relations, and of it this holds
+pub record OverPlaced (tense : Bool) (files : Contents) (Holds : List Relation → Option RawQuestion → Type 0) (db : List Relation) : Type 0 where
+  pub raw : RawQuestion
+  pub says : SaysPlaced tense files db raw
+  pub holds : Holds db (Some raw)
+
+-- the same where a query is named, and else this holds without one
+abbrev pub OverNamed : Option Identifier → Bool → Contents → (List Relation → Option RawQuestion → Type 0) → List Relation → Type 0
+OverNamed None tense files Holds db = Holds db None
+OverNamed (Some name) tense files Holds db = OverPlaced tense files Holds db
+
+-- there are a database and, where one is named, a query over it, and of them this holds
+abbrev pub Linting : FilesLinted → Contents → (List Relation → Option RawQuestion → Type 0) → Type 0
+Linting of files Holds = OverDatabase of.civil files (OverNamed of.query of.tense files Holds)
 
 -- the edits' bytes are at most 16,777,216 and the text of these edits of the relations
 pub record SaysTheseEdits (files : Contents) (db : List Relation) (edits : List Edit) : Type 0 where

@@ -2,7 +2,7 @@
 use Rattle.std.specs.Prelude.{◌≡◌, ◌⊎◌, ℕ, ◌<◌, Bool, false, ◌||◌, List, length, Option, Some, None}
 use Rattle.lrp_io.specs.Causes.{Rose}
 use Rattle.lrp_words.specs.Commands.{FilesAsked, Task}
-use Rattle.lrp_words.specs.Commands.Task.{ask, decide, list, count, ranges, explain, check, watch, sample}
+use Rattle.lrp_words.specs.Commands.Task.{ask, decide, list, count, ranges, explain, check, lint, watch, sample}
 use Rattle.lrp_model.specs.Caps.{IsFirstMany}
 use Rattle.lrp_model.specs.DatabaseReading.{IsDatabaseFault}
 use Rattle.lrp_model.specs.Formulas.{Question}
@@ -43,6 +43,7 @@ OfDatabase Holds (count of from to cap) = Holds of.civil
 OfDatabase Holds (ranges of from to limit json cap) = Holds of.civil
 OfDatabase Holds (explain of) = Holds of.civil
 OfDatabase Holds (check database civil) = Holds civil
+OfDatabase Holds (lint of) = Holds of.civil
 OfDatabase Holds _ = ⊥
 
 -- of a task that asks a query: this holds of its files, of what its head needs, of the token and of the cap
@@ -100,9 +101,15 @@ abbrev pub IsDatabaseRefused : Contents → Task → Type 0
 IsDatabaseRefused files (watch database query edits cap way auto) = IsNoDatabase files false ⊎ Keeping auto files (AreNoEdits files)
 IsDatabaseRefused files task = OfDatabase (IsNoDatabase files) task
 
+-- this holds of the name of a query's file, and there is one
+abbrev pub WhereNamed : Option Identifier → (Identifier → Type 0) → Type 0
+WhereNamed None Holds = ⊥
+WhereNamed (Some name) Holds = Holds name
+
 -- there is no query over the database; or there is, and the head or the token is refused, or for a watch its form
 abbrev pub IsQueryRefused : Contents → Task → Type 0
 IsQueryRefused files (watch database query edits cap way auto) = OverDatabase false files (λ db. IsNoQuery files false db ⊎ OverQuery false files (λ db q. (is_kept q || auto) ≡ false) db)
+IsQueryRefused files (lint of) = OverDatabase of.civil files (λ db. WhereNamed of.query (λ name. IsNoQuery files of.tense db))
 IsQueryRefused files task = OfQuery (λ of need after cap. OverDatabase of.civil files (λ db. IsNoQuery files of.tense db ⊎ OverQuery of.tense files (IsRefusedBehind need (digest_of files) after) db)) task
 
 -- there is a query over the database, and it is above a limit, or for a watch some edit is
@@ -123,6 +130,7 @@ HasFailedFile seen files (count of from to cap) = HasFailedOneOf seen files of.c
 HasFailedFile seen files (ranges of from to limit json cap) = HasFailedOneOf seen files of.civil of.database of.query
 HasFailedFile seen files (explain of) = HasFailedOneOf seen files of.civil of.database of.query
 HasFailedFile seen files (check database civil) = HasFailed seen database
+HasFailedFile seen files (lint of) = HasFailed seen of.database ⊎ OverDatabase of.civil files (λ db. WhereNamed of.query (HasFailed seen))
 HasFailedFile seen files (watch database query edits cap way auto) = HasFailedOneOf seen files false database query ⊎ Keeping auto files (λ db q. HasFailed seen edits)
 HasFailedFile seen files (sample seed size) = ⊥
 

@@ -1,7 +1,7 @@
 -- Tasks to which no refusal applies, and the output of a task.
 use Rattle.std.specs.Prelude.{◌≡◌, ◌≢◌, ◌≤◌, ℕ, ℤ, Bool, true, false, List, Option, Ok}
 use Rattle.lrp_words.specs.Commands.{Task}
-use Rattle.lrp_words.specs.Commands.Task.{ask, decide, list, count, ranges, explain, check, watch, sample}
+use Rattle.lrp_words.specs.Commands.Task.{ask, decide, list, count, ranges, explain, check, lint, watch, sample}
 use Rattle.lrp_model.specs.AnswerTexts.{IsAnswerText}
 use Rattle.lrp_model.specs.Caps.{ManyAt}
 use Rattle.lrp_model.specs.Formulas.{Question}
@@ -24,8 +24,8 @@ use Rattle.lrp_outputs.specs.declared.head.HeadNeed.TheVariants as needs
 use Rattle.lrp_top.specs.Heads.{IsMetBy}
 use Rattle.lrp_top.specs.Resuming.{IsResumed}
 use Rattle.lrp_top.specs.Sampled.{TellsSample}
-use Rattle.lrp_top.specs.Telling.{TellsNumber, TellsPage, TellsPlan, TellsRanges, TellsRelations, TellsWitness}
-use Rattle.lrp_run_laws.specs.Contents.{Contents, digest_of, OverDatabase, Asking, Watching}
+use Rattle.lrp_top.specs.Telling.{TellsFindings, TellsNumber, TellsPage, TellsPlan, TellsRanges, TellsRelations, TellsWitness}
+use Rattle.lrp_run_laws.specs.Contents.{Contents, digest_of, OverDatabase, Asking, Linting, Watching}
 
 -- ---- lawful tasks
 
@@ -70,6 +70,7 @@ IsLawfulTask (count of from to cap) files = Asking of files (IsTellable needs.Co
 IsLawfulTask (ranges of from to limit json cap) files = Asking of files (IsTellable needs.Ranges of.way cap)
 IsLawfulTask (explain of) files = Asking of files (λ db q. Unit {0})
 IsLawfulTask (check database civil) files = OverDatabase civil files (λ db. Unit {0})
+IsLawfulTask (lint of) files = Linting of files (λ db asked. Unit {0})
 IsLawfulTask (watch database query edits cap way auto) files = Watching auto files (λ db q these. PassesLimit way cap db q these → ⊥)
 IsLawfulTask (sample seed size) files = Unit {0}
 
@@ -96,5 +97,6 @@ IsOutputOf (count of from to cap) files output = Asking of files (λ db q. Tells
 IsOutputOf (ranges of from to limit json cap) files output = Asking of files (λ db q. TellsRanges db q from to limit of.civil json output)
 IsOutputOf (explain of) files output = Asking of files (TellsPlanOf of.way output)
 IsOutputOf (check database civil) files output = OverDatabase civil files (λ db. TellsRelations db output)
+IsOutputOf (lint of) files output = Linting of files (λ db asked. TellsFindings db asked output)
 IsOutputOf (watch database query edits cap way auto) files output = Watching auto files (λ db q these. TellsLeastsBy (is_kept q) way db q these cap output)
 IsOutputOf (sample seed size) files output = TellsSample seed size output

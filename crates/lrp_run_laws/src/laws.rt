@@ -20,6 +20,7 @@ use lrp_canon::{answer_texts_are_unique, answers_have_one_row_count};
 use lrp_count::{ranges_are_unique, sizes_add, sizes_are_unique};
 use lrp_edits::{edits_are_one, edits_have_no_fault, edits_have_one_fault};
 use lrp_eval::counts_are_unique;
+use lrp_lint::findings_are_one;
 use lrp_model::{
     pages_are_unique, pages_resume, ranks_differ, texts_in_order, tokens_spell_one_tuple,
     tuples_are_times_and_texts,
@@ -92,6 +93,7 @@ pub fn runs_have_one_outcome()
     answer_texts_are_unique();
     sizes_are_unique();
     ranges_are_unique();
+    findings_are_one();
 }
 
 /// A query has one number of canonical rows.

@@ -6,7 +6,7 @@ use Rattle.lrp_outputs.specs.Outcomes.{Outcome}
 use Rattle.lrp_words.specs.Commands.{task_of}
 use Rattle.lrp_words.specs.Ranges.{IsInRange}
 use Rattle.lrp_words.specs.declared.command.Command.{Command}
-use Rattle.lrp_words.specs.declared.command.Command.TheVariants.{Ask, Decide, List as Page, Count, Ranges, Explain, Check, Watch, Sample}
+use Rattle.lrp_words.specs.declared.command.Command.TheVariants.{Ask, Decide, List as Page, Count, Ranges, Explain, Check, Lint, Watch, Sample}
 use Rattle.lrp_top.specs.Due.{IsDueOf, IsLengthOrMemory, files_of}
 use Rattle.lrp_top.specs.Lengths.{TellsLength}
 use Rattle.lrp_top.specs.Questions.{HasWindow, IsAsked, IsServed, asked_of, need_of}
@@ -30,6 +30,7 @@ due_of_asked (Count files from to cap) asked seen outcome e h = same_asked (IsDu
 due_of_asked (Ranges files from to limit json cap) asked seen outcome e h = same_asked (IsDueFor seen outcome) asked _ e h
 due_of_asked (Explain files) asked seen outcome e h = same_asked (IsDueFor seen outcome) asked _ e h
 due_of_asked (Check db civil) asked seen outcome e h = cc
+due_of_asked (Lint files) asked seen outcome e h = cc
 due_of_asked (Watch db query edits cap planning auto) asked seen outcome e h = cc
 due_of_asked (Sample seed size) asked seen outcome e h = cc
 
@@ -42,6 +43,7 @@ asked_window (Count files from to cap) asked e h = same_asked (λ a. HasWindow a
 asked_window (Ranges files from to limit json cap) asked e h = same_asked (λ a. HasWindow a.purpose) _ asked (sym e) h
 asked_window (Explain files) asked e h = same_asked (λ a. HasWindow a.purpose) _ asked (sym e) h
 asked_window (Check db civil) asked e h = cc
+asked_window (Lint files) asked e h = cc
 asked_window (Watch db query edits cap planning auto) asked e h = cc
 asked_window (Sample seed size) asked e h = cc
 
@@ -54,6 +56,7 @@ asked_files (Count files from to cap) asked e none = cc
 asked_files (Ranges files from to limit json cap) asked e none = cc
 asked_files (Explain files) asked e none = cc
 asked_files (Check db civil) asked e none = cc
+asked_files (Lint files) asked e none = cc
 asked_files (Watch db query edits cap planning auto) asked e none = cc
 asked_files (Sample seed size) asked e none = cc
 

@@ -18,3 +18,4 @@ pub mod ResumeLemmas
 pub mod SampleLemmas
 pub mod StepLemmas
 pub mod WatchLemmas
+pub mod LintLemmas

@@ -4,7 +4,7 @@ use Rattle.std.specs.List.{AllByRecursion}
 use Rattle.lrp_top.proofs.Lists.{both_all}
 use Rattle.lrp_model.specs.Formulas.{Form}
 use Rattle.lrp_model.specs.TestPoints.{points}
-use Rattle.lrp_model.specs.RawQueries.{RawForm, RawForms, raw_atom, raw_compare, raw_member, raw_not, raw_and, raw_or, raw_implies, raw_group, raw_exists, raw_forall, no_raws, raw}
+use Rattle.lrp_model.specs.RawQueries.{RawForm, RawForms, raw_atom, raw_compare, raw_member, raw_not, raw_and, raw_or, raw_implies, raw_group, raw_exists, raw_forall, raw_ranged, raw_paired, no_raws, raw}
 use Rattle.lrp_model.specs.declared.relations.RowPoint.{RowPoint}
 use Rattle.lrp_query.specs.Lawful.{FitsRaw, FitRaws, HasTwo}
 use Rattle.lrp_sorts.specs.Carried.{HasMember, HasMembers, HaveMembers, raw_points, raw_points_each}
@@ -25,6 +25,8 @@ mutual
   has_members (raw_or p fs) h = (one_of_two fs h.0, have_members fs h.1)
   has_members (raw_implies p f g) h = (has_members f h.0, has_members g h.1)
   has_members (raw_group p f) h = has_members f h
+  has_members (raw_ranged word o from to f) h = has_members f h.2
+  has_members (raw_paired word o f g) h = has_members g h.1
   has_members (raw_exists p c f) h = has_members f h
   has_members (raw_forall p c f) h = has_members f h
 
@@ -47,6 +49,8 @@ mutual
   points_repeat (raw_or p fs) h = each_repeats fs h.1
   points_repeat (raw_implies p f g) h = both_all Repeats (raw_points f) (raw_points g) (points_repeat f h.0) (points_repeat g h.1)
   points_repeat (raw_group p f) h = points_repeat f h
+  points_repeat (raw_ranged word o from to f) h = points_repeat f h.2
+  points_repeat (raw_paired word o f g) h = points_repeat g h.1
   points_repeat (raw_exists p c f) h = points_repeat f h
   points_repeat (raw_forall p c f) h = points_repeat f h
 

@@ -21,7 +21,6 @@ use Rattle.lrp_tense.specs.Expanding.{expanded_question}
 use Rattle.lrp_tense.specs.Laws.{IsTenseAnswer, KeepsMeaning}
 use Rattle.lrp_tense.specs.Reading.{IsTenseOrMemory}
 use Rattle.lrp_tense.specs.TenseReading.{IsTenseQuery}
-use Rattle.lrp_tense.specs.Trees.{TenseQuestion}
 use Rattle.lrp_top.specs.Due.{IsQueryReadOf}
 use Rattle.lrp_top.specs.Questions.{IsMemory, IsSaidBy, IsUnreadAs}
 use Rattle.lrp_outputs.specs.Refusals.{refused_by}
@@ -45,7 +44,7 @@ module _ (M : Structure) where
   fits_raw (c ∷ cs) (d ∷ ds) h = (h.0, fits_raw cs ds h.1)
 
 -- the answers of an expansion are those of the written query
-same_answers : (db : List Relation) (written : TenseQuestion) (tuple : Tuple) → IsWellSorted db (expanded_question written) → KeepsMeaning written (expanded_question written) → IsAnswer db (plain_question (expanded_question written)) tuple ↔ IsTenseAnswer db written tuple
+same_answers : (db : List Relation) (written : RawQuestion) (tuple : Tuple) → IsWellSorted db (expanded_question written) → KeepsMeaning written (expanded_question written) → IsAnswer db (plain_question (expanded_question written)) tuple ↔ IsTenseAnswer db written tuple
 same_answers db written tuple sorted keeps =
     let M : Structure = structure db (plain_question (expanded_question written)) in
     let same = keeps db sorted M (assignment (map column_of written.head) tuple) in (
@@ -92,12 +91,12 @@ unsorted_refused tense db seen name bytes raw Memory short said h = tt
 
 -- ---- what is read of a text with temporal operators that says one
 
-pub tense_unread_every : (tense : Bool) (bytes : List ℕ) (read : QueryRead) → tense ≡ true → ((written : TenseQuestion) → IsTenseQuery bytes written → IsTenseOrMemory written (Err read)) → (raw : RawQuestion) → IsSaidBy tense bytes raw → IsQueryOrMemory raw_question_of raw (Err read)
+pub tense_unread_every : (tense : Bool) (bytes : List ℕ) (read : QueryRead) → tense ≡ true → ((written : RawQuestion) → IsTenseQuery bytes written → IsTenseOrMemory written (Err read)) → (raw : RawQuestion) → IsSaidBy tense bytes raw → IsQueryOrMemory raw_question_of raw (Err read)
 tense_unread_every false bytes read e every raw said = cc
 tense_unread_every true bytes Memory e every raw said = tt
 tense_unread_every true bytes (Fault fault) e every raw said = absurd (every said.written said.query)
 
-pub expanded_once : (tense : Bool) (bytes : List ℕ) (written : TenseQuestion) (made : RawQuestion) → tense ≡ true → made ≡ expanded_question written → ((other : TenseQuestion) → IsTenseQuery bytes other → written ≡ other) → (raw : RawQuestion) → IsSaidBy tense bytes raw → made ≡ raw
+pub expanded_once : (tense : Bool) (bytes : List ℕ) (written : RawQuestion) (made : RawQuestion) → tense ≡ true → made ≡ expanded_question written → ((other : RawQuestion) → IsTenseQuery bytes other → written ≡ other) → (raw : RawQuestion) → IsSaidBy tense bytes raw → made ≡ raw
 expanded_once false bytes written made e is one raw said = cc
 expanded_once true bytes written made e is one raw said = is ∙ (ap expanded_question (one said.written said.query) ∙ sym said.is)
 

@@ -2,13 +2,14 @@
 use Rattle.std.specs.Prelude.{◌≡◌, ◌≢◌, ℕ, ℤ, Bool, true, false, ◌<◌, ◌≤◌, List, [], ◌∷◌, length, map, Option, Some, None, Result, Ok, Err, String, string_bytes}
 use Rattle.std.specs.List.{AllByRecursion}
 use Rattle.std.specs.declared.alloc.Global.{Global}
-use Rattle.lrp_words.specs.Commands.{FilesAsked, Task, command}
-use Rattle.lrp_words.specs.Commands.Task.{ask, decide, list, count, ranges, explain, check, watch, sample}
+use Rattle.lrp_words.specs.Commands.{FilesAsked, FilesLinted, Task, command}
+use Rattle.lrp_words.specs.Commands.Task.{ask, decide, list, count, ranges, explain, check, lint, watch, sample}
 use Rattle.lrp_model.specs.AnswerTexts.{IsAnswerText}
 use Rattle.lrp_model.specs.Caps.{IsFirstMany, ManyAt}
 use Rattle.lrp_model.specs.DatabaseReading.{IsDatabase, IsDatabaseFault}
 use Rattle.lrp_model.specs.Formulas.{Question}
 use Rattle.lrp_model.specs.Plans.{IsPlan, HasLongPeriod, HasFarReach, IsWithinLimits}
+use Rattle.lrp_model.specs.RawQueries.{RawQuestion}
 use Rattle.lrp_model.specs.Texts.{Identifier, Text}
 use Rattle.lrp_model.specs.declared.plans.Plan.{Plan}
 use Rattle.lrp_model.specs.declared.plans.Planning.{Planning}
@@ -25,9 +26,9 @@ use Rattle.lrp_top.specs.Sampled.{TellsSample}
 use Rattle.lrp_top.specs.Seen.{ShelfSeen, SinkSeen, HasFailed, IsOverrun}
 use Rattle.lrp_top.specs.Sources.{Source, FromFile}
 use Rattle.lrp_top.specs.Steps.{Then}
-use Rattle.lrp_top.specs.Telling.{TellsNumber, TellsPage, TellsPlan, TellsRanges, TellsRelations, TellsWitness}
+use Rattle.lrp_top.specs.Telling.{TellsFindings, TellsNumber, TellsPage, TellsPlan, TellsRanges, TellsRelations, TellsWitness}
 use Rattle.lrp_top.specs.Watched.{AreEditsRead, IsFormFit, IsWatched}
-use Rattle.lrp_top.specs.Written.{IsFaultyAs, IsSortedAs, plain_if}
+use Rattle.lrp_top.specs.Written.{IsFaultyAs, IsPlacedAs, IsSortedAs, plain_if}
 use Rattle.lrp_outputs.specs.declared.head.HeadNeed.{HeadNeed}
 use Rattle.lrp_outputs.specs.declared.head.HeadNeed.TheVariants as needs
 use Rattle.lrp_outputs.specs.declared.refusal.Refusal.{Refusal}
@@ -63,6 +64,17 @@ IsQueryReadOf tense db seen name bytes (Err _) = ⊥
 -- the same for some bytes, which are the file's where the files are told
 abbrev pub IsQueryRead : Bool → List Relation → ShelfSeen → Identifier → Result (Source Question) Refusal → Type 0
 IsQueryRead tense db seen name = FromFile seen name (IsQueryReadOf tense db seen name)
+
+-- the query is read with its places. Ok: it, well-sorted over the relations, with temporal operators written out. Refused: as a query is
+abbrev pub IsPlacedReadOf : Bool → List Relation → ShelfSeen → Identifier → List ℕ → Result (Option RawQuestion) Refusal → Type 0
+IsPlacedReadOf tense db seen name bytes (Ok None) = ⊥
+IsPlacedReadOf tense db seen name bytes (Ok (Some raw)) = (length bytes ≤ most_bytes) × IsPlacedAs tense db bytes raw
+IsPlacedReadOf tense db seen name bytes (Err refusal) = IsQueryReadOf tense db seen name bytes (Err refusal)
+
+-- the same for some bytes, which are the file's where the files are told; without a name there is no query
+abbrev pub IsNamedRead : Bool → List Relation → ShelfSeen → Option Identifier → Result (Option RawQuestion) Refusal → Type 0
+IsNamedRead tense db seen None asked = asked ≡ Ok None
+IsNamedRead tense db seen (Some name) asked = FromFile seen name (IsPlacedReadOf tense db seen name) asked
 
 -- the query is planned by this way of planning. Ok: its plan. Refused: its period is above the greatest number, or that is not but the reach of its steps is, doubled once and once more for each time column of the head; or want of memory
 abbrev pub IsPlanned : Planning → List Relation → Question → Result Plan Refusal → Type 0
@@ -138,6 +150,18 @@ abbrev pub IsWatchedFor : ShelfSeen → Identifier → Identifier → Identifier
 IsWatchedFor seen database query edits cap way auto =
     Then (IsDatabaseRead false seen database) (λ d. Then (IsQueryRead false d.says seen query) (λ q. Then (IsFormFit auto q.says) (λ fit. Then (AreEditsRead d.says seen edits) (IsWatched (is_kept q.says) way d.says q.says cap))))
 
+-- the query is read so, and then it is told what is silently wrong in the database, and in the query where there is one
+abbrev pub IsLintedBy : List Relation → (Result (Option RawQuestion) Refusal → Type 0) → Outcome → Type 0
+IsLintedBy db IsRead = Then IsRead (λ asked. IsOutput (TellsFindings db asked))
+
+-- over a database, with the query of this file where one is named
+abbrev pub IsLintedOver : Bool → List Relation → ShelfSeen → Option Identifier → Outcome → Type 0
+IsLintedOver tense db seen query = IsLintedBy db (IsNamedRead tense db seen query)
+
+-- a database is read, then a query over its relations where one is named, and then it is told what is silently wrong in them
+abbrev pub IsLinted : FilesLinted → ShelfSeen → Outcome → Type 0
+IsLinted of seen = Then (IsDatabaseRead of.civil seen of.database) (λ d. IsLintedOver of.tense d.says seen of.query)
+
 -- each task; the sample makes its own texts, and is refused for want of memory alone
 abbrev pub IsDueOf : Task → ShelfSeen → Outcome → Type 0
 IsDueOf (ask of cap canon) seen outcome = IsPlannedFor of (canon_need canon) seen (IsAnswered of.way canon cap) outcome
@@ -147,10 +171,16 @@ IsDueOf (count of from to cap) seen outcome = IsPlannedFor of (Some needs.Count)
 IsDueOf (ranges of from to limit json cap) seen outcome = IsPlannedFor of (Some needs.Ranges) seen (IsRanged of.way of.civil from to limit json cap) outcome
 IsDueOf (explain of) seen outcome = IsPlannedFor of None seen IsExplained outcome
 IsDueOf (check database civil) seen outcome = Then (IsDatabaseRead civil seen database) (λ d. IsOutput (TellsRelations d.says)) outcome
+IsDueOf (lint of) seen outcome = IsLinted of seen outcome
 IsDueOf (watch database query edits cap way auto) seen outcome = IsWatchedFor seen database query edits cap way auto outcome
 IsDueOf (sample seed size) seen outcome = IsOutput (TellsSample seed size) outcome
 
 -- ---- the lengths of files
+
+-- the name of a query's file, where there is one
+abbrev pub query_named : Option Identifier → List Identifier
+query_named None = []
+query_named (Some name) = name ∷ []
 
 -- the names of the files that a task reads
 abbrev pub files_of : Task → List Identifier
@@ -161,6 +191,7 @@ files_of (count of from to cap) = of.database ∷ of.query ∷ []
 files_of (ranges of from to limit json cap) = of.database ∷ of.query ∷ []
 files_of (explain of) = of.database ∷ of.query ∷ []
 files_of (check database civil) = database ∷ []
+files_of (lint of) = of.database ∷ query_named of.query
 files_of (watch database query edits cap way auto) = database ∷ query ∷ edits ∷ []
 files_of (sample seed size) = []
 

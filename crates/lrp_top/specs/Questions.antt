@@ -26,11 +26,10 @@ use Rattle.lrp_tense.specs.Expanding.{expanded_question}
 use Rattle.lrp_tense.specs.Laws.{KeepsMeaning}
 use Rattle.lrp_tense.specs.Reading.{IsTenseUnread}
 use Rattle.lrp_tense.specs.TenseReading.{IsTenseQuery}
-use Rattle.lrp_tense.specs.Trees.{TenseQuestion}
 use Rattle.lrp_words.specs.Commands.{after_text, asked_files}
 use Rattle.lrp_words.specs.Ranges.{IsEnd}
 use Rattle.lrp_words.specs.declared.command.Command.{Command}
-use Rattle.lrp_words.specs.declared.command.Command.TheVariants.{Ask, Decide, List as Page, Count, Ranges, Explain, Check, Watch, Sample}
+use Rattle.lrp_words.specs.declared.command.Command.TheVariants.{Ask, Decide, List as Page, Count, Ranges, Explain, Check, Lint, Watch, Sample}
 use Rattle.lrp_words.specs.declared.command.QuestionFiles.{QuestionFiles}
 use Rattle.lrp_answer_text.specs.Answering.{AreAnswerColumns}
 use Rattle.lrp_top.specs.Due.{IsAnswered, IsDecided, IsExplained, IsListed, IsNumberTold, IsPlannedFor, IsRanged}
@@ -87,7 +86,7 @@ asked_as (Err refusal) = Err refusal
 
 -- the bytes are a query with temporal operators, and this is its expansion, which means the same
 pub record IsExpansionOf (bytes : List ℕ) (raw : RawQuestion) : Type 0 where
-  pub written : TenseQuestion
+  pub written : RawQuestion
   pub query : IsTenseQuery bytes written
   pub is : raw ≡ expanded_question written
   pub keeps : KeepsMeaning written raw
@@ -175,5 +174,6 @@ asked_of (Count files from to cap) = Some (record { files = files; purpose = pur
 asked_of (Ranges files from to limit json cap) = Some (record { files = files; purpose = purpose.Ranges (record { from = from; to = to; limit = limit; json = json; cap = cap; civil = files.civil }) })
 asked_of (Explain files) = Some (record { files = files; purpose = purpose.Plan })
 asked_of (Check db civil) = None
+asked_of (Lint files) = None
 asked_of (Watch db query edits cap planning auto) = None
 asked_of (Sample seed size) = None

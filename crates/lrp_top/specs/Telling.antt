@@ -6,6 +6,7 @@ use Rattle.lrp_model.specs.Pages.{IsPage}
 use Rattle.lrp_model.specs.Rows.{Tuple}
 use Rattle.lrp_model.specs.Printed.{database_bytes}
 use Rattle.lrp_model.specs.PrintedPlans.{plan_bytes}
+use Rattle.lrp_model.specs.RawQueries.{RawQuestion}
 use Rattle.lrp_model.specs.Satisfaction.{IsAnswer}
 use Rattle.lrp_model.specs.declared.plans.Plan.{Plan}
 use Rattle.lrp_model.specs.declared.relations.Relation.{Relation}
@@ -13,6 +14,9 @@ use Rattle.lrp_print.specs.ReadBack.{ReadsBack}
 use Rattle.lrp_count.specs.Numbers.{HasSize}
 use Rattle.lrp_count.specs.Ranges.{AreRanges, InWindowOf, IsAnswerTime}
 use Rattle.lrp_count.specs.declared.windows.Range.{Range}
+use Rattle.lrp_lint.specs.Listed.{AreFindings}
+use Rattle.lrp_lint.specs.Reports.{report_text}
+use Rattle.lrp_lint.specs.declared.findings.Findings.{Findings}
 use Rattle.lrp_outputs.specs.First.{least_line}
 use Rattle.lrp_outputs.specs.PageLines.{listed_bytes}
 use Rattle.lrp_outputs.specs.RangeLines.{count_line, ranges_bytes}
@@ -59,3 +63,9 @@ pub record TellsPage (db : List Relation) (q : Question) (from to : ℤ) (after 
   pub more : Bool
   pub is : IsPage (IsAnswer db q) from to after limit page more
   pub spelled : bytes ≡ listed_bytes civil json digest page more
+
+-- the text is that of what is silently wrong in the database, and in a query over it where there is one
+pub record TellsFindings (db : List Relation) (asked : Option RawQuestion) (bytes : List ℕ) : Type 0 where
+  pub findings : Findings
+  pub are : AreFindings db asked findings
+  pub spelled : bytes ≡ report_text (record { database = db; findings = findings })

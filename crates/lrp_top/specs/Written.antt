@@ -13,7 +13,6 @@ use Rattle.lrp_civil.specs.PlainText.{plain_of}
 use Rattle.lrp_tense.specs.Expanding.{expanded_question}
 use Rattle.lrp_tense.specs.Laws.{IsTenseAnswer}
 use Rattle.lrp_tense.specs.TenseReading.{IsTenseQuery, IsTenseQueryFault}
-use Rattle.lrp_tense.specs.Trees.{TenseQuestion}
 
 -- ---- databases
 
@@ -33,7 +32,7 @@ pub record IsSorted (db : List Relation) (bytes : List ℕ) (q : Question) : Typ
 
 -- the bytes are a query with temporal operators, whose expansion is well-sorted over the relations, and without its places that is this one; its answers are those of the written query by the operators' own meaning
 pub record IsTenseSorted (db : List Relation) (bytes : List ℕ) (q : Question) : Type 0 where
-  pub written : TenseQuestion
+  pub written : RawQuestion
   pub query : IsTenseQuery bytes written
   pub sorted : IsWellSorted db (expanded_question written)
   pub plain : q ≡ plain_question (expanded_question written)
@@ -44,6 +43,23 @@ abbrev pub IsSortedAs : Bool → List Relation → List ℕ → Question → Typ
 IsSortedAs false = IsSorted
 IsSortedAs true = IsTenseSorted
 
+-- the bytes are a query that is well-sorted over the relations, and with its places it is this one
+pub record IsPlacedQuery (db : List Relation) (bytes : List ℕ) (raw : RawQuestion) : Type 0 where
+  pub query : IsQuery bytes raw
+  pub sorted : IsWellSorted db raw
+
+-- the bytes are a query with temporal operators, whose expansion is well-sorted over the relations, and with its places that is this one
+pub record IsPlacedTenseQuery (db : List Relation) (bytes : List ℕ) (raw : RawQuestion) : Type 0 where
+  pub written : RawQuestion
+  pub query : IsTenseQuery bytes written
+  pub is : raw ≡ expanded_question written
+  pub sorted : IsWellSorted db raw
+
+-- the one or the other
+abbrev pub IsPlacedAs : Bool → List Relation → List ℕ → RawQuestion → Type 0
+IsPlacedAs false = IsPlacedQuery
+IsPlacedAs true = IsPlacedTenseQuery
+
 -- the bytes are a query that has this sort fault over the relations
 pub record IsUnsortedBy (db : List Relation) (bytes : List ℕ) (fault : QueryFault) : Type 0 where
   pub raw : RawQuestion
@@ -52,7 +68,7 @@ pub record IsUnsortedBy (db : List Relation) (bytes : List ℕ) (fault : QueryFa
 
 -- the bytes are a query with temporal operators whose expansion has this sort fault over the relations
 pub record IsTenseUnsortedBy (db : List Relation) (bytes : List ℕ) (fault : QueryFault) : Type 0 where
-  pub written : TenseQuestion
+  pub written : RawQuestion
   pub query : IsTenseQuery bytes written
   pub unsorted : IsSortFault db (expanded_question written) fault
 

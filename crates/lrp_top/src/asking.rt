@@ -87,6 +87,9 @@ pub fn asked_by(command: Command<'_>) -> Option<Asked<'_>>
             let purpose = Purpose::Ranges { ranging };
             Some(Asked { files, purpose })
         }
-        Command::Check { .. } | Command::Watch { .. } | Command::Sample { .. } => None,
+        Command::Check { .. }
+        | Command::Lint { .. }
+        | Command::Watch { .. }
+        | Command::Sample { .. } => None,
     }
 }

@@ -13,6 +13,7 @@ ghost use Rattle.lrp_words.specs.Ranges.{IsInRange};
 
 use crate::asking::{Asked, asked_by};
 use crate::files::database_of;
+use crate::linting::lint;
 use crate::question::question_of;
 use crate::sampling::sample;
 use crate::seeing::Watched;
@@ -72,6 +73,7 @@ fn carry_out_other<F: Shelf>(
 {
     match command {
         Command::Check { db, civil } => check(alloc, db, civil, shelf),
+        Command::Lint { files } => lint(alloc, &files, shelf),
         Command::Watch {
             db: database,
             query,

@@ -5,6 +5,7 @@ mod asking;
 mod counting;
 mod deciding;
 mod files;
+mod linting;
 mod listing;
 mod purpose;
 mod question;

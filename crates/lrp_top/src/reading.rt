@@ -4,7 +4,7 @@ ghost use Rattle.std.specs.List.{AllByRecursion};
 ghost use Rattle.lrp_edits.specs.EditMeaning.{IsEditOf};
 ghost use Rattle.lrp_model.specs.DatabaseReading.{IsDatabase};
 ghost use Rattle.lrp_model.specs.Checked.{plain_question};
-ghost use Rattle.lrp_model.specs.RawQueries.{RawQuestion, raw_question_of};
+ghost use Rattle.lrp_model.specs.RawQueries.{HasNoOperator, RawQuestion, raw_form_of, raw_question_of};
 ghost use Rattle.lrp_model.specs.Sorting.{IsWellSorted};
 ghost use Rattle.lrp_model.specs.declared.relations.Relation.{Relation as RelationOf};
 ghost use Rattle.lrp_model.specs.Outcomes.{IsQueryOrMemory};
@@ -79,9 +79,7 @@ pub fn query_in(
         → IsQueriedOrMemory (plain_question raw) result }
 {
     let raw = raw_of(alloc, bytes.as_slice(), tense)?;
-    let checked = check(alloc, &raw, database);
-    drop(raw);
-    let query = checked?;
+    let query = check(alloc, raw, database)?;
     database.relations();
     heads_are_columns();
     kept_queries_have_periods();
@@ -90,10 +88,11 @@ pub fn query_in(
 }
 
 /// The query of a text with its places, in which temporal operators are written out.
-fn raw_of(alloc: Global, bytes: &[u8], tense: bool) -> Result<RawQuery, QueryRead>
+pub fn raw_of(alloc: Global, bytes: &[u8], tense: bool) -> Result<RawQuery, QueryRead>
     requires { length bytes.now ≤ most_bytes }
     ensures said { IfOk result (λ raw. IsSaidBy tense bytes.now (raw_question_of raw)) }
     ensures lawful { IfOk result (λ raw. IsLawfulExpansion (raw_question_of raw)) }
+    ensures plain { IfOk result (λ raw. HasNoOperator (raw_form_of raw.body)) }
     ensures refused { IfErr result (IsUnreadAs tense bytes.now) }
     ensures every { (raw : RawQuestion) → IsSaidBy tense bytes.now raw
         → IsQueryOrMemory raw_question_of raw result }

@@ -10,8 +10,9 @@ use Rattle.lrp_civil.specs.Minutes.{minute_by}
 use Rattle.lrp_words.specs.declared.keys.Key.{Key}
 use Rattle.lrp_words.specs.declared.keys.Key.TheVariants.{Db, Query, Edits, Cap, Plan, From, To, Limit, After, Form, Tense, Canon, Civil, Show, Kept, Seed, Size}
 use Rattle.lrp_words.specs.declared.command.Command.{Command}
+use Rattle.lrp_words.specs.declared.command.LintFiles.{LintFiles}
 use Rattle.lrp_words.specs.declared.command.QuestionFiles.{QuestionFiles}
-use Rattle.lrp_words.specs.declared.command.Command.TheVariants.{Ask, Decide, List as Page, Count, Ranges, Explain, Check, Watch, Sample}
+use Rattle.lrp_words.specs.declared.command.Command.TheVariants.{Ask, Decide, List as Page, Count, Ranges, Explain, Check, Lint, Watch, Sample}
 use Rattle.lrp_words.specs.Entries.{value_for, are_given}
 use Rattle.lrp_words.specs.Numbers.{natural, within, integer_up_to}
 use Rattle.lrp_model.specs.Limits.{greatest_number}
@@ -24,6 +25,13 @@ pub record FilesAsked : Type 0 where
   pub tense : Bool
   pub civil : Bool
 
+-- what is looked over: the name of the file of a database and, where there is one, of a query over it, whether that may have temporal operators, and whether times are civil ones
+pub record FilesLinted : Type 0 where
+  pub database : Text
+  pub query : Option Text
+  pub tense : Bool
+  pub civil : Bool
+
 -- what is asked: files by their names, caps and limits, a window, a token, whether lines are in JSON, a seed and a size; and last, for `ask` whether the canonical answer is told, for `decide` whether times are shown as dates, for `check` whether times are civil ones, and for `watch` how a query that isn't in kept form is planned, and whether one is watched
 pub data Task : Type 0 where
   ask : FilesAsked → ℕ → Bool → Task
@@ -33,6 +41,7 @@ pub data Task : Type 0 where
   ranges : FilesAsked → ℤ → ℤ → ℕ → Bool → ℕ → Task
   explain : FilesAsked → Task
   check : Text → Bool → Task
+  lint : FilesLinted → Task
   watch : Text → Text → Text → ℕ → Planning → Bool → Task
   sample : ℕ → ℕ → Task
 
@@ -45,6 +54,10 @@ after_text (Some text) = Some text.now
 abbrev pub asked_files : QuestionFiles → FilesAsked
 asked_files files = record { database = files.database.now; query = files.query.now; way = files.planning; tense = files.tense; civil = files.civil }
 
+-- what the program looks over
+abbrev pub linted_files : LintFiles → FilesLinted
+linted_files files = record { database = files.database.now; query = after_text files.query; tense = files.tense; civil = files.civil }
+
 -- what a command of the program asks; `Page` is its command `List`
 abbrev pub task_of : Command → Task
 task_of (Ask files cap canon) = ask (asked_files files) cap canon
@@ -54,6 +67,7 @@ task_of (Count files from to cap) = count (asked_files files) from to cap
 task_of (Ranges files from to limit json cap) = ranges (asked_files files) from to limit json cap
 task_of (Explain files) = explain (asked_files files)
 task_of (Check db civil) = check db.now civil
+task_of (Lint files) = lint (linted_files files)
 task_of (Watch db query edits cap planning auto) = watch db.now query.now edits.now cap planning auto
 task_of (Sample seed size) = sample seed size
 
@@ -71,6 +85,12 @@ abbrev pub file : Option Text → Option Text
 file None = None
 file (Some []) = None
 file (Some (b ∷ bs)) = Some (b ∷ bs)
+
+-- the same where it may be left out
+abbrev pub optional_file : Option Text → Option (Option Text)
+optional_file None = Some None
+optional_file (Some []) = None
+optional_file (Some (b ∷ bs)) = Some (Some (b ∷ bs))
 
 -- a number from low to high
 abbrev pub number_in : ℕ → ℕ → Option Text → Option ℕ
@@ -153,6 +173,12 @@ files_in words =
     with_some (database_name words) (λ db. with_some (query_name words) (λ query. with_some (planning_in words) (λ planning. with_some (tense_flag words) (λ tense. with_some (civil_of words) (λ civil.
     Some (record { database = db; query = query; way = planning; tense = tense; civil = civil }))))))
 
+-- what is looked over
+abbrev pub files_to_lint : List Text → Option FilesLinted
+files_to_lint words =
+    with_some (database_name words) (λ db. with_some (optional_file (value_for Query words)) (λ query. with_some (tense_flag words) (λ tense. with_some (civil_of words) (λ civil.
+    Some (record { database = db; query = query; tense = tense; civil = civil })))))
+
 -- ---- each command from the words behind its name, and its keys
 
 abbrev pub ask_of : List Text → Option Task
@@ -203,6 +229,12 @@ check_of words = with_some (database_name words) (λ db. with_some (civil_of wor
 abbrev pub check_keys : List Key
 check_keys = Db ∷ Civil ∷ []
 
+abbrev pub lint_of : List Text → Option Task
+lint_of words = with_some (files_to_lint words) (λ files. Some (lint files))
+
+abbrev pub lint_keys : List Key
+lint_keys = Db ∷ Query ∷ Tense ∷ Civil ∷ []
+
 abbrev pub watch_of : List Text → Option Task
 watch_of words =
     with_some (database_name words) (λ db. with_some (query_name words) (λ query. with_some (edits_name words) (λ edits. with_some (cap_of words) (λ cap.
@@ -232,5 +264,6 @@ command (name ∷ words) =
     if bytes_eq name (codes "ranges") then over ranges_keys words (ranges_of words) else
     if bytes_eq name (codes "explain") then over explain_keys words (explain_of words) else
     if bytes_eq name (codes "check") then over check_keys words (check_of words) else
+    if bytes_eq name (codes "lint") then over lint_keys words (lint_of words) else
     if bytes_eq name (codes "watch") then over watch_keys words (watch_of words) else
     if bytes_eq name (codes "sample") then over sample_keys words (sample_of words) else None

@@ -14,6 +14,16 @@ pub struct QuestionFiles<'a> {
     pub civil: bool,
 }
 
+/// What is looked over: the names of the files of a database and, where there is one, of a query, which are not empty,
+/// whether the query may have temporal operators, and whether the database may have civil values.
+#[derive(Clone, Copy)]
+pub struct LintFiles<'a> {
+    pub database: &'a str,
+    pub query: Option<&'a str>,
+    pub tense: bool,
+    pub civil: bool,
+}
+
 /// A command with its values, whose texts are borrowed from the words.
 ///
 /// `db`, `query` and `edits` are names of files, and not empty. `from` and `to` have a magnitude of at most 2^62, and
@@ -61,6 +71,9 @@ pub enum Command<'a> {
     Check {
         db: &'a str,
         civil: bool,
+    },
+    Lint {
+        files: LintFiles<'a>,
     },
     Watch {
         db: &'a str,

@@ -7,5 +7,5 @@ mod keys;
 mod numbers;
 mod reading;
 
-pub use command::{Command, QuestionFiles, Usage};
+pub use command::{Command, LintFiles, QuestionFiles, Usage};
 pub use reading::read_words;

@@ -1,10 +1,10 @@
 // Words as a command: its name, and then the values of its keys.
 ghost use Rattle.std.specs.Prelude.{◌≡◌, ◌<◌, ◌≤◌, ◌^◌, [], ◌∷◌, map, string_bytes, option_map, Some, None, IfOk, IfSome, MatchResult};
-ghost use Rattle.lrp_words.specs.Commands.{ask_keys, ask_of, auto_of, canon_of, cap_of, check_keys, check_of, civil_of, command, count_keys, counting_of, dates_of, decide_keys, decide_of, end_of, explain_keys, explain_of, flag_of, file as file_by, asked_files, files_in, json_of as is_json_by, limit_of, list_keys, list_of, number_in as number_by, number_or as number_or_by, over, planning_in, ranges_keys, ranges_of, sample_keys, sample_of, task_of, tasks_of, tense_flag, after_text, watch_keys, watch_of};
+ghost use Rattle.lrp_words.specs.Commands.{ask_keys, ask_of, auto_of, canon_of, cap_of, check_keys, check_of, civil_of, command, count_keys, counting_of, dates_of, decide_keys, decide_of, end_of, explain_keys, explain_of, flag_of, file as file_by, asked_files, files_in, files_to_lint, json_of as is_json_by, limit_of, lint_keys, lint_of, linted_files, list_keys, list_of, number_in as number_by, number_or as number_or_by, optional_file as optional_file_by, over, planning_in, ranges_keys, ranges_of, sample_keys, sample_of, task_of, tasks_of, tense_flag, after_text, watch_keys, watch_of};
 ghost use Rattle.lrp_words.specs.Entries.{value_for as value_by};
 ghost use Rattle.lrp_words.specs.Ranges.{IsInRange, IsEnd};
 
-use crate::command::{Command, QuestionFiles, Usage};
+use crate::command::{Command, LintFiles, QuestionFiles, Usage};
 use crate::entries::{are_given, value};
 use crate::keys::Key;
 use crate::numbers::{integer, within};
@@ -42,6 +42,7 @@ fn named<'a>(name: &str, words: &'a [String]) -> Option<Command<'a>>
         "ranges" => ranges(words),
         "explain" => explain(words),
         "check" => check(words),
+        "lint" => lint(words),
         "watch" => watch(words),
         "sample" => sample(words),
         _ => None,
@@ -221,6 +222,19 @@ fn check(words: &[String]) -> Option<Command<'_>>
     })
 }
 
+fn lint(words: &[String]) -> Option<Command<'_>>
+    ensures task { tasks_of result ≡ over lint_keys (map string_bytes words.now)
+        (lint_of (map string_bytes words.now)) }
+    ensures range { IfSome result (λ found. IsInRange (task_of found)) }
+{
+    if !are_given(&[Key::Db, Key::Query, Key::Tense, Key::Civil], words) {
+        return None;
+    }
+    Some(Command::Lint {
+        files: lint_files(words)?,
+    })
+}
+
 fn watch(words: &[String]) -> Option<Command<'_>>
     ensures task { tasks_of result ≡ over watch_keys (map string_bytes words.now)
         (watch_of (map string_bytes words.now)) }
@@ -274,12 +288,36 @@ fn files(words: &[String]) -> Option<QuestionFiles<'_>>
     })
 }
 
+/// What is looked over.
+fn lint_files(words: &[String]) -> Option<LintFiles<'_>>
+    ensures { option_map linted_files result ≡ files_to_lint (map string_bytes words.now) }
+{
+    Some(LintFiles {
+        database: file(Key::Db, words)?,
+        query: optional_file(Key::Query, words)?,
+        tense: tense(words)?,
+        civil: civil(words)?,
+    })
+}
+
 /// The name of a file, which is not empty.
 fn file(key: Key, words: &[String]) -> Option<&str>
     ensures { after_text result ≡ file_by (value_by key (map string_bytes words.now)) }
 {
     let name = value(key, words)?;
     if name.is_empty() { None } else { Some(name) }
+}
+
+/// The name of a file that may be left out, and is not empty.
+fn optional_file(key: Key, words: &[String]) -> Option<Option<&str>>
+    ensures { option_map after_text result
+        ≡ optional_file_by (value_by key (map string_bytes words.now)) }
+{
+    match value(key, words) {
+        None => Some(None),
+        Some(name) if name.is_empty() => None,
+        Some(name) => Some(Some(name)),
+    }
 }
 
 /// A number from low to high.

@@ -1,4 +1,4 @@
-use Rattle.lrp_run_laws.proofs.Complete.{each_texts, plain_texts, tense_texts}
+use Rattle.lrp_run_laws.proofs.Complete.{each_placed, each_texts, plain_placed, plain_texts, tense_placed, tense_texts}
 use Rattle.lrp_run_laws.proofs.One.{each_fault, plain_faults, runs_alike, tense_faults}
 use Rattle.lrp_run_laws.proofs.laws.runs_have_one_outcome.Goals as goal
 
@@ -10,6 +10,9 @@ returns c = runs_alike (record {
       (tense_texts c.texts_are_one_query.ensures.one c.tense_queries_have_no_fault.ensures c.well_sorted_queries_have_no_fault.ensures);
   query_fault = each_fault (plain_faults c.texts_are_of_one_query.ensures c.queries_have_no_fault.ensures c.queries_have_one_fault.ensures)
       (tense_faults c.texts_are_one_query.ensures.one c.tense_queries_have_no_fault.ensures c.tense_queries_have_one_fault.ensures);
+  placed = each_placed (plain_placed c.texts_are_of_one_query.ensures c.queries_have_no_fault.ensures c.well_sorted_queries_have_no_fault.ensures)
+      (tense_placed c.texts_are_one_query.ensures.one c.tense_queries_have_no_fault.ensures c.well_sorted_queries_have_no_fault.ensures);
+  report = c.findings_are_one.ensures;
   edits = record { one = c.edits_are_one.ensures; faultless = c.edits_have_no_fault.ensures };
   edits_fault = c.edits_have_one_fault.ensures;
   token = c.tokens_spell_one_tuple.ensures;

@@ -3,7 +3,6 @@ use Rattle.std.proofs.Common.{IfOk, sym, subst}
 use Rattle.std.proofs.lemmas.Result.{err_from_is_err_and}
 use Rattle.lrp_model.specs.RawQueries.{RawQuestion, raw_question_of}
 use Rattle.lrp_model.specs.Outcomes.{IsQueryOrMemory}
-use Rattle.lrp_tense.specs.Trees.{tense_question_of}
 use Rattle.lrp_top.specs.Questions.{IsExpansionOf, IsSaidBy}
 use Rattle.lrp_top.proofs.ReadingLemmas.{expanded_once, tense_unread_every}
 use Rattle.lrp_top.proofs.reading.raw_of.Goals as goal
@@ -22,7 +21,7 @@ returns-in_err-written-clause-every c =
 pub returns-in-Ok-clause-said : goal.returns-in-Ok-clause-said
 returns-in-Ok-clause-said c =
     let said : IsExpansionOf c.args.bytes.now (raw_question_of c.in-Ok.raw) = record {
-      written = tense_question_of c.in_ok-written.written;
+      written = raw_question_of c.in_ok-written.written;
       query = c.in_ok-written.ensures.query;
       is = c.in-Ok.ensures.tree;
       keeps = c.in-Ok.ensures.meaning;
@@ -30,4 +29,4 @@ returns-in-Ok-clause-said c =
     subst (λ tense. IsSaidBy tense c.args.bytes.now (raw_question_of c.in-Ok.raw)) (sym c.if-not-tense.false) said
 
 pub returns-in-Ok-clause-every : goal.returns-in-Ok-clause-every
-returns-in-Ok-clause-every c = λ raw said. expanded_once c.args.tense c.args.bytes.now (tense_question_of c.in_ok-written.written) (raw_question_of c.in-Ok.raw) c.if-not-tense.false c.in-Ok.ensures.tree c.in_ok-written.ensures.every_query raw said
+returns-in-Ok-clause-every c = λ raw said. expanded_once c.args.tense c.args.bytes.now (raw_question_of c.in_ok-written.written) (raw_question_of c.in-Ok.raw) c.if-not-tense.false c.in-Ok.ensures.tree c.in_ok-written.ensures.every_query raw said
