@@ -14,10 +14,19 @@ from support import TOP, environment, need
 from table import read_table
 
 COMPLETIONS = TOP / "share/completions"
+# The seconds in which a shell shows what it is waited for.
+PATIENCE = 300
+# The seconds that a shell has for a tab: a line that ends while it still completes would end that early, so a busy machine
+# gets more of them.
+PAUSES = (0.15, 1, 5, 20)
 
 # What is typed before the tab, and the words that then stand there.
 CASES = [
-    ("li", "list"),
+    ("lis", "list"),
+    ("lin", "lint"),
+    ("lint db=plan.lrp qu", "lint db=plan.lrp query="),
+    ("lint te", "lint tense="),
+    ("help lin", "help lint"),
     ("de", "decide"),
     ("ch", "check"),
     ("sam", "sample"),
@@ -27,7 +36,8 @@ CASES = [
     ("watch db=plan.lrp query=ask.lrq e", "watch db=plan.lrp query=ask.lrq edits="),
     ("watch edits=mo", "watch edits=moves.lre"),
     ("help sam", "help sample"),
-    ("--v", "--version"),
+    ("--vers", "--version"),
+    ("--veri", "--verify"),
     ("help ref", "help refusals"),
     ("help expl", "help explain"),
     ("check d", "check db="),
@@ -104,7 +114,7 @@ class Terminal:
 
     def read_to(self, pattern: str) -> re.Match[str]:
         """Reads what the shell shows up to a match of the pattern."""
-        shown, end = "", time.monotonic() + 20
+        shown, end = "", time.monotonic() + PATIENCE
         while time.monotonic() < end:
             if select.select([self.reader], [], [], 0.2)[0]:
                 shown += os.read(self.reader, 4096).decode(errors="replace")
@@ -113,11 +123,10 @@ class Terminal:
                     return found
         raise AssertionError(f"the shell showed {shown!r}")
 
-    def complete(self, typed: str) -> str:
-        """The words that the shell runs once a tab stands behind what is typed."""
+    def complete(self, typed: str, pause: float) -> str:
+        """The words that the shell runs once a tab stands after what is typed, and after a pause the end of the line."""
         self.send(f"fizhedul {typed}\t")
-        # The shell needs a moment for the tab; a line that ends while it still reads would end it early.
-        time.sleep(0.15)
+        time.sleep(pause)
         self.send("\n")
         return self.read_to(r"GOT<(.*)>\r?\n").group(1).rstrip(" ")
 
@@ -140,7 +149,11 @@ class Completions(unittest.TestCase):
             try:
                 for typed, wanted in CASES:
                     with self.subTest(typed):
-                        self.assertEqual(terminal.complete(typed), wanted)
+                        for pause in PAUSES:
+                            got = terminal.complete(typed, pause)
+                            if got == wanted:
+                                break
+                        self.assertEqual(got, wanted)
             finally:
                 terminal.close()
 

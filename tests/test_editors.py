@@ -13,11 +13,13 @@ from pathlib import Path
 
 from support import TOP, environment, need
 
+# The seconds that Vim may take on a busy machine.
+PATIENCE = 1200
 RESERVED = ["relation", "where", "exists", "forall", "implies", "not", "and", "or", "in"]
-# What stands behind the word of a temporal operator: a name.
+# What stands after the word of a temporal operator: a name.
 OPERATORS = ["once", "always", "since", "until"]
 BEFORE_NAME = rf"\s+(?!(?:{'|'.join([*RESERVED, 'time', 'data', 'n'])})\b)[A-Za-z_]"
-# The tokens of the language, each with its class; a name's class also hangs on what stands around it.
+# The tokens of the language, each with its class; a name's class also depends on what stands around it.
 TOKENS = re.compile(r"""
     (?P<comment>\#[^\n]*) | (?P<text>"(?:[^"\\\n]|\\.)*") | (?P<number>(?:daily|weekly\ (?:mon|tue|wed|thu|fri|sat|sun)
     |on\ \d{4}-(?:0[1-9]|1[0-2])-(?:0[1-9]|[12]\d|3[01]))\ (?:[01]\d|2[0-3]):[0-5]\d(?!\d)|[0-9]+) | (?P<name>[A-Za-z_]\w*)
@@ -172,7 +174,7 @@ class Editors(unittest.TestCase):
             dump.write_text(DUMP)
             listed.write_text("".join(f"{path}\n" for path in [*self.files, *more]))
             words = [vim, "-es", "-N", "-u", "NONE", "-i", "NONE", "--cmd", f"set rtp^={TOP}/editors/vim enc=utf-8", "-S", dump]
-            subprocess.run(words, stdin=subprocess.DEVNULL, capture_output=True, check=False, timeout=60,
+            subprocess.run(words, stdin=subprocess.DEVNULL, capture_output=True, check=False, timeout=PATIENCE,
                            env=environment(LISTED=str(listed), DUMPED=str(dumped), HOME=name))
             classes = {Path(path): rows for path, rows in json.loads(dumped.read_text()).items()}
             for path in [*self.files, *more]:
@@ -188,7 +190,7 @@ class Editors(unittest.TestCase):
                             "-c", "filetype plugin on", "-c", "edit", "-c", "silent make",
                             "-c", f"call writefile([line('.') . ' ' . col('.') . ' ' . getqflist()[0].text], '{said}')",
                             "-c", "qa!", TOP / "examples/week/broken.lrp"], stdin=subprocess.DEVNULL, capture_output=True,
-                           check=False, timeout=60, env=environment(HOME=name, PATH=f"{name}:/usr/bin:/bin"))
+                           check=False, timeout=PATIENCE, env=environment(HOME=name, PATH=f"{name}:/usr/bin:/bin"))
             self.assertEqual(said.read_text(), "8 3 Arity\n")
 
     def vim(self, file: Path, *commands: str) -> list[str]:
@@ -202,7 +204,7 @@ class Editors(unittest.TestCase):
             (home / "fizhedul").symlink_to(TOP / "fizhedul")
             words = [each for command in ("filetype plugin on", "edit", *commands, "qa!") for each in ("-c", command)]
             subprocess.run([vim, "-es", "-N", "-u", "NORC", "-i", "NONE", *words, file], stdin=subprocess.DEVNULL, cwd=home,
-                           capture_output=True, check=False, timeout=60, env=environment(HOME=name, PATH=f"{name}:/usr/bin:/bin"))
+                           capture_output=True, check=False, timeout=PATIENCE, env=environment(HOME=name, PATH=f"{name}:/usr/bin:/bin"))
             return (home / "said").read_text().splitlines() if (home / "said").exists() else []
 
     def test_vim_with_its_plugins_opens_a_database_as_a_text(self):
@@ -217,6 +219,14 @@ class Editors(unittest.TestCase):
         self.assertEqual(said, ["0 refused: read of database"])
         wanted = self.vim(TOP / "README.md", "call writefile([&makeprg], 'said')")
         self.assertEqual(self.vim(TOP / "examples/guide/changes.lre", "call writefile([&makeprg], 'said')"), wanted)
+
+    def test_make_goes_to_what_is_seldom_meant(self):
+        faults = "call writefile(map(getqflist(), {_, it -> it.lnum . ' ' . it.col . ' ' . it.text}), 'said')"
+        said = self.vim(TOP / "examples/lint/trips.lrq", "let b:fizhedul_database = '%s'" % (TOP / "examples/lint/line.lrp"), "edit",
+                        "silent make", faults)
+        self.assertEqual([line for line in said if not line.startswith("0 ")], ["4 51 UnknownText", "5 43 EmptyRelation"])
+        said = self.vim(TOP / "examples/lint/line.lrp", "silent make", faults)
+        self.assertEqual(said[:2], ["0 0 database EmptyRow trip 2", "0 0 database UntiedTimes shift 1"])
 
     def test_visual_studio_code(self):
         folder = TOP / "editors/vscode"

@@ -234,7 +234,7 @@ printf '#!/bin/sh\\necho ran\\n' >{out}/lrp_main; chmod +x {out}/lrp_main
         line = "fizhedul export csv db=examples/bus/bus.lrp query='{ t: time | bus(t) and bus(t) }' from=0 to=100"
         self.assertEqual(shell(line).err, "refused: query Syntax at 1:20\n")
         self.assertIn("\nquery:1:20\n", shell(line, explain="always").err)
-        self.assertIn("\nA list stands in parentheses: (F and G).\n", shell(line, explain="always").err)
+        self.assertIn("\nA list stands in parentheses: (bus(t) and bus(t)).\n", shell(line, explain="always").err)
 
     def test_a_minus_is_standard_input(self):
         with tempfile.TemporaryDirectory() as name:

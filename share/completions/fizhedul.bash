@@ -12,9 +12,10 @@ _fizhedul_keys() {
         ranges) keys='db query from to limit form cap plan tense civil' ;;
         explain) keys='db query plan tense civil' ;;
         check) keys='db civil' ;;
+        lint) keys='db query tense civil' ;;
         sample) keys='seed size' ;;
         shell) keys='db from to limit cap plan tense canon civil' ;;
-        draw) keys='db query from to format grid marks hour out ranges tree cap plan tense civil' ;;
+        draw) keys='db query from to format grid marks hour out ranges tree cells cap plan tense civil' ;;
         page) keys='db query from to cap plan tense civil dates hour engine port open' ;;
         spread) keys='db query queries from to parts by overlap engine out jobs tries hosts scheduler options limit form cap plan tense civil' ;;
     esac
@@ -51,6 +52,7 @@ _fizhedul_values() {
         grid) values='numbers dates' ;;
         ranges) values='no yes' ;;
         tree) values='no yes' ;;
+        cells) values='no yes' ;;
         dates) values='no yes' ;;
         engine) values='parallel slurm dask' ;;
         open) values='yes no' ;;
@@ -83,9 +85,9 @@ _fizhedul() {
     [[ $line == *[[:blank:]] ]] || { word=${words[-1]}; unset 'words[-1]'; }
     COMPREPLY=()
     if [ ${#words[@]} -le 1 ]; then
-        mapfile -t COMPREPLY < <(compgen -W 'check ask decide watch list count ranges explain sample shell draw page import export spread help --version' -- "$word")
+        mapfile -t COMPREPLY < <(compgen -W 'check lint ask decide watch list count ranges explain sample shell draw page import export spread help --version --verify' -- "$word")
     elif [ "${words[1]}" = help ]; then
-        [ ${#words[@]} -gt 2 ] || mapfile -t COMPREPLY < <(compgen -W 'ask decide watch list count ranges explain check sample language page refusals spread workbench' -- "$word")
+        [ ${#words[@]} -gt 2 ] || mapfile -t COMPREPLY < <(compgen -W 'ask decide watch list count ranges explain check lint sample language page refusals spread workbench' -- "$word")
     elif [ "${words[1]}" = import ] || [ "${words[1]}" = export ]; then
         _fizhedul_kinds_or_files "${words[1]}" "$word" ${#words[@]}
     elif [ "${words[1]}" = spread ] && [ ${#words[@]} -eq 2 ]; then

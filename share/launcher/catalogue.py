@@ -1,16 +1,19 @@
-"""What each refusal means and what to do: the page `share/help/refusals.txt`, read."""
+"""What each refusal and each finding of `lint` means and what to do: the pages of help that list them, read."""
 
 import re
+from functools import cache
 from pathlib import Path
 from typing import NamedTuple
 
 from table import SHARE
 
-PLACEHOLDERS = {"L:C": r"(?P<line>\d+):(?P<column>\d+)", "CAP": r"\d+", "S": r"(?P<step>\d+)", "I": r"(?P<edit>\d+)"}
+PLACEHOLDERS = {"L:C": r"(?P<line>\d+):(?P<column>\d+)", "CAP": r"\d+", "S": r"(?P<step>\d+)", "I": r"(?P<edit>\d+)",
+                "RELATION": r"(?P<relation>\w+)", "ROW": r"(?P<row>\d+)"}
+REFUSALS, FINDINGS = (SHARE / "help" / page for page in ("refusals.txt", "lint.txt"))
 
 
 class Entry(NamedTuple):
-    """One refusal: its line as the page shows it, as a pattern of the program's lines, and two sentences."""
+    """One refusal or finding: its line as the page shows it, as a pattern of the program's lines, and two sentences."""
 
     heading: str
     pattern: re.Pattern[str]
@@ -18,7 +21,8 @@ class Entry(NamedTuple):
     to_do: str
 
 
-def read_catalogue(path: Path = SHARE / "help" / "refusals.txt") -> list[Entry]:
+@cache
+def read_catalogue(path: Path = REFUSALS) -> list[Entry]:
     """The entries of the page: a heading at the margin, 'Means:' and 'To do:' under it."""
     entries = []
     for part in path.read_text().split("\n\n"):
@@ -30,8 +34,18 @@ def read_catalogue(path: Path = SHARE / "help" / "refusals.txt") -> list[Entry]:
 
 
 def find_entry(line: str) -> tuple[Entry, re.Match[str]] | None:
-    """The entry of a line of the program, with the numbers in the line."""
-    for entry in read_catalogue():
+    """The entry of a refusal's line, with the numbers in the line."""
+    return entry_in(REFUSALS, line)
+
+
+def find_finding(line: str) -> tuple[Entry, re.Match[str]] | None:
+    """The entry of a line of `lint`, with the names and numbers in the line."""
+    return entry_in(FINDINGS, line)
+
+
+def entry_in(page: Path, line: str) -> tuple[Entry, re.Match[str]] | None:
+    """The entry of a page for a line of the program."""
+    for entry in read_catalogue(page):
         found = entry.pattern.fullmatch(line)
         if found:
             return entry, found

@@ -10,9 +10,10 @@ from pathlib import Path
 from typing import NamedTuple
 
 from civil import fault_of_civil, plain_text
-from grammar import TOKEN, Grammar, fault_of_syntax
+from grammar import TOKEN, Grammar, fault_of_syntax, without_texts_and_comments
 from hints import BYTE_ORDER_MARK, hint_of
 from places import read_lines
+from rewriting import with_variables
 
 RELATION = re.compile(r"\brelation\s+([A-Za-z_]\w*)\s*\(([^)]*)\)", re.ASCII)
 HEAD = re.compile(r"\{([^|]*)\|")
@@ -111,7 +112,29 @@ def syntax_of_query(refusal: Refusal) -> Said:
     grammar = Grammar.TENSE if refusal.file("tense") == "yes" else Grammar.QUERY
     if place is None:
         return Said("")
-    return other_kind(refusal, "query") or known(hint_of(text, place, grammar)) or possible(text, place, grammar)
+    whole = text + after_line(refusal)
+    return (other_kind(refusal, "query") or known(star(refusal, whole, place)) or known(hint_of(whole, place, grammar))
+            or possible(text, place, grammar))
+
+
+def after_line(refusal: Refusal) -> str:
+    """What stands in a query after the line of a fault."""
+    lines = read_lines(refusal.file("query")) or []
+    return "".join("\n" + line.decode(errors="replace") for line in lines[int(refusal.numbers["line"]):])
+
+
+def star(refusal: Refusal, text: str, place: int) -> str:
+    """A `*` in place of a term."""
+    if text[place:place + 1] != "*" or text[:place].rstrip()[-1:] not in ("(", ","):
+        return ""
+    written = with_variables(text, place, columns_of(refusal.file("db")))
+    return no_wildcard(written) if written else ""
+
+
+def no_wildcard(written: str) -> str:
+    """What to write in place of an atom with a wildcard."""
+    return ("There is no wildcard: a column that doesn't matter has a variable of its own, bound directly around the atom:"
+            f" {written}.")
 
 
 def syntax_of_edits(refusal: Refusal) -> Said:
@@ -269,14 +292,21 @@ def sorts_of(refusal: Refusal) -> Said:
 
 def wildcard_or_text(refusal: Refusal) -> Said:
     """What a name that nothing binds was meant to be."""
-    _, after = from_place(refusal, "query")
+    before, after = from_place(refusal, "query")
     name = re.match(r"\w*", after, re.ASCII).group()  # type: ignore[union-attr]
-    if name == "_":
-        return Said("There is no wildcard: give a column that doesn't matter a variable of its own, as in"
-                    " 'exists u: time bus(t, u)'.", is_all=True)
+    if not name:
+        return Said("")
+    text, place = text_to(refusal.file("query"), refusal.numbers)
+    written = with_variables(text + after_line(refusal), place, columns_of(refusal.file("db"))) if name == "_" and place else ""
+    if written:
+        return Said(no_wildcard(written), is_all=True)
+    bound = re.findall(rf"\b(exists|forall)\s+{name}\s*:\s*(\w+)", without_texts_and_comments(before), re.ASCII)
+    if bound:
+        word, sort = bound[-1]
+        return Said(f"'{word} {name}: {sort}' takes the one formula after it, and ends before this place; what it is to reach"
+                    f" over stands in parentheses: {word} {name}: {sort} (F and G).", is_all=True)
     return Said(f"No column of the head and no quantifier around it names '{name}'. A column of the answer is named before the"
-                f" '|', another variable by an 'exists {name}: time'; a text stands between quotes: \"{name}\".",
-                is_all=True) if name else Said("")
+                f" '|', another variable by an 'exists {name}: time'; a text stands between quotes: \"{name}\".", is_all=True)
 
 
 def times_of(refusal: Refusal) -> Said:

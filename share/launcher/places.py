@@ -7,6 +7,7 @@ from typing import NamedTuple
 
 TOKEN = re.compile(rb'[A-Za-z_][A-Za-z0-9_]*|[0-9]+|"(?:[^"\\\n]|\\.)*"?|<=|>=|[\xc0-\xff][\x80-\xbf]*|[^\s]')
 WORD = re.compile(rb"[^ ]+")
+WHOLE_ROW = re.compile(rb'(?:"(?:[^"\\\n]|\\.)*"|[^;"#\n])*;?')
 TAIL = "..."
 
 
@@ -18,10 +19,10 @@ class Place(NamedTuple):
     column: int
 
 
-def show_place(place: Place, width: int, name: str = "") -> str:
+def show_place(place: Place, width: int, name: str = "", token: re.Pattern[bytes] = TOKEN) -> str:
     """The file's line with a caret under the place, at most `width` wide; nothing where the file can't be read again.
 
-    `name` stands for the name of a file that has none of its own.
+    `name` stands for the name of a file that has none of its own, `token` for what the caret's tail is under.
     """
     lines = read_lines(place.file)
     if lines is None or place.line > len(lines):
@@ -30,7 +31,7 @@ def show_place(place: Place, width: int, name: str = "") -> str:
     line = lines[place.line - 1]
     if place.line == len(lines) and place.column > len(line):
         shown += last_words(lines, width)
-    return shown + caret_line(line, place.column - 1, width)
+    return shown + caret_line(line, place.column - 1, width, token)
 
 
 def read_lines(file: str) -> list[bytes] | None:

@@ -74,12 +74,16 @@ hand_on() {
     [ -n "$is_whole" ] || exec cat <&"$source"
 }
 
-# Starts the program with the signals of a process that nobody has put into the background.
+# Starts the program with the signals of a process that nobody has put into the background. It writes into a pipe of which
+# `source` is the other end. It is a job, and no process substitution: of these the shell now and then loses the status.
 start() {
+    local in pipe sink
     { exec {in}<&0; } 2>/dev/null || exec {in}</dev/null
-    exec {source}< <(exec env --default-signal=INT,QUIT "$program" "${words[@]}" <&"$in" {in}<&-)
+    exec {pipe}<> <(:)
+    exec {source}<"/dev/fd/$pipe" {sink}>"/dev/fd/$pipe" {pipe}>&-
+    env --default-signal=INT,QUIT "$program" "${words[@]}" <&"$in" >&"$sink" {in}<&- {source}<&- {sink}>&- &
     child=$!
-    exec {in}<&-
+    exec {in}<&- {sink}>&-
     local signal
     for signal in "${early[@]}"; do kill -s "$signal" "$child"; done
 }

@@ -17,7 +17,7 @@ collect_ignore_glob = [] if CAN_SERVE else ["test_page*.py"]
 # A program that ends, or waits, where a file says so.
 WRAPPER = """#!/bin/sh
 if [ -e "{folder}/die" ]; then rm "{folder}/die"; kill -9 $$; fi
-if [ -e "{folder}/wait" ]; then echo $$ >"{folder}/waiting"; exec sleep 300; fi
+if [ -e "{folder}/wait" ]; then echo $$ >"{folder}/told"; mv "{folder}/told" "{folder}/waiting"; exec sleep 3000; fi
 exec "{program}" "$@"
 """
 
@@ -42,6 +42,15 @@ def site(folder: Path) -> Iterator[Served]:
 @pytest.fixture(scope="module")
 def browser() -> Iterator[Tab]:
     with tab(1400, 900) as found:
+        yield found
+
+
+@pytest.fixture(scope="module")
+def blank() -> Iterator[Tab]:
+    """An empty page, which has done already what is slow at first."""
+    with tab(1400, 900) as found:
+        for _ in range(3):
+            found.slowness()
         yield found
 
 

@@ -3,6 +3,7 @@
 import base64
 import json
 import os
+import select
 import subprocess
 import tempfile
 import time
@@ -13,7 +14,19 @@ from typing import Any
 
 from fizhedul_workbench.draw.browser import browser_words
 
-SECONDS = 60
+# What answers at all answers sooner, also where the machine has much other work.
+SECONDS = 300
+# A fixed piece of work of a browser: tables that are drawn one after another.
+TABLES = """(async () => {
+  for (let turn = 0; turn < 6; turn += 1) {
+    const cells = Array.from({ length: 1000 }, (_, number) => `<tr><td>${number}</td><td>${turn}</td></tr>`);
+    document.body.innerHTML = `<table>${cells.join("")}</table>`;
+    await new Promise(requestAnimationFrame);
+  }
+  document.body.innerHTML = "";
+})()"""
+# The seconds of a processor that they take at most where nothing else is done.
+TABLES_TAKE = 0.45
 
 
 class Tab:
@@ -25,9 +38,13 @@ class Tab:
         self.rest = b""
         self.session: str | None = None
         self.errors: list[str] = []
+        # What each process has taken, also those that have ended since.
+        self.taken: dict[tuple[str, str], int] = {}
 
-    def read(self) -> dict[str, Any]:
+    def read(self, seconds: float) -> dict[str, Any]:
         while b"\0" not in self.rest:
+            if not select.select([self.out_of], [], [], max(0, seconds))[0]:
+                raise RuntimeError(f"the browser said nothing for {SECONDS} seconds")
             piece = os.read(self.out_of, 1 << 16)
             if not piece:
                 raise RuntimeError("the browser ended")
@@ -46,14 +63,12 @@ class Tab:
         if self.session is not None:
             message["sessionId"] = self.session
         os.write(self.into, json.dumps(message).encode() + b"\0")
-        begin = time.monotonic()
-        while time.monotonic() - begin < SECONDS:
-            found = self.read()
-            if found.get("id") == self.number:
-                assert "error" not in found, found
-                result: dict[str, Any] = found["result"]
-                return result
-        raise RuntimeError(f"no answer to {method}")
+        end = time.monotonic() + SECONDS
+        while (found := self.read(end - time.monotonic())).get("id") != self.number:
+            assert time.monotonic() < end, f"no answer to {method}"
+        assert "error" not in found, found
+        result: dict[str, Any] = found["result"]
+        return result
 
     def value(self, script: str) -> Any:
         """The value of an expression in the page, awaited where it is a promise."""
@@ -75,15 +90,22 @@ class Tab:
 
     def work(self) -> float:
         """The seconds of a processor that all processes of the browser have taken."""
-        ticks = 0
         for file in Path("/proc").glob("[0-9]*/stat"):
             try:
                 parts = file.read_text().rsplit(")", 1)[1].split()
             except OSError:
                 continue
             if int(parts[3]) == self.process:
-                ticks += int(parts[11]) + int(parts[12])
-        return ticks / os.sysconf("SC_CLK_TCK")
+                # A process is known by its number and the time at which it began.
+                self.taken[file.parent.name, parts[19]] = int(parts[11]) + int(parts[12])
+        return sum(self.taken.values()) / os.sysconf("SC_CLK_TCK")
+
+    def slowness(self) -> float:
+        """How many times what it should take of a processor a fixed piece of work takes in this empty page; at least 1.
+        Where much else is done, all work costs more."""
+        begin = self.work()
+        self.value(TABLES)
+        return max(1, (self.work() - begin) / TABLES_TAKE)
 
     def screenshot(self) -> bytes:
         return base64.b64decode(self.call("Page.captureScreenshot")["data"])
@@ -122,7 +144,16 @@ def tab(width: int = 1300, height: int = 900) -> Iterator[Tab]:
             page.call("Emulation.setDeviceMetricsOverride", **size)
             yield page
         finally:
-            process.terminate()
-            process.wait(20)
+            ended(process)
             os.close(to_browser[1])
             os.close(from_browser[0])
+
+
+def ended(process: subprocess.Popen[bytes]) -> None:
+    """Ends a browser, by force where it takes long."""
+    process.terminate()
+    try:
+        process.wait(SECONDS)
+    except subprocess.TimeoutExpired:
+        process.kill()
+        process.wait()

@@ -13,9 +13,9 @@ from pathlib import Path
 from typing import Any
 
 from devtools import Tab
-from tools import RUN, TOP, environment
+from tools import RUN, TOP, environment, program
 
-SECONDS = 180
+SECONDS = 600
 EXAMPLES = TOP / "examples"
 WEEK = (EXAMPLES / "week/week.lrp").read_text()
 CONNECTIONS = (EXAMPLES / "week/connections.lrq").read_text()
@@ -92,11 +92,29 @@ def served(folder: Path, *words: str, **more: str) -> Iterator[Served]:
     finally:
         process.send_signal(signal.SIGINT)
         try:
-            process.wait(20)
+            process.wait(SECONDS)
         except subprocess.TimeoutExpired:
             process.kill()
+            process.wait()
         process.stdout.close()
         process.stderr.close()
+
+
+@contextmanager
+def week_served(folder: Path) -> Iterator[Served]:
+    """A page for the example of a week."""
+    (folder / "week.lrp").write_text(WEEK)
+    (folder / "connections.lrq").write_text(CONNECTIONS)
+    with served(folder, "db=week.lrp", "query=connections.lrq") as found:
+        found.post("open", {})
+        yield found
+
+
+def of_program(tmp_path: Path, command: str, db: str, query: str, *words: str) -> str:
+    """What the program writes for these texts."""
+    (tmp_path / "db.lrp").write_text(db)
+    (tmp_path / "query.lrq").write_text(query)
+    return program(command, f"db={tmp_path / 'db.lrp'}", f"query={tmp_path / 'query.lrq'}", *words)
 
 
 def wait_for(page: Tab, script: str, wanted: Any = True) -> Any:
@@ -110,10 +128,49 @@ def wait_for(page: Tab, script: str, wanted: Any = True) -> Any:
     return found
 
 
+def drawn(page: Tab) -> None:
+    """Waits until what was changed has been drawn, and who looks for what is in view has been told."""
+    page.value("new Promise((done) => requestAnimationFrame(() => setTimeout(done))).then(() => 1)")
+
+
+def ends(process: int) -> None:
+    """Waits until there is no such process."""
+    begin = time.monotonic()
+    while is_running(process):
+        assert time.monotonic() - begin < SECONDS
+        time.sleep(0.05)
+
+
+def waiting(folder: Path) -> int:
+    """The number of the program that waits, as the file 'wait' says, once it does; the ones after it don't."""
+    begin = time.monotonic()
+    while not (folder / "waiting").exists():
+        assert time.monotonic() - begin < SECONDS
+        time.sleep(0.05)
+    (folder / "wait").unlink()
+    process = int((folder / "waiting").read_text())
+    (folder / "waiting").unlink()
+    return process
+
+
+def is_running(process: int) -> bool:
+    try:
+        os.kill(process, 0)
+    except ProcessLookupError:
+        return False
+    return True
+
+
+def at_rest(page: Tab) -> None:
+    """Waits until all that was changed has its answer."""
+    wait_for(page, "fizhedul.isAtRest()")
+
+
 def open_page(page: Tab, link: str) -> None:
     """Opens a page, and waits for its first answer."""
     page.open(link)
     wait_for(page, f"{SHOWN} > 0")
+    at_rest(page)
 
 
 def editor(kind: str) -> str:
@@ -130,6 +187,7 @@ def answered(page: Tab, kind: str, text: str) -> None:
     before = page.value(SHOWN)
     set_text(page, kind, text)
     wait_for(page, f"{SHOWN} > {before}")
+    at_rest(page)
 
 
 def typed(page: Tab, text: str) -> None:

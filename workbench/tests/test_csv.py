@@ -46,7 +46,7 @@ def test_an_exported_window_is_a_table_that_is_imported_again(tmp_path: Path) ->
 @pytest.mark.parametrize(
     "table, wanted",
     [
-        ("t\n5\n", ":1: 't' is no column NAME: SORT"),
+        ("t\n5\n", ":1: 't' is no column NAME: SORT, as 'dep: time'"),
         ("t: time,t: data\n", ":1: the column 't' stands twice"),
         ("not: time\n", ":1: 'not: time' is no column"),
         ("t: time\n5\nfive\n", ":3: the t 'five' is no number, no date and no point c+kn"),

@@ -151,6 +151,8 @@ def test_a_mark_under_the_pointer_tells_its_tuple(page: Tab) -> None:
 
 @needs_browser
 def test_keys_zoom_move_and_go_from_mark_to_mark(page: Tab) -> None:
+    # Marks that move under the pointer would be chosen by it.
+    page.move(0, 0)
     page.value("document.getElementById('frame').focus()")
     frame = "new Promise((done) => requestAnimationFrame(() => requestAnimationFrame(done)))"
     for key in ("+", "+", "ArrowRight"):
@@ -181,12 +183,13 @@ FRAMES = """(async () => {
 
 
 @needs_browser
-def test_ten_thousand_marks_are_fluent(page: Tab) -> None:
+def test_ten_thousand_marks_are_fluent(page: Tab, blank: Tab) -> None:
     # What a frame of a zoom in and out costs all of the browser, which draws without a graphics card here; the time
-    # on a clock would hang on what else the machine does.
+    # on a clock would depend on what else the machine does.
+    slowness = blank.slowness()
     begin = page.work()
     page.value(FRAMES)
-    assert 0 < (page.work() - begin) / 24 < 0.2
+    assert 0 < (page.work() - begin) / 24 / slowness < 0.2
     assert page.errors == []
 
 

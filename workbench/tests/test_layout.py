@@ -3,7 +3,7 @@
 import subprocess
 
 import pytest
-from tools import TOP, sources, tool
+from tools import TIME, TOP, sources, tool
 
 
 def test_no_module_has_more_than_300_lines() -> None:
@@ -25,10 +25,10 @@ def test_a_missing_package_is_one_line(
     tmp_path_factory: pytest.TempPathFactory, module: str, package: str, words: list[str]
 ) -> None:
     folder = tmp_path_factory.mktemp("empty")
-    source = TOP / "workbench" / "src" / "fizhedul_workbench"
-    hidden = f"import sys; sys.modules[{module!r}] = None; sys.path.insert(0, {str(source.parent)!r})\n"
+    paths = [str(TOP / "workbench" / "src"), str(TOP / "share" / "launcher")]
+    hidden = f"import sys; sys.modules[{module!r}] = None; sys.path[:0] = {paths!r}\n"
     hidden += f"from fizhedul_workbench.__main__ import main; sys.exit(main({words!r}))"
-    done = subprocess.run(["/usr/bin/python3", "-c", hidden], capture_output=True, text=True, cwd=folder, timeout=60)
+    done = subprocess.run(["/usr/bin/python3", "-c", hidden], capture_output=True, text=True, cwd=folder, timeout=TIME)
     assert done.returncode == 1 and done.stdout == ""
     assert done.stderr == f"refused: the Debian package {package} is missing (apt-get install {package})\n"
 

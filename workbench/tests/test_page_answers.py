@@ -1,5 +1,6 @@
-"""What the page tells of a question: answers, pictures, reasons, moves and plans, against what the program writes."""
+"""What the page tells of a question: answers, pictures, plans and notes, against what the program writes."""
 
+import asyncio
 import json
 import re
 import shlex
@@ -9,8 +10,9 @@ from pathlib import Path
 from typing import Any
 
 import pytest
-from pages import CONNECTIONS, EXAMPLES, WEEK, Served, served
-from tools import PROGRAM, TOP, program
+from fizhedul_workbench.page.desk import Desk, Superseded
+from pages import CONNECTIONS, EXAMPLES, WEEK, Served, of_program, week_served
+from tools import PROGRAM, TIME, TOP
 
 LINE = (EXAMPLES / "guide/line.lrp").read_text()
 RIDES = (EXAMPLES / "dates/rides.lrp").read_text()
@@ -19,19 +21,8 @@ BOATS = (EXAMPLES / "dates/boats.lrq").read_text()
 
 @pytest.fixture(scope="module")
 def page(tmp_path_factory: pytest.TempPathFactory) -> Iterator[Served]:
-    folder = tmp_path_factory.mktemp("asked")
-    (folder / "week.lrp").write_text(WEEK)
-    (folder / "connections.lrq").write_text(CONNECTIONS)
-    with served(folder, "db=week.lrp", "query=connections.lrq") as found:
-        found.post("open", {})
+    with week_served(tmp_path_factory.mktemp("asked")) as found:
         yield found
-
-
-def of_program(tmp_path: Path, command: str, db: str, query: str, *words: str) -> str:
-    """What the program writes for these texts."""
-    (tmp_path / "db.lrp").write_text(db)
-    (tmp_path / "query.lrq").write_text(query)
-    return program(command, f"db={tmp_path / 'db.lrp'}", f"query={tmp_path / 'query.lrq'}", *words)
 
 
 def lines(answers: list[list[str]]) -> list[str]:
@@ -95,7 +86,7 @@ def test_the_words_give_the_same(page: Served, tmp_path: Path) -> None:
     words = shlex.split(found["words"])[1:]
     launcher = str(TOP / "fizhedul")
     env = {"FIZHEDUL_PROGRAM": PROGRAM, "PATH": "/usr/bin:/bin"}
-    done = subprocess.run([launcher, *words], cwd=tmp_path, capture_output=True, text=True, timeout=60, env=env)
+    done = subprocess.run([launcher, *words], cwd=tmp_path, capture_output=True, text=True, timeout=TIME, env=env)
     assert done.stdout.splitlines()[:-1] == lines(found["answers"]), (words, done.stderr)
 
 
@@ -143,93 +134,42 @@ def test_measured_cells_are_the_least_caps(page: Served, tmp_path: Path) -> None
         (tmp_path / "query.lrq").write_text(CONNECTIONS)
         words = [f"db={tmp_path / 'db.lrp'}", f"query={tmp_path / 'query.lrq'}", "plan=guarded", f"cap={count - 1}"]
         if count > 1:
-            done = subprocess.run([PROGRAM, "decide", *words], capture_output=True, text=True, timeout=60)
+            done = subprocess.run([PROGRAM, "decide", *words], capture_output=True, text=True, timeout=TIME)
             assert done.stdout == f"refused: more than {count - 1} cells at step {step}\n"
     most = max(found["cells"].values())
     assert of_program(tmp_path, "decide", WEEK, CONNECTIONS, "plan=guarded", f"cap={most}").startswith("Nonempty")
 
 
-def said_of(way: dict[str, Any]) -> dict[str, list[str]]:
-    """The rows behind each conjunct of a way."""
-    return {each["here"]: [row["row"] for row in each["rows"]] for each in way["conjuncts"]}
+SLIPS = """# 1\n  relation trip(dep: time, arr: time, who: driver) {
+  (5+60n, 30+60n, "Ad\N{LATIN SMALL LETTER E WITH ACUTE}") where arr = dep + 25;
+  (5+60n, 30+60n, "\N{PILE OF POO}") where arr = dep + 35;
+}"""
 
 
-def test_why_tells_the_rows(page: Served) -> None:
-    found = page.ask("why", WEEK, CONNECTIONS, answer=["425", "495"], near=1440)
-    assert found["holds"] and len(found["ways"]) == 1
-    assert found["ways"][0]["values"] == {"d": 425, "a": 495, "b": 450, "c": 460, "h": "Main"}
-    assert said_of(found["ways"][0]) == {
-        'trip(425, 450, "Airport", "Main")': ['(5+60n, 30+60n, "Airport", "Main") where arr = dep + 25;'],
-        'trip(460, 495, "Main", "Zoo")': ['(460+1440n, 495+1440n, "Main", "Zoo") where arr = dep + 35;'],
-        "460 >= 455": [],
-        "460 <= 480": [],
-    }
-    row = found["ways"][0]["conjuncts"][1]["rows"][0]
-    assert WEEK[row["begin"] : row["end"]] == row["row"] and WEEK.splitlines()[row["line"]].strip() == row["row"]
+def test_notes_tell_what_is_seldom_meant(page: Served) -> None:
+    found = page.ask("notes", SLIPS, '{ d: time |\n  exists a: time trip(d, a, "Ade") }')
+    assert found["others"] == 0 and [(note["which"], note["place"]) for note in found["notes"]] == [
+        ("db", [3, 2, 2 + len('(5+60n, 30+60n, "xx") where arr = dep + 35;')]),
+        ("query", [1, 28, 33]),
+    ]
+    assert "did you mean 'arr = dep + 25'?" in found["notes"][0]["said"]
+    assert 'Did you mean "Ad\N{LATIN SMALL LETTER E WITH ACUTE}"?' in found["notes"][1]["said"]
+    # Nothing is said beside a refusal, and of texts that are as they should be.
+    assert page.ask("notes", SLIPS, "{ d: time | tram(d) }")["notes"] == []
+    assert page.ask("notes", WEEK, CONNECTIONS)["notes"] == []
 
 
-def test_why_finds_all_rows_and_the_part_that_holds(page: Served) -> None:
-    db = "relation r(t: time) { (0+2n); (1); (0+3n); } relation s(t: time) { (5); }"
-    query = "{ t: time | (s(t) or exists u: time (r(t) and r(u) and u = t - 6)) }"
-    found = page.ask("why", db, query, answer=["6"], near=10)
-    assert said_of(found["ways"][0]) == {"r(6)": ["(0+2n);", "(0+3n);"], "r(0)": ["(0+2n);", "(0+3n);"], "0 = 0": []}
-    found = page.ask("why", db, query, answer=["5"], near=10)
-    assert said_of(found["ways"][0]) == {"s(5)": ["(5);"]}
-
-
-def test_why_with_dates(page: Served) -> None:
-    query = BOATS.split("\n", 1)[1]
-    found = page.ask("why", RIDES, query, civil=True, answer=["2026-12-24 23:20"], near=1440)
-    assert found["holds"] and found["ways"][0]["values"]["d"] == "2026-12-24 23:20"
-    rows = [row["row"] for each in found["ways"][0]["conjuncts"] for row in each["rows"]]
-    assert rows == ['(weekly thu 23:20, weekly thu 23:40, "Main", "Port") where arr = dep + 20;']
-    found = page.ask("why", RIDES, query, civil=True, answer=["2026-12-25 23:20"], near=1440)
-    assert not found["holds"] and [each["alone"] for each in found["parts"][0]["conjuncts"]] == [True, False]
-
-
-def test_why_not_tells_the_part_that_fails(page: Served) -> None:
-    found = page.ask("why", WEEK, CONNECTIONS, answer=["425", "496"], near=1440)
-    (part,) = found["parts"]
-    assert not found["holds"] and part["together"] == 1
-    assert [each["alone"] for each in part["conjuncts"]] == [True, False, True, True]
-    found = page.ask("why", WEEK, CONNECTIONS, answer=["305", "435"], near=1440)
-    (part,) = found["parts"]
-    assert part["together"] == 3 and all(each["alone"] for each in part["conjuncts"])
-    query = "{ d: data | exists t: time exists a: time exists s: data trip(t, a, s, d) }"
-    assert page.ask("why", WEEK, query, answer=["Moon"], near=0)["unknown"] == "Moon"
-    assert page.ask("why", WEEK, query, answer=["Zoo"], near=0)["holds"]
-
-
-def test_every_answer_of_the_examples_has_its_reasons(page: Served) -> None:
-    """The conjuncts of each way hold by themselves, as the program says of the same values."""
-    for db, query in (
-        ("guide/line.lrp", "guide/trips.lrq"),
-        ("maintenance/maintenance.lrp", "maintenance/unattended.lrq"),
-    ):
-        texts = (EXAMPLES / db).read_text(), (EXAMPLES / query).read_text()
-        found = page.ask("look", *texts, to="2000", limit=3)
-        assert found["answers"]
-        for answer in found["answers"]:
-            told = page.ask("why", *texts, to="2000", answer=answer, near=2000)
-            assert told["holds"], (query, answer)
-            for each in told["ways"][0]["conjuncts"]:
-                holds = page.ask("look", texts[0], f"{{ | {each['here']} }}")
-                assert holds["answers"] == [[]], each
-                if re.fullmatch(r"\w+\(.*\)", each["here"]):
-                    assert each["rows"], each
-
-
-def test_edits_move_the_least_answer(page: Served, tmp_path: Path) -> None:
-    query = "{ d: time, a: time | (bus(d, a) and d >= 100) }"
-    new = LINE.replace("(5+60n, 30+60n)", "(20+60n, 45+60n)")
-    found = page.ask("moves", new, query, base=LINE)
-    (tmp_path / "moves.lre").write_text("\n".join(found["edits"]))
-    wanted = of_program(tmp_path, "watch", LINE, query, f"edits={tmp_path / 'moves.lre'}").splitlines()
-    assert found["by"] == "watch" and found["least"] == wanted == ["125, 150", "none", "140, 165"]
-    query = "{ d: time | (not exists a: time bus(d, a) and d >= 5) }"
-    found = page.ask("moves", new, query, base=LINE)
-    assert found["by"] == "decide" and found["least"] == ["6", "5"] and len(found["edits"]) == 2
-    assert page.ask("moves", "relation bus(", query, base=LINE)["fault"]["which"] == "db"
+def test_notes_follow_the_settings_and_are_few(page: Served) -> None:
+    tense = '{ d: time | once d (-5, 0) exists a: time trip(d, a, "Zoe") }'
+    assert page.ask("notes", SLIPS, tense)["notes"] == []
+    assert [note["place"] for note in page.ask("notes", SLIPS, tense, tense=True)["notes"]][1:] == [[0, 53, 58]]
+    civil = "relation r(t: time, u: time) { (daily 08:00, daily 09:00) where u = t + 50; }"
+    assert page.ask("notes", civil, "{ t: time | r(t, t) }")["notes"] == []
+    (note,) = page.ask("notes", civil, "{ t: time | r(t, t) }", civil=True)["notes"]
+    assert "'u = t + 60'" in note["said"]
+    many = "relation r(t: time, u: time) { " + "(0+2n, 1+2n) where u = t; " * 9 + "}"
+    found = page.ask("notes", many, "{ t: time | r(t, t) }")
+    assert len(found["notes"]) == 5 and found["others"] == 4
 
 
 def test_a_shared_file_needs_no_server(page: Served) -> None:
@@ -252,3 +192,34 @@ def test_two_tabs_have_texts_of_their_own(page: Served) -> None:
     for tab, count in (("one", 1), ("two", 0)):
         body = {"tab": tab, "lane": "look", "texts": texts, "from": "0", "to": "9"}
         assert len(page.post("look", body)[1]["answers"]) == count
+
+
+def test_a_request_that_comes_late_is_left_out(page: Served) -> None:
+    """One that was sent before another neither ends the other's work nor brings older texts back."""
+
+    def sent(number: int, lane: str, version: int, **query: str) -> tuple[int, Any]:
+        texts = {"db": {"version": 1, "text": LINE}, "query": {"version": version, **query}}
+        body = {"tab": "late", "lane": lane, "number": number, "texts": texts, "from": "0", "to": "9"}
+        return page.post("look", body)
+
+    assert sent(2, "one", 2, text="{ | 0 = 0 }")[1]["answers"] == [[]]
+    assert sent(1, "one", 1, text="{ | 0 = 1 }") == (409, {"superseded": True})
+    assert sent(1, "two", 1, text="{ | 0 = 1 }") == (409, {"missing": ["query"]})
+    assert sent(3, "one", 2)[1]["answers"] == [[]]
+    assert page.post("stop", {"tab": "late", "lane": "one", "number": 2}) == (200, {})
+    assert page.post("look", {"number": -1, "tab": "late", "lane": "one", "texts": {}})[0] == 400
+
+
+def test_work_is_ended_by_what_was_sent_after_it() -> None:
+    async def act() -> None:
+        desk = Desk()
+        assert desk.takes("tab", "look", 2)
+        work = asyncio.ensure_future(desk.alone("tab", "look", asyncio.sleep(3000)))
+        await asyncio.sleep(0)
+        assert not desk.takes("tab", "look", 1) and desk.takes("tab", "notes", 1) and desk.takes("other", "look", 1)
+        assert desk.takes("tab", "look", 3)
+        desk.stop("tab", "look")
+        with pytest.raises(Superseded):
+            await work
+
+    asyncio.run(act())

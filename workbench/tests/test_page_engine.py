@@ -1,10 +1,8 @@
 """The two ways to the engine give the same, may be given up, and are started again."""
 
 import asyncio
-import os
 import signal
 import subprocess
-import time
 from collections.abc import Callable, Coroutine
 from pathlib import Path
 from typing import Any
@@ -13,6 +11,7 @@ import pytest
 from fizhedul_workbench.page.asking import Failed, Matter, count_in, least_of, page_in, shell_words
 from fizhedul_workbench.page.engine import Asked, Engine, ProgramEngine
 from fizhedul_workbench.page.library import LibraryEngine
+from pages import SECONDS, is_running
 from tools import PROGRAM, TOP, environment
 
 BUS = b"relation bus(t: time) { (5+60n); }"
@@ -30,7 +29,7 @@ def run(words, files):
     if "cap=13" in words:
         os.kill(os.getpid(), 9)
     if "cap=14" in words:
-        time.sleep(300)
+        time.sleep(3000)
     with tempfile.TemporaryDirectory() as folder:
         for name, text in files.items():
             open(os.path.join(folder, name), "wb").write(text)
@@ -130,14 +129,6 @@ def test_questions_at_once_have_their_own_answers(library: str) -> None:
         with_engine(make, act)
 
 
-def is_running(process: int) -> bool:
-    try:
-        os.kill(process, 0)
-    except ProcessLookupError:
-        return False
-    return True
-
-
 def test_the_words_are_those_of_a_shell() -> None:
     matter = Matter(BUS, b'{ t: time | # "all"\n  bus(t) }', is_civil=True, cap=5)
     asked = matter.asking("list", **matter.ends(0, 9), form="json")
@@ -152,8 +143,7 @@ def test_an_interrupt_ends_the_page_and_its_program(tmp_path: Path) -> None:
     words = [str(TOP / "workbench/run"), "page", "db=bus.lrp"]
     process = subprocess.Popen(words, stdout=subprocess.PIPE, stderr=subprocess.PIPE, cwd=tmp_path, env=environment())
     assert process.stdout is not None and process.stdout.readline().startswith(b"http://127.0.0.1:")
-    begin = time.monotonic()
     process.send_signal(signal.SIGINT)
-    _, told = process.communicate(timeout=30)
-    assert process.returncode == 0 and time.monotonic() - begin < 20
+    _, told = process.communicate(timeout=SECONDS)
+    assert process.returncode == 0
     assert told == b"fizhedul: the page is at this link, on this machine alone; Ctrl-C ends it\n"

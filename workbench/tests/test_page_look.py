@@ -8,7 +8,8 @@ from typing import Any
 
 import pytest
 from devtools import Tab, tab
-from pages import EXAMPLES, SHOWN, Served, answered, click, editor, forget, open_page, rows, served, set_text, wait_for
+from pages import EXAMPLES, SHOWN, Served, answered, at_rest, click, drawn, editor, forget, open_page, rows, served
+from pages import set_text, wait_for
 from test_draw import contrast, needs_browser
 
 pytestmark = needs_browser
@@ -138,6 +139,9 @@ def test_narrow_windows_show_all(browser: Tab, site: Served, width: int) -> None
     size = {"width": width, "height": 800, "deviceScaleFactor": 1, "mobile": False}
     browser.call("Emulation.setDeviceMetricsOverride", **size)
     open_page(browser, site.link)
+    wait_for(browser, "innerWidth", width)
+    drawn(browser)
+    at_rest(browser)
     assert browser.value("document.documentElement.scrollWidth") <= width
     seen = browser.value("[...document.querySelectorAll('#frame .lane')].map((e) => e.getBoundingClientRect().height)")
     assert len(seen) == 3 and min(seen) > 9
@@ -147,14 +151,22 @@ def test_narrow_windows_show_all(browser: Tab, site: Served, width: int) -> None
     browser.call("Emulation.setDeviceMetricsOverride", **{**size, "width": 1400, "height": 900})
 
 
-@pytest.mark.skipif(
-    os.getloadavg()[0] > (os.cpu_count() or 1), reason="the machine has other work, so clocks tell little"
-)
+def has_other_work() -> bool:
+    """Whether more wants to run, now or in the minute before, than there are processors."""
+    minute, _, _, now, *_ = Path("/proc/loadavg").read_text().split()
+    return max(float(minute), float(now.split("/")[0])) > (os.cpu_count() or 1)
+
+
 def test_the_first_paint_is_within_300_milliseconds(browser: Tab, site: Served) -> None:
     paints = []
     for _ in range(5):
+        is_disturbed = has_other_work()
         open_page(browser, site.link)
-        paints.append(browser.value("performance.getEntriesByName('first-contentful-paint')[0].startTime"))
+        wait_for(browser, "performance.getEntriesByName('first-contentful-paint').length", 1)
+        if not is_disturbed and not has_other_work():
+            paints.append(browser.value("performance.getEntriesByName('first-contentful-paint')[0].startTime"))
+    if not paints:
+        pytest.skip("the machine has other work, so clocks tell little")
     assert 0 < min(paints) <= 300, paints
 
 
@@ -183,17 +195,21 @@ TYPED = f"""(async () => {{
         ("roster/roster.lrp", "roster/uncovered.lrq"),
     ],
 )
-def test_a_key_takes_100_milliseconds_of_a_processor(browser: Tab, site: Served, db: str, query: str) -> None:
-    """What a key and its answer cost of browser, server and program together; a clock would tell of other work, too."""
+def test_a_key_takes_100_milliseconds_of_a_processor(
+    browser: Tab, site: Served, blank: Tab, db: str, query: str
+) -> None:
+    """What a key and its answer cost of browser, server and program together; a clock would tell of other work, too,
+    and where much else is done all work costs more."""
     open_page(browser, site.link)
     answered(browser, "query", "{ | 0 = 0 }")
     answered(browser, "db", (EXAMPLES / db).read_text())
     answered(browser, "query", (EXAMPLES / query).read_text() + "\n")
     taken = []
     for _ in range(ROUNDS):
+        slowness = blank.slowness()
         begin = browser.work() + site.work()
         browser.value(TYPED)
-        taken.append((browser.work() + site.work() - begin) / KEYS)
+        taken.append((browser.work() + site.work() - begin) / KEYS / slowness)
     forget(browser)
     assert 0 < min(taken) <= 0.1, taken
 

@@ -4,9 +4,10 @@ import subprocess
 from pathlib import Path
 
 import pytest
+from database import relations_of
 from fizhedul_workbench.page.formulas import in_the_head, joined, taken_apart, written_query
-from fizhedul_workbench.page.rows import edits_between, numbered, relations_of
-from tools import PROGRAM, TOP, program
+from fizhedul_workbench.page.rows import edits_between, numbered
+from tools import PROGRAM, TIME, TOP, program
 
 EXAMPLES = TOP / "examples"
 CONNECTIONS = (EXAMPLES / "week/connections.lrq").read_text()
@@ -95,7 +96,7 @@ def test_numbered_rows_are_a_database(tmp_path: Path) -> None:
 def test_rows_of_all_examples_are_found() -> None:
     count = 0
     for file in sorted(EXAMPLES.glob("*/*.lrp")):
-        done = subprocess.run([PROGRAM, "check", f"db={file}"], capture_output=True, text=True, timeout=60)
+        done = subprocess.run([PROGRAM, "check", f"db={file}"], capture_output=True, text=True, timeout=TIME)
         if done.returncode == 0:
             found = relations_of(file.read_text())
             assert sum(len(each.rows) for each in found) == done.stdout.count("\n  ("), file

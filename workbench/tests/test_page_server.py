@@ -10,7 +10,7 @@ from pathlib import Path
 
 import pytest
 from pages import Served, served
-from tools import RUN, environment, tool
+from tools import RUN, TIME, environment, tool
 
 DB = "relation bus(t: time) {\n  (5+60n);\n}\n"
 QUERY = "{ t: time | bus(t) }\n"
@@ -118,7 +118,7 @@ def test_a_body_of_100_megabytes_is_refused(page: Served, folder: Path) -> None:
     head = f"POST /{page.token}/api/save HTTP/1.1\r\nHost: {page.host}\r\nOrigin: http://{page.host}\r\n"
     head += "Content-Type: application/json\r\n"
     for length in ("Content-Length: 100000000\r\n", "Transfer-Encoding: chunked\r\n"):
-        with socket.create_connection(("127.0.0.1", port), timeout=30) as connection:
+        with socket.create_connection(("127.0.0.1", port), timeout=TIME) as connection:
             connection.sendall((head + length + "\r\n").encode())
             answer = connection.recv(1 << 16)
         assert answer.split()[1] in (b"413", b"411"), answer
@@ -215,7 +215,7 @@ def test_names_that_are_no_utf8_and_missing_files_are_refused(tmp_path: Path) ->
         file.write(DB)
     for words in ([b"db=" + odd], [b"db=bus.lrp", b"query=" + odd]):
         done = subprocess.run(
-            [str(RUN), "page", *words], capture_output=True, cwd=tmp_path, env=environment(), timeout=60
+            [str(RUN), "page", *words], capture_output=True, cwd=tmp_path, env=environment(), timeout=TIME
         )
         assert (
             done.returncode == 6 and done.stdout == b"" and b"odd\xef\xbf\xbd.lrp: the name isn't UTF-8" in done.stderr

@@ -1,13 +1,12 @@
 """The page while things go wrong or side by side: an engine that ends or waits, two tabs, a server that is gone."""
 
-import os
+import re
 import signal
-import time
 from pathlib import Path
 
 from devtools import Tab
-from pages import CONNECTIONS, EXAMPLES, WEEK, Served, answered, click, editor, forget, open_page, rows, served
-from pages import set_text, text_of, wait_for
+from pages import CONNECTIONS, EXAMPLES, SECONDS, WEEK, Served, answered, at_rest, click, editor, ends, forget
+from pages import open_page, rows, served, set_text, text_of, wait_for, waiting
 from test_draw import needs_browser
 
 pytestmark = needs_browser
@@ -23,42 +22,22 @@ def test_an_engine_that_ends_is_told_and_started_again(page: Tab, folder: Path) 
 def test_long_work_is_stopped(page: Tab, folder: Path) -> None:
     (folder / "wait").touch()
     set_text(page, "query", CONNECTIONS + "\n\n")
+    process = waiting(folder)
     wait_for(page, "document.getElementById('stop').hidden", False)
-    while not (folder / "waiting").exists() or not (folder / "waiting").read_text():
-        time.sleep(0.05)
-    (folder / "wait").unlink()
-    process = int((folder / "waiting").read_text())
     click(page, "#stop")
     wait_for(page, "document.getElementById('doing').textContent", "Stopped")
-    begin = time.monotonic()
-    while is_running(process):
-        assert time.monotonic() - begin < 20
-        time.sleep(0.05)
+    ends(process)
     answered(page, "query", CONNECTIONS)
     assert len(rows(page)) == 18
 
 
 def test_a_later_question_ends_an_earlier_one(page: Tab, folder: Path) -> None:
-    (folder / "waiting").unlink(missing_ok=True)
     (folder / "wait").touch()
     set_text(page, "query", CONNECTIONS + "\n\n\n")
-    while not (folder / "waiting").exists() or not (folder / "waiting").read_text():
-        time.sleep(0.05)
-    (folder / "wait").unlink()
+    process = waiting(folder)
     answered(page, "query", CONNECTIONS)
-    begin = time.monotonic()
-    while is_running(int((folder / "waiting").read_text())):
-        assert time.monotonic() - begin < 20
-        time.sleep(0.05)
+    ends(process)
     page.errors[:] = [each for each in page.errors if "409" not in each]
-
-
-def is_running(process: int) -> bool:
-    try:
-        os.kill(process, 0)
-    except ProcessLookupError:
-        return False
-    return True
 
 
 def test_two_tabs_go_their_own_ways(page: Tab, site: Served) -> None:
@@ -90,14 +69,18 @@ def test_civil_times_are_switched_on(page: Tab) -> None:
     click(page, "#tab-settings")
     click(page, "#civil")
     wait_for(page, "document.getElementById('db-fault').hidden")
+    at_rest(page)
     assert page.value("document.getElementById('from').value") == "1970-01-01 00:00"
     page.value(
         "document.getElementById('from').value = '2026-12-24'; document.getElementById('to').value = '2026-12-24 23:59'"
     )
     click(page, "#window button")
     wait_for(page, "(document.querySelector('#answers tbody td') || {}).textContent?.startsWith('2026-12-24')")
+    at_rest(page)
     click(page, "#answers tbody tr td")
     wait_for(page, "document.querySelectorAll('#why .row').length", 2)
+    told = page.value("[...document.querySelectorAll('#why .told code')].map((each) => each.textContent)")
+    assert told[0].startswith("trip(2026-12-24 ") and not re.search(r"\d{8}", "".join(told))
 
 
 def test_a_server_that_is_gone_is_told(browser: Tab, folder: Path) -> None:
@@ -109,7 +92,7 @@ def test_a_server_that_is_gone_is_told(browser: Tab, folder: Path) -> None:
         )
         assert text_of(browser, "#query-file") == "not in a file"
         site.process.send_signal(signal.SIGINT)
-        site.process.wait(20)
+        site.process.wait(SECONDS)
         set_text(browser, "query", CONNECTIONS)
         wait_for(browser, "document.getElementById('banner').hidden", False)
         assert "The server doesn't answer" in text_of(browser, "#banner")

@@ -20,7 +20,7 @@ from fizhedul_workbench.shell.session import Session
 from fizhedul_workbench.shell.table import table
 from prompt_toolkit.completion import CompleteEvent
 from prompt_toolkit.document import Document
-from tools import RUN, TOP, environment, program, shell
+from tools import RUN, TIME, TOP, environment, program, shell
 
 BUS = 'relation bus(dep: time, line: line) {\n  (5+60n, "7");\n  (20+30n, "Ä");\n}\n'
 
@@ -157,11 +157,11 @@ def test_a_broken_database_is_shown_in_place(tmp_path: Path) -> None:
 
 
 def test_other_lines_are_told(bus: Path) -> None:
-    out, status = piped(bus, ".next\n.ask\n.window 5\n.cap 0\n.save\n.open\n.sing\n\n.quit\n.help\n")
+    out, status = piped(bus, ".next\n.ask\n.window 5\n.cap 0\n.save\n.open\n.whistle\n\n.quit\n.help\n")
     assert status == 0 and out == (
         "there is no next page\nthere is no query yet\na window is two whole numbers, as in .window 0 1439\n"
         "a cap is a number from 1 to 1000000000\nto which file? as in .save query.lrq, or .save answer.lrp\n"
-        "which file? as in .open bus.lrp\n'.sing' is no command. .help lists them, and a query begins with '{'\n"
+        "which file? as in .open bus.lrp\n'.whistle' is no command. .help lists them, and a query begins with '{'\n"
     )
     assert all(name in piped(bus, ".help\n")[0] for name in (".next", ".window A B", ".draw FILE", ".quit"))
 
@@ -210,7 +210,7 @@ class Terminal:
     def type(self, keys: bytes) -> None:
         os.write(self.end, keys)
 
-    def read_until(self, wanted: str, seconds: float = 60) -> str:
+    def read_until(self, wanted: str, seconds: float = TIME) -> str:
         """What is shown up to a text; what comes behind it is kept."""
         begin = time.monotonic()
         while wanted.encode() not in self.shown:
@@ -285,16 +285,14 @@ def test_a_terminal_has_colours_several_lines_and_a_history(bus: Path) -> None:
 
 def test_an_interrupt_ends_the_query_and_not_the_shell(bus: Path) -> None:
     slow = bus / "slow"
-    slow.write_text('#!/bin/sh\n[ "$1" = list ] && { echo started >&2; sleep 60; }\nexit 0\n')
+    slow.write_text('#!/bin/sh\n[ "$1" = list ] && { echo started >&2; sleep 3000; }\nexit 0\n')
     slow.chmod(0o755)
     with terminal(bus, FIZHEDUL_PROGRAM=str(slow)) as end:
         end.read_until("fizhedul>")
         end.type(b"{ t: time | bus(t) }\r")
         end.read_until("started")
-        begin = time.monotonic()
         end.type(b"\x03")
         end.read_until("interrupted")
-        assert time.monotonic() - begin < 30
         end.read_until("fizhedul>")
         end.type(b".help\r")
         assert re.search(r"\.window A B", end.read_until(".quit"))

@@ -4,6 +4,8 @@ import re
 from collections.abc import Iterator, Sequence
 from dataclasses import dataclass
 
+from .cells import Cells
+
 LINE = re.compile(r"(\d+) ([a-z]+) ?(.*) \[period (\d+), reach (\d+)\]")
 # How many earlier steps each kind of step names; the others name none.
 NAMED = {"join": 2, "union": 2, "minus": 2, "select": 1, "complement": 1, "drop": 1, "head": 1}
@@ -66,12 +68,17 @@ def branch_of(node: Node) -> str:
     return "".join("   " if is_last else "│  " for is_last in node.ends[:-1]) + ("└─ " if node.ends[-1] else "├─ ")
 
 
-def tree_of(text: str) -> list[str]:
-    """The tree of a plan, a line for each node, with periods and reaches in a column."""
+def facts_of(node: Node, cells: Cells | None) -> str:
+    """What is known of a node: its period and its reach, and the cells that it fills where they were measured."""
+    if node.is_again:
+        return "as above"
+    told = cells.told(node.step.number) if cells else ""
+    return f"period {node.step.period}, reach {node.step.reach}" + (f", {told}" if told else "")
+
+
+def tree_of(text: str, cells: Cells | None = None) -> list[str]:
+    """The tree of a plan, a line for each node, with what is known of it in a column."""
     nodes = list(nodes_of(steps_of(text)))
     names = [f"{branch_of(node)}{node.step.number} {node.step.does}" for node in nodes]
     width = max(map(len, names))
-    return [
-        f"{name:{width}}  " + ("as above" if node.is_again else f"period {node.step.period}, reach {node.step.reach}")
-        for name, node in zip(names, nodes)
-    ]
+    return [f"{name:{width}}  {facts_of(node, cells)}" for name, node in zip(names, nodes)]

@@ -149,9 +149,14 @@ def answered(words: Sequence[str]) -> str:
     """The program's output, where it was written whole; its refusal is passed on with its status."""
     output = run_program(words)
     if output.status:
-        line = output.text.strip() or f"the program ended with status {output.status}"
-        raise Refused(line.removeprefix("refused: "), abs(output.status), explanation_of(output, line))
+        raise refused_by(output)
     return output.text
+
+
+def refused_by(output: Output) -> Refused:
+    """The refusal that the program wrote, to be passed on."""
+    line = output.text.strip() or f"the program ended with status {output.status}"
+    return Refused(line.removeprefix("refused: "), abs(output.status), explanation_of(output, line))
 
 
 def page_of(text: str) -> Page:

@@ -10,7 +10,7 @@ from ..words import MISSING, Refused
 from .png import cut
 
 BROWSERS = ["chromium", "chromium-browser", "google-chrome", "google-chrome-stable"]
-SECONDS = 60
+SECONDS = 180
 # What a window has beside its page, and more: an image is of the window, and below the page it is blank.
 FRAME = 300
 

@@ -11,8 +11,8 @@ FORMS = {".html": "html", ".htm": "html", ".svg": "svg", ".png": "png"}
 @dataclass(frozen=True)
 class Look:
     """The form, the most marks, how many steps of time an hour has, whether the grid shows dates, whether the marks are
-    ranges of answers, whether the plan is drawn in place of answers, the width, and the least room for the names of
-    lanes, so that pictures above each other have their times above each other."""
+    ranges of answers, whether the plan is drawn in place of answers, whether with the cells of its steps, the width,
+    and the least room for the names of lanes, so that pictures above each other have their times above each other."""
 
     form: str = "html"
     most: int = 10_000
@@ -20,6 +20,7 @@ class Look:
     with_dates: bool = False
     has_ranges: bool = False
     is_plan: bool = False
+    has_cells: bool = False
     width: int = 1200
     least_gutter: int = 0
 

@@ -2,9 +2,10 @@
 
 from pathlib import Path
 
+from ..cells import Cells
 from ..lexer import marked_up
 from ..lrp import width
-from ..plan import Node, nodes_of, steps_of
+from ..plan import Node, facts_of, nodes_of, steps_of
 from ..program import Question, answered
 from .page import asset
 from .svg import BAD, safe
@@ -19,10 +20,6 @@ FACTS = 300
 
 def name_of(node: Node) -> str:
     return f"{node.step.number} {node.step.does}".translate(BAD)
-
-
-def facts_of(node: Node) -> str:
-    return "as above" if node.is_again else f"period {node.step.period}, reach {node.step.reach}"
 
 
 def place_of(node: Node) -> int:
@@ -43,29 +40,32 @@ def lines_to(nodes: list[Node]) -> str:
     return "\n".join(found)
 
 
-def text_of(node: Node, row: int, facts: int) -> str:
+def text_of(node: Node, row: int, facts: int, cells: Cells | None) -> str:
     """A node: what its step does, and what is known of it."""
     y = row * LINE + LINE // 2 + 5
     kind = ' class="again"' if node.is_again else ""
     return (
         f'<g{kind}><text x="{place_of(node)}" y="{y}">{safe(name_of(node))}</text>'
-        f'<text class="facts" x="{facts}" y="{y}">{facts_of(node)}</text></g>'
+        f'<text class="facts" x="{facts}" y="{y}">{facts_of(node, cells)}</text></g>'
     )
 
 
-def size_of(nodes: list[Node]) -> tuple[int, int, int]:
+def size_of(nodes: list[Node], cells: Cells | None) -> tuple[int, int, int]:
     """The width and the height of the picture, and where the column of facts begins."""
     facts = max(place_of(node) + LETTER * width(name_of(node)) for node in nodes) + GAP
-    return facts + FACTS, LINE * len(nodes) + 10, facts
+    wide = max(FACTS, max(LETTER * width(facts_of(node, cells)) for node in nodes) + GAP)
+    return facts + wide, LINE * len(nodes) + 10, facts
 
 
-def svg_of_plan(question: Question) -> tuple[str, int, int]:
-    """The picture, with its width and height."""
+def svg_of_plan(question: Question, cells: Cells | None = None) -> tuple[str, int, int]:
+    """The picture, with its width and height; with cells where they were measured."""
     nodes = list(nodes_of(steps_of(answered(question.words("explain")))))
-    across, down, facts = size_of(nodes)
-    texts = "\n".join(text_of(node, row, facts) for row, node in enumerate(nodes))
+    across, down, facts = size_of(nodes, cells)
+    texts = "\n".join(text_of(node, row, facts, cells) for row, node in enumerate(nodes))
     count = len({node.step.number for node in nodes})
     title = f"The plan: {count} step{'s' if count > 1 else ''}, the last one first."
+    if cells:
+        title = f"{title[:-1]}; {cells.told_of_all()}."
     svg = (
         f'<svg id="plan" xmlns="http://www.w3.org/2000/svg" viewBox="0 0 {across} {down}" width="{across}"'
         f' height="{down}" role="img" aria-label="{title}">\n<style>{asset("plan.css")}</style><title>{title}</title>\n'

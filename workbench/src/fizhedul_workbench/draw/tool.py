@@ -4,9 +4,11 @@ import re
 import sys
 from collections.abc import Sequence
 
+from ..cells import cells_of
 from ..civil import is_chosen, read_window
 from ..lrp import put_file
 from ..program import Question
+from ..warned import warn_of
 from ..words import choice, is_guarded, keyed, usage, whole
 from .look import Look, form_of
 from .marks import picture_of
@@ -24,7 +26,7 @@ MOST_MARKS = 1_000_000
 def drawing(question: Question, look: Look) -> bytes:
     """The drawing of a window: a page, a picture, or an image of the picture."""
     if look.is_plan:
-        return drawing_of_plan(question, look.form)
+        return drawing_of_plan(question, look)
     picture = ranges_picture(question, look.most) if look.has_ranges else picture_of(question, look.most)
     if look.form == "html":
         return page_of(picture, look).encode()
@@ -38,12 +40,12 @@ def drawing(question: Question, look: Look) -> bytes:
     return image_of(svg, width, height)
 
 
-def drawing_of_plan(question: Question, form: str) -> bytes:
+def drawing_of_plan(question: Question, look: Look) -> bytes:
     """The drawing of the query's plan."""
-    svg, across, down = svg_of_plan(question)
-    if form == "html":
+    svg, across, down = svg_of_plan(question, cells_of(question) if look.has_cells else None)
+    if look.form == "html":
         return page_of_plan(question, svg).encode()
-    if form == "svg":
+    if look.form == "svg":
         return b'<?xml version="1.0" encoding="UTF-8"?>\n' + svg.encode()
     from .browser import image_of
 
@@ -53,7 +55,7 @@ def drawing_of_plan(question: Question, form: str) -> bytes:
 def draw_tool(words: Sequence[str]) -> None:
     """Draws a window of a query's answers, or the query's plan, to a file or to standard output."""
     is_plan = "tree=yes" in words
-    own = KEYS[:2] if is_plan else [*KEYS, *WINDOW_KEYS]
+    own = [*KEYS[:2], "cells", "cap"] if is_plan else [*KEYS, *WINDOW_KEYS]
     found = keyed(words, [*own, "format", "out", "civil", "tense", "plan", "tree"], KEYS[:2] if is_plan else KEYS)
     choice(found, "tree", "no", ["yes", "no"])
     is_civil = is_chosen(found, "civil")
@@ -65,6 +67,7 @@ def draw_tool(words: Sequence[str]) -> None:
         choice(found, "grid", "dates" if is_civil else "numbers", ["numbers", "dates"]) == "dates",
         is_chosen(found, "ranges"),
         is_plan,
+        is_chosen(found, "cells"),
     )
     if is_civil and look.hour != 60:
         raise usage("with civil=yes an hour has 60 steps of time")
@@ -78,3 +81,4 @@ def draw_tool(words: Sequence[str]) -> None:
     else:
         sys.stdout.buffer.write(content)
         sys.stdout.buffer.flush()
+    warn_of(question)

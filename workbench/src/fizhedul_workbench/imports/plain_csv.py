@@ -28,7 +28,7 @@ def read_columns(file: str, line: int, names: list[str]) -> list[tuple[str, str]
     for text in names:
         name, colon, sort = (part.strip() for part in text.partition(":"))
         if not colon or not is_name(name) or not (is_name(sort) or sort in ("time", "data")):
-            raise refused_at(file, line, f"{text[:40]!r} is no column NAME: SORT")
+            raise refused_at(file, line, f"{text[:40]!r} is no column NAME: SORT, as 'dep: time'")
         if name in (known for known, _ in columns):
             raise refused_at(file, line, f"the column {name!r} stands twice")
         columns.append((name, sort))

@@ -6,6 +6,7 @@ from collections.abc import Mapping, Sequence
 from ..civil import is_chosen, minute_of, read_window
 from ..lrp import MOST_BYTES, put_file, shown, written_database, written_value
 from ..program import Question
+from ..warned import warn_of, warn_of_database
 from ..words import Refused, choice, is_guarded, keyed, several, usage, whole
 from .civil_values import written_civil
 from .gtfs import read_gtfs
@@ -98,7 +99,9 @@ def import_tool(words: Sequence[str]) -> None:
     for each in imported.left:
         print(f"not carried over: {shown(each)}", file=sys.stderr)
     for relation in imported.relations:
-        print(f"{relation.name}: {len(relation.rows)} rows", file=sys.stderr)
+        count = len(relation.rows)
+        print(f"{relation.name}: {count} row{'' if count == 1 else 's'}", file=sys.stderr)
+    warn_of_database(content, out, is_civil)
 
 
 def export_tool(words: Sequence[str]) -> None:
@@ -114,3 +117,4 @@ def export_tool(words: Sequence[str]) -> None:
     question = Question(found["db"], found["query"], first, last, cap, *chosen)
     pieces = pieces_of_ranges if is_chosen(found, "ranges") else pieces_of
     put("".join(pieces(question, words[0])), found.get("out"))
+    warn_of(question)

@@ -53,11 +53,11 @@ class Matter:
     def keys(self, command: str) -> dict[str, str]:
         """The keys of a command that this matter sets, without those that say what holds anyway."""
         found = {}
-        if command not in ("check", "explain") and self.cap != 1_000_000:
+        if command not in ("check", "explain", "lint") and self.cap != 1_000_000:
             found["cap"] = str(self.cap)
         if self.is_guarded and command in PLANNED:
             found["plan"] = "guarded"
-        if self.is_tense and command in PLANNED:
+        if self.is_tense and command in (*PLANNED, "lint"):
             found["tense"] = "yes"
         if self.is_civil and command != "watch":
             found["civil"] = "yes"

@@ -43,13 +43,13 @@ def letters(content: bytes) -> int:
     return len(content.decode(errors="replace").encode("utf-16-le")) // 2
 
 
-def place_of(content: bytes, line: int, column: int) -> tuple[int, int, int] | None:
+def place_of(content: bytes, line: int, column: int, token: re.Pattern[bytes] = TOKEN) -> tuple[int, int, int] | None:
     """The line, and the letters from which and up to which the token at a place stands; the column counts bytes."""
     lines = content.split(b"\n")
     if line > len(lines):
         return None
     text = lines[line - 1]
-    found = TOKEN.match(text, column - 1)
+    found = token.match(text, column - 1)
     begin = letters(text[: column - 1])
     return line - 1, begin, begin + max(1, letters(found.group()) if found else 1)
 

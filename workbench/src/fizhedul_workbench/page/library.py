@@ -46,8 +46,9 @@ class LibraryEngine:
                 ended = process.returncode or 0
                 return Told(ended if ended < 0 else KILLED, "", time.monotonic() - begun)
             self.free.append(process)
-        # A refusal is explained from files.
-        files = {key: self.texts.file(key, each) for key, each in asked.texts.items()} if status else {}
+        # A refusal and a finding are explained from files.
+        is_told = bool(status) or asked.command == "lint"
+        files = {key: self.texts.file(key, each) for key, each in asked.texts.items()} if is_told else {}
         return Told(status, text.decode(errors="replace"), time.monotonic() - begun, files)
 
     async def started(self) -> asyncio.subprocess.Process:

@@ -31,10 +31,7 @@ class Sent:
         return bool(self.body.get(key, False))
 
     def number(self, key: str, least: int, most: int, default: int) -> int:
-        value = self.body.get(key, default)
-        if not isinstance(value, int) or isinstance(value, bool) or not least <= value <= most:
-            raise Unfit(f"{key} is a whole number from {least} to {most}")
-        return value
+        return number_in(self.body, key, least, most, default)
 
     def window(self, is_civil: bool) -> tuple[int, int]:
         return end_of(self.text("from"), is_civil), end_of(self.text("to"), is_civil)
@@ -51,6 +48,13 @@ class Sent:
         if len(values) != len(columns) or not all(isinstance(value, str) for value in values):
             raise Unfit("a tuple has a text for each column")
         return [time_of(value) if sort == "time" else value for value, (_, sort) in zip(values, columns)]
+
+
+def number_in(body: Body, key: str, least: int, most: int, default: int) -> int:
+    value = body.get(key, default)
+    if not isinstance(value, int) or isinstance(value, bool) or not least <= value <= most:
+        raise Unfit(f"{key} is a whole number from {least} to {most}")
+    return value
 
 
 def of(body: Body, key: str, kind: type) -> Any:

@@ -1,66 +1,10 @@
-"""The rows of a database by their places in its text."""
+"""The rows of a database, numbered, and the edits between two databases."""
 
-import re
 from collections import Counter
 from collections.abc import Iterable
-from dataclasses import dataclass, field
-from functools import lru_cache
+from dataclasses import dataclass
 
-GAP = r"(?:\s|#[^\n]*)*"
-TEXT = r'"(?:[^"\\\n]|\\.)*"'
-HEAD = re.compile(rf"{GAP}relation\b{GAP}([A-Za-z_]\w*){GAP}\(([^)]*)\){GAP}\{{", re.ASCII)
-ROW = re.compile(rf'{GAP}(\((?:{TEXT}|#[^\n]*|[^()"#])*\))((?:#[^\n]*|[^;#"{{}}()])*;)', re.ASCII)
-END = re.compile(rf"{GAP}\}}")
-COMMENT_OR_TEXT = re.compile(rf"({TEXT})|(?:#[^\n]*|\s)+")
-COLUMN = re.compile(r"([A-Za-z_]\w*)\s*:\s*([A-Za-z_]\w*)", re.ASCII)
-
-
-@dataclass(frozen=True)
-class Row:
-    """A row: where it begins, where its values are closed, where it ends, and its line from 0."""
-
-    begin: int
-    closed: int
-    end: int
-    line: int
-    text: str
-
-
-@dataclass(frozen=True)
-class Relation:
-    """A relation: its columns as they are written, and its rows in order."""
-
-    name: str
-    columns: str
-    rows: list[Row] = field(default_factory=list)
-
-    def named_columns(self) -> list[tuple[str, str]]:
-        return COLUMN.findall(re.sub(r"#[^\n]*", "", self.columns))
-
-
-def tidy(text: str) -> str:
-    """A row on one line, without comments."""
-    return COMMENT_OR_TEXT.sub(lambda found: found.group(1) or " ", text).strip()
-
-
-@lru_cache(maxsize=8)
-def relations_of(text: str) -> tuple[Relation, ...]:
-    """The relations of a database that the engine has accepted, up to the first place that is none."""
-    found = []
-    place, line, counted = 0, 0, 0
-    while head := HEAD.match(text, place):
-        relation = Relation(head.group(1), head.group(2))
-        place = head.end()
-        while row := ROW.match(text, place):
-            begin, place = row.start(1), row.end()
-            line, counted = line + text.count("\n", counted, begin), begin
-            relation.rows.append(Row(begin, row.end(1) - 1, place, line, tidy(text[begin:place])))
-        found.append(relation)
-        end = END.match(text, place)
-        if end is None:
-            break
-        place = end.end()
-    return tuple(found)
+from database import Relation, relations_of
 
 
 def numbered(text: str, relation: Relation, column: str, sort: str) -> str:

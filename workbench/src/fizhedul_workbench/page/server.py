@@ -16,10 +16,13 @@ from .asking import Failed
 from .desk import KINDS, Desk, Missing, Superseded
 from .engine import Engine
 from .files import Changed, Named, digest
-from .request import Sent, Unfit, of, sent
+from .request import Sent, Unfit, number_in, of, sent, short
 from .share import shared
 from .site import assets, main_page
 from .views import VIEWS, Asking, Shown, refused_json
+
+# Requests of a tab are numbered as they are sent; a browser's numbers are exact up to here.
+MOST_NUMBER = 2**53
 
 
 @dataclass
@@ -67,8 +70,10 @@ class Server:
         return {"digest": written}
 
     async def stop(self, body: dict[str, Any]) -> Shown:
-        """Ends what goes on in a lane of a tab."""
-        self.desk.stop(str(of(body, "tab", str)), str(of(body, "lane", str)))
+        """Ends what goes on in a lane of a tab, where it was asked before."""
+        tab, lane = short(body, "tab"), short(body, "lane")
+        if self.desk.takes(tab, lane, number_in(body, "number", 0, MOST_NUMBER, 0)):
+            self.desk.stop(tab, lane)
         return {}
 
     async def share(self, body: dict[str, Any]) -> Response:
@@ -88,6 +93,8 @@ class Server:
     async def view(self, name: str, body: dict[str, Any]) -> Shown:
         """One of the page's parts; a later request for it takes the place of an earlier one."""
         request = sent(body, KINDS)
+        if not self.desk.takes(request.tab, request.lane, request.number("number", 0, MOST_NUMBER, 0)):
+            raise Superseded
         return await self.desk.alone(request.tab, request.lane, VIEWS[name](self.asking(request)))
 
 

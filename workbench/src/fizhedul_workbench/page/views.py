@@ -8,7 +8,7 @@ from ..draw.marks import Picture, laid_out
 from ..draw.svg import gutter, summary, svg_of
 from ..program import Answer, Page, Question
 from ..words import Refused
-from . import cells, moves, why
+from . import cells, moves, noted, why
 from .asking import Failed, Matter, count_in, least_of, page_in, plan_of, schema_of, shell_words
 from .engine import Engine
 from .request import Sent
@@ -147,7 +147,11 @@ async def schema(asking: Asking) -> Shown:
 
 
 async def measured(asking: Asking) -> Shown:
-    return await cells.cells_of(asking.engine, asking.matter)
+    """The cells of the steps, and what is told of each of them, from the first one on."""
+    steps = await plan_of(asking.engine, asking.matter)
+    found = await cells.cells_of(asking.engine, asking.matter)
+    told = [found.told(number) for number in range(1, len(steps) + 1)]
+    return {"cells": found.counts, "whole": found.over is None, "told": told, "all": found.told_of_all()}
 
 
 async def counted(asking: Asking) -> Shown:
@@ -166,6 +170,10 @@ async def reasons(asking: Asking) -> Shown:
     return shown
 
 
+async def notes(asking: Asking) -> Shown:
+    return await noted.notes_of(asking.engine, asking.matter)
+
+
 async def movement(asking: Asking) -> Shown:
     """How the least answer moves from the text that was opened or saved to the present one."""
     return await moves.moves_of(asking.engine, asking.texts["base"], asking.matter)
@@ -180,6 +188,7 @@ VIEWS = {
     "count": counted,
     "why": reasons,
     "moves": movement,
+    "notes": notes,
 }
 
 

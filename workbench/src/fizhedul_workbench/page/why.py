@@ -3,13 +3,15 @@
 import json
 from dataclasses import dataclass
 
-from ..civil import has_date
+from database import Relation, relations_of
+
+from ..civil import dated, has_date
 from ..lrp import LIMIT, written_text
 from ..program import Answer
 from .asking import Failed, Matter, fixing, least_of, number_of, page_in
 from .engine import Engine
-from .formulas import Leaf, Part, Taken, Variable, in_the_head, joined, taken_apart, written_query
-from .rows import Relation, numbered, relations_of
+from .formulas import OPERATORS, Leaf, Part, Taken, Variable, in_the_head, joined, taken_apart, written_query
+from .rows import numbered
 
 MOST_WAYS = 3
 MOST_ROWS = 20
@@ -73,16 +75,34 @@ async def ways_of(asker: Asker, query: str, answer: Answer, near: int) -> list[A
 
 async def way_told(asker: Asker, part: Part, head: list[Variable], way: Answer) -> dict[str, object]:
     """What each variable is in a way, and what each conjunct then says, with the rows of the database that hold it."""
-    values = {each.name: value for each, value in zip(head, way)}
+    is_civil = asker.matter.is_civil
+    values = {each.name: shown_value(value, is_civil) for each, value in zip(head, way)}
     given = {
         each.name: str(number_of(value)) if each.sort == "time" else written_text(str(value))
         for each, value in zip(head, way)
     }
     conjuncts = []
     for leaf in part.conjuncts:
-        said = joined(put_in(leaf, given))
-        conjuncts.append({"said": joined(leaf.pieces), "here": said, "rows": await rows_of(asker, leaf, given)})
+        pieces = put_in(leaf, given)
+        told = {"said": joined(leaf.pieces), "here": joined(pieces), "rows": await rows_of(asker, leaf, given)}
+        conjuncts.append({**told, "shown": joined(with_dates(pieces)) if is_civil else told["here"]})
     return {"values": values, "conjuncts": conjuncts}
+
+
+def shown_value(value: int | str, is_civil: bool) -> int | str:
+    """A value as it is shown: a civil time by its date."""
+    return dated(value) if is_civil and isinstance(value, int) else value
+
+
+def with_dates(pieces: tuple[str, ...]) -> tuple[str, ...]:
+    """The pieces with times as dates; periods, offsets, and the distances of temporal operators stay numbers."""
+    if any(piece in OPERATORS for piece in pieces):
+        return pieces
+    before = ("", *pieces)
+    return tuple(
+        dated(int(piece)) if is_number(piece) and last not in ("in", "+", "-") else piece
+        for last, piece in zip(before, pieces)
+    )
 
 
 def put_in(leaf: Leaf, given: dict[str, str]) -> tuple[str, ...]:

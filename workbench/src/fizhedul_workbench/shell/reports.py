@@ -2,6 +2,7 @@
 
 from dataclasses import replace
 
+from ..cells import cells_of
 from ..lrp import put_file
 from ..plan import tree_of
 from ..program import Output, ranges_of, run_program
@@ -56,20 +57,33 @@ def say_ranges(session: Session, output: Output) -> None:
 
 def tree(session: Session, file: str) -> None:
     """The plan of the last query as a tree, or its picture where a file is named."""
+    show_plan(session, file, False)
+
+
+def cells(session: Session, file: str) -> None:
+    """The same with the cells of each step, and the time up to it."""
+    show_plan(session, file, True)
+
+
+def show_plan(session: Session, file: str, is_run: bool) -> None:
+    """The plan as a tree, or its picture where a file is named; with the cells of each step where it is to be run."""
     if not need_query(session):
         return
     if file:
         from ..draw.look import Look, form_of
         from ..draw.tool import drawing
 
-        put_file(file, drawing(session.question(), Look(form=form_of(file, None), is_plan=True)))
+        put_file(file, drawing(session.question(), Look(form=form_of(file, None), is_plan=True, has_cells=is_run)))
         say(f"drawn: {file}")
         return
     output = run_program(session.question().words("explain"))
     if output.status:
         say_refusal(session, output)
-    else:
-        say("\n".join(tree_of(output.text)))
+        return
+    found = cells_of(session.question()) if is_run else None
+    say("\n".join(tree_of(output.text, found)))
+    if found:
+        say(f"({found.told_of_all()})")
 
 
 def next_page(session: Session, _: str) -> None:

@@ -35,6 +35,7 @@ class Session:
     query: str = ""
     more: str | int | None = None
     status: int = 0
+    warned: set[tuple[str, str]] = field(default_factory=set)
     names: list[str] = field(default_factory=list)
     sorts: list[str] = field(default_factory=list)
 

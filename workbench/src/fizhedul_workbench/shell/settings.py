@@ -5,6 +5,7 @@ from datetime import date
 from ..civil import has_date, minute_of
 from ..days import MINUTES, WEEK, day_number
 from ..lrp import LIMIT
+from ..warned import warn_of_window
 from .session import FIRST_WEEK, Session, read_names, say, show_page
 
 
@@ -23,6 +24,8 @@ def set_window(session: Session, rest: str) -> None:
         say("a window is " + (dates if session.is_civil else "two whole numbers, as in .window 0 1439"))
         return
     session.first, session.last, session.more = first, last, None
+    if first > last:
+        warn_of_window(*rest.split())
     if session.query:
         show_page(session, None)
 

@@ -13,6 +13,7 @@ from . import reports
 from . import session as acts
 from . import settings
 from .session import Session, say
+from .warning import lint, warn_once
 from .watching import watch
 
 HELP = """A line is a query, as { t: time | bus(t) }; it goes on while a bracket is open.
@@ -29,10 +30,13 @@ HELP = """A line is a query, as { t: time | bus(t) }; it goes on while a bracket
 .ask            the whole answer, as a relation
 .explain        the plan of the query
 .tree [FILE]    the plan as a tree; its picture where a FILE is named
+.cells [FILE]   the same with the cells that each step fills, and the time up
+                to it: the query is asked again under lower caps
 .watch FILE     the least answer, and after each edit of FILE the one then;
                 at a terminal FILE is followed up to Ctrl-C
 .cap N          the most cells of a step; each may take 750 bytes and 10 µs
 .limit N        the most answers of a page, or ranges
+.lint           what the database and the query hold that is seldom meant
 .tables         the relations of the database, with their rows and periods
 .schema         the relations of the database, with their columns
 .read FILE      what FILE has, as if it were typed
@@ -52,6 +56,7 @@ COMMANDS: dict[str, Act] = {
     ".ask": lambda session, _: acts.write_output(session, "ask"),
     ".explain": lambda session, _: acts.write_output(session, "explain"),
     ".tree": reports.tree,
+    ".cells": reports.cells,
     ".watch": watch,
     ".civil": settings.set_civil,
     ".tense": settings.set_tense,
@@ -60,6 +65,7 @@ COMMANDS: dict[str, Act] = {
     ".cap": settings.set_cap,
     ".limit": settings.set_limit,
     ".schema": acts.show_schema,
+    ".lint": lint,
     ".tables": acts.show_tables,
     ".open": acts.open_database,
     ".save": acts.save,
@@ -68,6 +74,8 @@ COMMANDS: dict[str, Act] = {
 }
 
 
+# After these commands, as after a query, the files are looked through.
+WARNING = (".open", ".civil")
 # What other shells call some of these.
 OTHER_NAMES = {"exit": ".quit", "bye": ".quit", "q": ".quit", "?": ".help", "h": ".help", "man": ".help"}
 
@@ -132,6 +140,8 @@ def act(session: Session, entry: str) -> bool:
             say(pointer(word))
         elif pieces(text):
             acts.ask(session, text)
+        if word in WARNING or (pieces(text) and not word.startswith(".")):
+            warn_once(session)
     except KeyboardInterrupt:
         say("interrupted")
     except Refused as refused:
@@ -141,7 +151,8 @@ def act(session: Session, entry: str) -> bool:
 
 def loop(session: Session, entries: Iterator[str]) -> None:
     try:
-        acts.read_names(session)
+        if acts.read_names(session):
+            warn_once(session)
     except Refused as refused:
         acts.refuse(session, refused)
     for entry in entries:

@@ -16,9 +16,11 @@ def watch(session: Session, file: str) -> None:
     elif session.is_tense or session.is_civil:
         say("edits are watched without temporal operators and civil times; .tense off and .civil off")
     elif need_query(session):
+        # What comes while the program runs is seen as a change.
+        seen = content_of(file)
         lines = show_edits(session, file, [])
         if lines is not None and session.is_colourful:
-            follow(session, file, lines)
+            follow(session, file, seen, lines)
 
 
 def show_edits(session: Session, file: str, known: list[str]) -> list[str] | None:
@@ -45,10 +47,9 @@ def content_of(file: str) -> bytes:
         return b""
 
 
-def follow(session: Session, file: str, lines: list[str]) -> None:
+def follow(session: Session, file: str, seen: bytes, lines: list[str]) -> None:
     """Tells each change of the answer as the file grows, up to an interrupt. Half an edit waits for its end."""
     say(f"following {file}; Ctrl-C ends that")
-    seen = content_of(file)
     while True:
         time.sleep(PAUSE)
         now = content_of(file)

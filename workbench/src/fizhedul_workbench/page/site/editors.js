@@ -5,6 +5,7 @@ import { complete, offer } from "./completion.js";
 
 export const editors = {};
 const marks = { db: [], query: [] };
+const noted = { db: [], query: [] };
 const rows = [];
 const LABELS = { db: "The database", query: "The query" };
 
@@ -73,6 +74,14 @@ export function markFault(kind, place) {
   const mark = editor.markText({ line, ch: from }, { line, ch: Math.max(from + 1, Math.min(end, length)) }, { className: "fault-mark" });
   const handle = editor.addLineClass(line, "wrap", "fault-line");
   marks[kind] = [mark, { clear: () => editor.removeLineClass(handle, "wrap", "fault-line") }];
+}
+
+// Marks what notes are about.
+export function markNotes(kind, places) {
+  for (const mark of noted[kind].splice(0)) mark.clear();
+  for (const [line, begin, end] of places) {
+    noted[kind].push(editors[kind].markText({ line, ch: begin }, { line, ch: end }, { className: "note-mark" }));
+  }
 }
 
 export function goTo(kind, line, ch) {

@@ -5,6 +5,7 @@ import { clearFaults, hideBanner, showBanner, showFault } from "./faults.js";
 import { defineMode } from "./grammar.js";
 import { button, byId } from "./made.js";
 import { loadMoves } from "./moves.js";
+import { hideNotes, loadNotes } from "./notes.js";
 import { shownPanel, startPanels } from "./panels.js";
 import { dim, showPicture, showPinned, showVerdict, startPicture } from "./picture.js";
 import { loadPlan, startPlan } from "./plan.js";
@@ -14,7 +15,7 @@ import { on, setText, state, tell } from "./state.js";
 import { showCount, showSummary, verdict } from "./summary.js";
 import { dimTable, showTable, startTable } from "./table.js";
 import { startTelling } from "./telling.js";
-import { ask, call, Superseded } from "./wire.js";
+import { ask, call, isAsking, Superseded } from "./wire.js";
 import { askAgain, showFields, startWhy } from "./why.js";
 import { showWords } from "./words.js";
 
@@ -36,17 +37,29 @@ function quietly(work) {
 function soon() {
   clearTimeout(wait);
   const isLarge = state.texts.db.length > LARGE;
-  wait = setTimeout(() => quietly(look()), isLarge ? 250 : 15);
+  wait = setTimeout(() => {
+    wait = null;
+    quietly(look());
+  }, isLarge ? 250 : 15);
 }
 
 // What can wait until the keys rest.
 function later() {
   clearTimeout(rest);
-  rest = setTimeout(() => quietly(side()), 150);
+  rest = setTimeout(() => {
+    rest = null;
+    quietly(side());
+  }, 150);
+}
+
+// Whether all that was changed has its answer.
+function isAtRest() {
+  return wait === null && rest === null && !isAsking();
 }
 
 async function side() {
   const panel = shownPanel();
+  await loadNotes();
   if (panel === "plan") await loadPlan();
   if (panel === "moves") await loadMoves();
   if (panel === "why") await askAgain();
@@ -73,6 +86,7 @@ function refused(fault) {
   dim();
   dimTable();
   byId("summary").classList.add("stale");
+  hideNotes();
   if (fault.which !== "engine" || fault.line.startsWith("refused")) return showFault(fault);
   if (isRetried) return showBanner(`${fault.line}.`, button("Ask again", () => tell("ask")));
   isRetried = true;
@@ -82,7 +96,7 @@ function refused(fault) {
 
 function shown(found, window, query) {
   const before = state.answers[state.chosen];
-  Object.assign(state, { columns: found.columns, answers: found.answers, more: found.more });
+  Object.assign(state, { columns: found.columns, answers: found.answers, more: found.more, total: null });
   state.lanes = query === asked ? [...new Map([...state.lanes, ...found.lanes].map((lane) => [JSON.stringify(lane), lane])).values()] : found.lanes;
   asked = query;
   state.chosen = before ? found.answers.findIndex((answer) => answer.join("\n") === before.join("\n")) : -1;
@@ -95,7 +109,8 @@ function shown(found, window, query) {
   showWords(found.words);
   byId("pinned").hidden = !found.pinned;
   if (found.pinned) showPinned(found.pinned, state.texts.pinned.replace(/^\s*#.*$/gm, "").trim().replace(/\s+/g, " ").slice(0, 160));
-  if (found.more && hasTime && state.canCount) quietly(showCount());
+  // The engine counts answers with one time.
+  if (found.more && found.columns.filter(([, sort]) => sort === "time").length === 1) quietly(showCount());
   document.documentElement.dataset.shown = String(Number(document.documentElement.dataset.shown ?? 0) + 1);
   later();
 }
@@ -179,4 +194,4 @@ async function start() {
 
 quietly(start());
 // For tests, and for whoever looks at the page from its console.
-window.fizhedul = { state };
+window.fizhedul = { state, isAtRest };

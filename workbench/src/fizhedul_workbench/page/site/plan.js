@@ -9,27 +9,14 @@ const tree = made("ul", { class: "tree", role: "tree", "aria-label": "The steps 
 const told = made("p", { class: "hint", role: "status" });
 const measure = button("Measure the cells", measured);
 let steps = [];
-let cells = null;
-let upTo = {};
-
-// Of a step that fills more cells than all before it the number is known; of others it is a bound.
-function cellsOf(step) {
-  if (!cells) return null;
-  if (cells[step] !== undefined) return `${cells[step]} cells${timeOf(step)}`;
-  const before = Object.entries(cells).filter(([each]) => Number(each) < step).map(([, count]) => count);
-  return before.length ? `at most ${Math.max(...before)} cells` : null;
-}
-
-// The time from the query's beginning to the end of a step; it has the start of the engine in it.
-function timeOf(step) {
-  return upTo[step] === undefined ? "" : `, after ${Math.max(1, Math.round(upTo[step] * 1000))} ms`;
-}
+// What is told of the cells of each step; a time has the start of the engine in it.
+let cells = [];
 
 function node(step, seen) {
   const { said, of, period, reach } = steps.find((each) => each.step === step);
   const isAgain = seen.has(step);
   seen.add(step);
-  const count = cellsOf(step);
+  const count = isAgain ? "" : cells[step - 1];
   const line = made("div", { class: "node" }, made("code", { text: `${step} ${said}` }),
     made("small", { text: isAgain ? "as above" : `period ${period}, reach ${reach}` }),
     count ? made("small", { class: "cells", text: count }) : null);
@@ -53,10 +40,8 @@ async function measured() {
     if (found.fault) {
       told.textContent = found.fault.line;
     } else {
-      cells = found.cells;
-      upTo = found.upTo;
-      const time = `The whole query took ${Math.round(found.seconds * 1000)} ms.`;
-      told.textContent = found.whole ? time : "Measured as far as the time or the cap allowed; the steps after that are not told.";
+      cells = found.told;
+      told.textContent = `${found.all[0].toUpperCase()}${found.all.slice(1)}.`;
       show();
     }
   } catch (fault) {
@@ -67,7 +52,7 @@ async function measured() {
 }
 
 export async function loadPlan() {
-  cells = null;
+  cells = [];
   told.textContent = "";
   const found = await ask("plan", ["db", "query"]);
   steps = found.fault ? [] : found.steps;

@@ -15,10 +15,10 @@ export const state = {
   columns: [],
   answers: [],
   more: null,
+  total: null,
   lanes: [],
   chosen: -1,
   isPinned: false,
-  canCount: true,
   schema: { relations: [], texts: {} },
 };
 

@@ -2,6 +2,7 @@
 
 import { button, byId } from "./made.js";
 import { setWindow, state } from "./state.js";
+import { showMore } from "./table.js";
 import { timeOf } from "./times.js";
 import { ask } from "./wire.js";
 
@@ -40,7 +41,10 @@ export function showSummary(found, hasTime) {
 
 // How many answers there are in all, where the engine counts them.
 export async function showCount() {
+  const { answers } = state;
   const { count } = await ask("count", ["db", "query"]);
-  if (count) byId("count").textContent = `${state.answers.length} answers of ${count}`;
-  else state.canCount = state.columns.filter(([, sort]) => sort === "time").length > 1;
+  // Another question was answered meanwhile.
+  if (state.answers !== answers) return;
+  state.total = count;
+  showMore();
 }

@@ -31,17 +31,22 @@ export function showTable() {
   mark();
 }
 
-function showMore() {
+// How many answers are shown, and of how many, where that is known.
+export function showMore() {
   more.hidden = state.more === null;
   const count = `${state.answers.length} answer${state.answers.length === 1 ? "" : "s"}`;
-  byId("count").textContent = state.more === null ? count : `${count}, and more`;
+  const others = state.total === null ? ", and more" : ` of ${state.total}`;
+  byId("count").textContent = state.more === null ? count : count + others;
 }
 
 async function load() {
   if (state.more === null || more.disabled) return;
   more.disabled = true;
+  const { answers } = state;
   try {
     const found = await ask("next", ["db", "query"], { after: state.more });
+    // Another question was answered meanwhile.
+    if (state.answers !== answers) return undefined;
     if (found.fault) return tell("fault", found.fault);
     body.append(...rowsOf(found.answers, state.answers.length));
     state.answers.push(...found.answers);

@@ -44,8 +44,8 @@ function rowButton(row) {
   return shown;
 }
 
-function conjunct({ said, here, rows }) {
-  const told = here === said ? null : made("span", { class: "told" }, "here: ", made("code", { text: here }));
+function conjunct({ said, shown, rows }) {
+  const told = shown === said ? null : made("span", { class: "told" }, "here: ", made("code", { text: shown }));
   return made("li", { class: "holds" }, made("code", { text: said }), told, ...rows.map(rowButton));
 }
 

@@ -4,6 +4,8 @@ import { state, tell } from "./state.js";
 
 const known = {};
 const lanes = new Map();
+// Requests are numbered, since one that was sent before another may come after it.
+let count = 0;
 
 export class Superseded extends Error {}
 export class Refused extends Error {}
@@ -51,7 +53,8 @@ function settings() {
 // Asks about the texts of these kinds, which are sent where the server doesn't have them.
 async function sent(name, lane, kinds, more, signal, forgotten = []) {
   const texts = sending(kinds, forgotten);
-  const response = await post(name, { tab: state.tab, lane, texts, ...settings(), ...more }, signal);
+  count += 1;
+  const response = await post(name, { tab: state.tab, lane, number: count, texts, ...settings(), ...more }, signal);
   if (response.status === 409) {
     const found = await response.clone().json();
     if (found.missing && !forgotten.length) return sent(name, lane, kinds, more, signal, found.missing);
@@ -83,9 +86,15 @@ export async function shared() {
   throw Object.assign(new Refused("no file could be made"), await response.json());
 }
 
+export function isAsking() {
+  return lanes.size > 0;
+}
+
 export function stop() {
   for (const [lane, control] of lanes) {
     control.abort();
-    call("stop", { tab: state.tab, lane }).catch(() => {});
+    lanes.delete(lane);
+    count += 1;
+    call("stop", { tab: state.tab, lane, number: count }).catch(() => {});
   }
 }
