@@ -22,6 +22,7 @@ RUNS = (
     (["explain"], SORTS, b"{ l: line | not exists t: time exists c: city trip(t, l, c) }"),
     (["check"], SORTS, None),
     (["check", "civil=yes"], b"relation r(t: time) { (daily 08:15); }", None),
+    (["lint"], SORTS, b'{ t: time | trip(t, "8", "Port") }'),
     (["sample", "seed=0", "size=20"], None, None),
     (["check"], DEPARTURES, None),
     (["ask"], BUS, b"{ t: time | tram(t) }"),

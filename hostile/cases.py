@@ -9,6 +9,7 @@ from answers import answer_fault
 from canon import NEEDS_ONE, canonical_rows, canonical_text, has_one
 from common import EXAMPLES, digest
 from counted import refusal_of_head, text_of_window
+from flaws import report
 from guarded import GuardedPlan
 from language import Fault, read_database, relation_text
 from meaning import Meaning, TooHard
@@ -70,6 +71,8 @@ class Judge:
             return 3, ("refused: database %s\n" % fault).encode()
         if self.words[0] == "check":
             return 0, "".join(map(relation_text, relations.values())).encode()
+        if self.words[0] == "lint" and "query" not in self.keys:
+            return 0, report(relations)
         query = content(self.folder, self.keys["query"])
         if query is None and is_made:
             return None
@@ -79,6 +82,8 @@ class Judge:
             parsed, plain = read_tense(query, relations, self.is_tense)
         except Fault as fault:
             return 4, ("refused: query %s\n" % fault).encode()
+        if self.words[0] == "lint":
+            return 0, report(relations, plain)
         if self.is_canon and not has_one(parsed):
             return 4, NEEDS_ONE
         if refusal_of_head(self.words[0], parsed):

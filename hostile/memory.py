@@ -51,6 +51,8 @@ def runs():
     yield ["explain"], SORTS, left
     yield ["explain"], *example("guard", "always")
     yield ["check"], example("week", "connections")[0], None
+    yield ["lint"], b"relation r(t: time, u: time) { (0+2n, 1+2n) where u = t; (5, 6+7n); }", None
+    yield ["lint", "tense=yes"], SORTS, b'{ t: time | once t (-3, 4) trip(t, "8", "Port") }'
     yield ["ask", "tense=yes", "canon=yes"], BUS, b"{ t: time | until t (not bus(t), bus(t)) }"
     yield ["decide", "tense=yes"], BUS, b"{ t: time | since t (not bus(t), once t (-3, 4) bus(t)) }"
     yield ["explain", "tense=yes"], SORTS, b"{ t: time, l: line | always t (0, 9) exists c: city trip(t, l, c) }"

@@ -15,6 +15,7 @@ REQUIRED = {
     "ranges": {"db", "query", "from", "to"},
     "explain": {"db", "query"},
     "check": {"db"},
+    "lint": {"db"},
     "sample": {"seed", "size"},
     "watch": {"db", "query", "edits"},
 }
@@ -26,6 +27,7 @@ FURTHER = {
     "ranges": {"limit", "form", "cap", "civil", "tense", "plan"},
     "explain": {"civil", "tense", "plan"},
     "check": {"civil"},
+    "lint": {"query", "civil", "tense"},
     "sample": set(),
     "watch": {"cap", "kept", "plan"},
 }
