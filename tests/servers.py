@@ -13,7 +13,7 @@ from contextlib import contextmanager
 from pathlib import Path
 
 LOOPBACK = "127.0.0.1"
-PATIENCE = 30
+PATIENCE = 120
 SLURM = """ClusterName=fizhedul
 SlurmctldHost={node}({address})
 SlurmctldPort={ports[0]}
@@ -93,7 +93,7 @@ def started(commands: Sequence[Sequence[str]], folder: Path, **more: str) -> Ite
             process.send_signal(signal.SIGTERM)
         for process in reversed(running):
             try:
-                process.wait(5)
+                process.wait(30)
             except subprocess.TimeoutExpired:
                 process.kill()
                 process.wait()

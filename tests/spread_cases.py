@@ -1,7 +1,6 @@
 """What holds of 'spread' with each engine; the modules of the engines say how it is started."""
 
 import json
-import os
 import signal
 import subprocess
 import tempfile
@@ -11,7 +10,7 @@ from collections.abc import Callable
 from pathlib import Path
 
 from recounts import passes
-from support import LAUNCHER, PROGRAM, TOP, Run, environment, fake
+from support import LAUNCHER, PROGRAM, TOP, Run, environment, fake, in_front
 
 PASSES = TOP / "examples/passes"
 BUS = "relation bus(t: time) { (5+60n); }\n"
@@ -31,7 +30,7 @@ exec {program} "$@"
 FAULTS = """*from=60*) if mkdir killed; then kill -9 $PPID; sleep 9; fi ;;
 *from=120*) if mkdir full; then echo 'refused: memory'; exit 8; fi ;;
 *from=180*) if mkdir cut; then echo 185; exit 0; fi ;;"""
-PATIENCE = 90
+PATIENCE = 600
 
 
 class Spreading:
@@ -109,10 +108,10 @@ class FewCases(Spreading):
         self.assertGreater(self.out().count("\n"), 9)
 
     def test_an_interrupt_leaves_nothing_running(self):
-        program = self.odd("*from=120*) echo $$ >number; exec sleep 300 ;;")
+        program = self.odd("*from=120*) echo $$ >number; exec sleep 1200 ;;")
         words = ["list", "db=bus.lrp", "query=all.lrq", "from=0", "to=299", "parts=5"]
-        process = subprocess.Popen(self.command(*words), cwd=self.folder, stdin=subprocess.DEVNULL, stderr=subprocess.PIPE,
-                                   env=environment(**self.setting, FIZHEDUL_PROGRAM=program), text=True)
+        process = subprocess.Popen(in_front(self.command(*words)), cwd=self.folder, stdin=subprocess.DEVNULL,
+                                   stderr=subprocess.PIPE, env=environment(**self.setting, FIZHEDUL_PROGRAM=program), text=True)
         number = self.folder / "number"
         self.wait_until(lambda: number.exists() and number.read_text().strip())
         process.send_signal(signal.SIGINT)
@@ -195,5 +194,3 @@ def has_module(name: str) -> bool:
 
 def leave_out(what: str, package: str) -> None:
     raise unittest.SkipTest(f"{what} is not installed (apt-get install {package})")
-
-

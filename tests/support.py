@@ -5,6 +5,7 @@ import shutil
 import subprocess
 import tempfile
 import unittest
+from collections.abc import Sequence
 from pathlib import Path
 from typing import NamedTuple
 
@@ -41,6 +42,11 @@ def shell(line: str, folder: Path = TOP, explain: str = "never", **more: str) ->
         done = subprocess.run(["bash", "-c", line], cwd=folder, stdin=subprocess.DEVNULL, capture_output=True,
                               check=False, env=environment(FIZHEDUL_EXPLAIN=explain, PATH=path, HOME=name, **more))
     return Run(done.returncode, done.stdout.decode(), done.stderr.decode())
+
+
+def in_front(command: Sequence[str | Path]) -> list[str | Path]:
+    """A command that ends by the signals of a terminal even where the tests run in the background, with these ignored."""
+    return ["env", "--default-signal=HUP,INT,QUIT,TERM", *command]
 
 
 def need(tool: str, version: str = "") -> str:

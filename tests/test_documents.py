@@ -6,6 +6,7 @@ import unittest
 from collections.abc import Iterable
 from pathlib import Path
 
+from reached import Specs, lines_of
 from recounts import passes
 from support import TOP, need, run, shell
 
@@ -92,6 +93,23 @@ class Formats(unittest.TestCase):
         self.assertEqual(count, 12)
 
 
+    def test_findings_are_as_they_are_shown(self):
+        section = (TOP / "docs/formats.md").read_text().split("`lint db=F` and ")[1].split("`explain db=F")[0]
+        head = re.findall(r"(?m)^\| Row of `(.*)` \| Output \|$", section)[0]
+        rows = re.findall(r"(?m)^\| `(\(.*?)` \| (`.*) \|$", section)
+        database = re.findall(r"(?m)^Over `(relation .*)`, which has no finding:$", section)[0]
+        queries = re.findall(r"(?m)^\| `(\{.*?\})` \| (`.*) \|$", section)
+        cases = [(f"{head} {{ {row}; }}", "", shown) for row, shown in rows]
+        cases += [(database, query, shown) for query, shown in queries] + [(database, "", "`end`")]
+        with tempfile.TemporaryDirectory() as name:
+            for text, query, shown in cases:
+                Path(name, "a.lrp").write_text(text)
+                said = run("lint", "db=a.lrp", *([f"query={query}"] if query else []), folder=Path(name))
+                self.assertEqual((said.out.splitlines(), said.status), (re.findall("`([^`]*)`", shown), 0), text + query)
+        self.assertEqual(len(cases), 10)
+        kinds = set(re.findall(r"(?m)^\| `(?:database|query) (\w+) .*` \|", section))
+        self.assertEqual(kinds, set(re.findall(r"(?:database|query) (\w+) (?:r 1|at)", str(cases))))
+
     def test_lines_of_what_is_decided_anew_are_as_they_are_shown(self):
         section = (TOP / "docs/formats.md").read_text().split("With `kept=auto` a query")[1].split("### Canonical answers")[0]
         query, database = re.findall(r"(?m)^For `(\{.*?\})` over `(relation .*?)`:$", section)[0]
@@ -169,19 +187,41 @@ class Scale(unittest.TestCase):
 class Definitions(unittest.TestCase):
     """The list of what to read for the promise of a run, and the tables of crates."""
 
-    def test_each_file_to_read_is_there_and_has_what_it_is_named_for(self):
+    def rows_to_read(self) -> list[list[str]]:
+        """The cells of each row that has files to read."""
         page = (TOP / "docs/definitions.md").read_text().split("## What to read")[1].split("\n## ")[0]
         rows = [line.strip("| ").split(" | ") for line in page.splitlines() if line.startswith("| `lrp_")]
         self.assertGreater(len(rows), 15)
-        for row in rows:
-            text = ""
-            for crate, files in re.findall(r"`(lrp_\w+)`(?:: ([^;(]*))?", row[0]):
-                folder = TOP / "crates" / crate / "specs"
-                for name in re.split(r", | of ", files.strip()) if files else [file.stem for file in folder.glob("*.antt")]:
-                    if name != "Task":
-                        text += (folder / f"{name}.antt").read_text()
+        return rows
+
+    def files_of(self, row: list[str]) -> list[str]:
+        """The files of a row, as `crate/File`; a crate alone has all of its files."""
+        files = []
+        for crate, names in re.findall(r"`(lrp_\w+)`(?:: ([^;(]*))?", row[0]):
+            every = sorted(file.stem for file in (TOP / "crates" / crate / "specs").glob("*.antt"))
+            files += [f"{crate}/{name}" for name in (re.split(r", | of ", names.strip()) if names else every) if name != "Task"]
+        return files
+
+    def test_each_file_to_read_is_there_and_has_what_it_is_named_for(self):
+        for row in self.rows_to_read():
+            text = "".join((TOP / "crates" / file.replace("/", "/specs/")).with_suffix(".antt").read_text() for file in self.files_of(row))
             for name in re.findall(r"`(\w+)`", row[2] if len(row) == 5 else ""):
                 self.assertRegex(text, rf"(?m)^ *(?:\w+ )*{name} ")
+
+    def test_each_file_that_a_run_reaches_is_to_be_read(self):
+        named = {file for row in self.rows_to_read() for file in self.files_of(row)}
+        self.assertEqual(set(lines_of(Specs().reached(["IsRun"]))) - named, set())
+
+    def test_as_much_is_to_be_read_as_is_told(self):
+        specs, page = Specs(), (TOP / "docs/definitions.md").read_text()
+        told = re.findall(r"(?m)^\| [^|]* \| ([^|]*` reach(?:es)?\b[^|]*) \| ([\d,]+) \| ([\d,]+) \| [^|]* \|$", page)
+        for names, number, lines in told:
+            if "for them" not in names:
+                found = specs.reached(re.findall(r"`(\w+)`", names))
+                for wanted, shown in ((len(found), number), (sum(lines_of(found).values()), lines)):
+                    self.assertLessEqual(abs(int(shown.replace(",", "")) - wanted), wanted / 20, names)
+        self.assertEqual(len(told), 4)
+        self.assertAlmostEqual(sum(int(row[-2]) for row in self.rows_to_read()) / int(told[-1][2].replace(",", "")), 1, delta=0.05)
 
     def test_each_crate_has_its_rows(self):
         crates = re.findall(r"(?m)^(lrp_\w+)(?: staticlib)?:", (TOP / "crates.txt").read_text())
@@ -257,6 +297,19 @@ class Links(unittest.TestCase):
                                    document.read_text()):
                 # Definitions and proofs are named without their ending.
                 self.assertTrue((TOP / name).exists() or (TOP / f"{name}.antt").exists(), f"{document.name}: {name}")
+
+    def test_named_definitions_are_there(self):
+        crates = re.findall(r"(?m)^(lrp_\w+)(?: staticlib)?:", (TOP / "crates.txt").read_text())
+        folders = [TOP / "crates" / crate / kind for crate in crates for kind in ("src", "specs", "proofs")]
+        words = {*crates, *(file.stem for folder in folders for file in folder.rglob("*"))}
+        for file in (file for folder in folders for file in folder.rglob("*.*")):
+            words.update(re.findall(r"\w+", file.read_text()))
+        count = 0
+        for name in ("DECISIONS", "architecture", "definitions", "gate", "headline", "proofs", "proved"):
+            named = set(re.findall(r"`(?:\w+::)?([a-z]\w*_\w+|[A-Z]\w*[a-z][A-Z]\w*)`", (TOP / f"docs/{name}.md").read_text()))
+            self.assertEqual(named - words, set(), name)
+            count += len(named)
+        self.assertGreater(count, 300)
 
 
 if __name__ == "__main__":

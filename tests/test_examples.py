@@ -51,7 +51,7 @@ class Check(unittest.TestCase):
     def call(self, program: str | Path) -> subprocess.CompletedProcess[str]:
         """Runs it with a program."""
         return subprocess.run([EXAMPLES / "check"], stdin=subprocess.DEVNULL, capture_output=True, text=True, check=False,
-                              env=environment(FIZHEDUL_PROGRAM=str(program)), timeout=600)
+                              env=environment(FIZHEDUL_PROGRAM=str(program)), timeout=3600)
 
     def test_without_a_program_it_stops_at_once(self):
         done = self.call("/nowhere/program")
