@@ -5,7 +5,7 @@ use Rattle.std.specs.Ordering.{int_cmp, nat_cmp, ordering_then}
 use Rattle.std.specs.declared.cmp.Ordering.{Ordering}
 use Rattle.std.specs.declared.cmp.Ordering.TheVariants.{Less, Equal, Greater}
 use Rattle.std.specs.Cmp.Lexicographic.{slice_cmp}
-use Rattle.lrp_model.specs.Texts.{Text, text_cmp}
+use Rattle.lrp_model.specs.Texts.{Identifier, Text, text_cmp}
 use Rattle.lrp_model.specs.Rows.{Tuple, IsOf, times_of, IsInRow, Holds}
 use Rattle.lrp_model.specs.Formulas.{Question}
 use Rattle.lrp_model.specs.Satisfaction.{IsAnswer}
@@ -95,9 +95,9 @@ MayStandBeside answers K (suc (suc m)) r s = IsOneZone answers r → ⊥
 
 -- ---- the text
 
--- the relation `answer` of a query in rows of period K: it has the head's columns and holds exactly the answers, cell by cell
-pub record IsAnswerRelation (K : ℕ) (db : List Relation) (q : Question) (answer : Relation) : Type 0 where
-  pub name : answer.name ≡ codes "answer"
+-- the relation of this name that has the answers of a query, in rows of period K: it has the head's columns and holds exactly the answers, cell by cell
+pub record IsAnswerRelation (called : Identifier) (K : ℕ) (db : List Relation) (q : Question) (answer : Relation) : Type 0 where
+  pub name : answer.name ≡ called
   pub columns : answer.columns ≡ q.head
   pub holds : (tuple : Tuple) → IsAnswer db q tuple ↔ Holds (answer ∷ []) answer.name tuple
   pub rows : AllByRecursion (IsAnswerRow K (time_count q.head)) answer.rows
@@ -105,17 +105,17 @@ pub record IsAnswerRelation (K : ℕ) (db : List Relation) (q : Question) (answe
   pub beside : AllPairs (λ r s. OfOneCell r s → MayStandBeside (IsAnswer db q) K (time_count q.head) r s) answer.rows
 
 -- the text is such a relation as it is written out, and is read back as it
-pub record IsRelationText (K : ℕ) (db : List Relation) (q : Question) (bytes : List ℕ) : Type 0 where
+pub record IsRelationText (called : Identifier) (K : ℕ) (db : List Relation) (q : Question) (bytes : List ℕ) : Type 0 where
   pub answer : Relation
-  pub is : IsAnswerRelation K db q answer
+  pub is : IsAnswerRelation called K db q answer
   pub layout : bytes ≡ relation_bytes answer
   pub read : IsDatabase bytes (answer ∷ [])
 
 -- the text of a query's answer in rows of period K: the line `Empty` where no tuple satisfies the query, and such a relation where one does
-pub record IsAnswerTextOf (K : ℕ) (db : List Relation) (q : Question) (bytes : List ℕ) : Type 0 where
+pub record IsAnswerTextOf (called : Identifier) (K : ℕ) (db : List Relation) (q : Question) (bytes : List ℕ) : Type 0 where
   pub none : ((tuple : Tuple) → IsAnswer db q tuple → ⊥) → bytes ≡ codes "Empty\n"
-  pub some : (tuple : Tuple) → IsAnswer db q tuple → IsRelationText K db q bytes
+  pub some : (tuple : Tuple) → IsAnswer db q tuple → IsRelationText called K db q bytes
 
 -- in rows of the query's period
-abbrev pub IsAnswerText : List Relation → Question → List ℕ → Type 0
-IsAnswerText db q = IsAnswerTextOf (period db q.body) db q
+abbrev pub IsAnswerText : Identifier → List Relation → Question → List ℕ → Type 0
+IsAnswerText called db q = IsAnswerTextOf called (period db q.body) db q

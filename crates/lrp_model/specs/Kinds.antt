@@ -3,7 +3,7 @@ use Rattle.std.specs.Prelude.{ℕ, List, codes}
 use Rattle.lrp_model.specs.declared.faults.DbKind.{DbKind}
 use Rattle.lrp_model.specs.declared.faults.DbKind.TheVariants.{Utf8, Syntax, Number, Period, Name, Arity, Sort, Column, Wide, TextTooLong, UnknownRelation}
 use Rattle.lrp_model.specs.declared.faults.QueryKind.{QueryKind}
-use Rattle.lrp_model.specs.declared.faults.QueryKind.TheVariants.{Utf8 as utf8, Syntax as syntax, Number as number, Period as period, Deep, UnknownRelation as unknown_relation, Arity as arity, Sort as sort, Unbound, Rebound, Wide as wide, TextTooLong as text_too_long, UnknownSort}
+use Rattle.lrp_model.specs.declared.faults.QueryKind.TheVariants.{Utf8 as utf8, Syntax as syntax, Number as number, Period as period, Deep, UnknownRelation as unknown_relation, Arity as arity, Sort as sort, Unbound, Rebound, Wide as wide, TextTooLong as text_too_long, UnknownSort, Defined}
 
 -- the number of a kind of fault of a database
 abbrev pub database_number : DbKind → ℕ
@@ -48,6 +48,7 @@ query_number Rebound = 10
 query_number wide = 11
 query_number text_too_long = 12
 query_number UnknownSort = 13
+query_number Defined = 14
 
 -- its word
 abbrev pub query_word : QueryKind → List ℕ
@@ -64,3 +65,4 @@ query_word Rebound = codes "Rebound"
 query_word wide = codes "Wide"
 query_word text_too_long = codes "TextTooLong"
 query_word UnknownSort = codes "UnknownSort"
+query_word Defined = codes "Defined"

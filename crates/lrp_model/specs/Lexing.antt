@@ -1,10 +1,10 @@
 -- From bytes to tokens with their places.
-use Rattle.std.specs.Prelude.{◌+◌, ℕ, zero, suc, Bool, true, false, ◌||◌, ◌==◌, nat_le, List, [], ◌∷◌, length, Result, Ok, Err, if◌then◌else◌, codes}
+use Rattle.std.specs.Prelude.{◌+◌, ℕ, zero, suc, Bool, true, false, ◌||◌, ◌&&◌, ◌==◌, nat_le, List, [], ◌∷◌, length, Result, Ok, Err, if◌then◌else◌, codes}
 use Rattle.std.specs.Char.{is_ascii_digit, is_ascii_lowercase, is_ascii_uppercase}
 use Rattle.std.specs.Str.{bytes_eq}
 use Rattle.std.specs.Str.Parse.{digits_value}
 use Rattle.lrp_model.specs.declared.tokens.Symbol.{Symbol}
-use Rattle.lrp_model.specs.declared.tokens.Symbol.TheVariants.{Open, Close, OpenBrace, CloseBrace, Comma, Colon, Semicolon, Bar, Plus, Minus, Le, Ge, Lt, Gt, Equals}
+use Rattle.lrp_model.specs.declared.tokens.Symbol.TheVariants.{Open, Close, OpenBrace, CloseBrace, Comma, Colon, Semicolon, Bar, Plus, Minus, Le, Ge, Lt, Gt, Equals, Star, Differs}
 use Rattle.lrp_model.specs.declared.tokens.Word.TheVariants.{Relation, Where, Time, Data, Letter, Exists, Forall, Not, And, Or, Implies, In}
 use Rattle.lrp_model.specs.declared.tokens.Place.{Place}
 use Rattle.lrp_model.specs.Tokens.{Token, Tokens}
@@ -111,6 +111,10 @@ abbrev pub text_scanned : Result QuotedText Scanned → Scanned
 text_scanned (Ok t) = record { token = text_token t.meant; taken = 34 ∷ t.taken; left = t.left }
 text_scanned (Err s) = record { token = bad_token; taken = 34 ∷ s.taken; left = s.left }
 
+-- no symbol begins there
+abbrev pub no_symbol : ℕ → List ℕ → Scanned
+no_symbol b bs = record { token = bad_token; taken = []; left = b ∷ bs }
+
 -- a symbol of one byte
 abbrev pub one : Symbol → ℕ → List ℕ → Scanned
 one s b bs = record { token = symbol_token s; taken = b ∷ []; left = bs }
@@ -120,9 +124,14 @@ abbrev pub one_or_two : Symbol → Symbol → ℕ → List ℕ → Scanned
 one_or_two s r b [] = one s b []
 one_or_two s r b (c ∷ bs) = if c == 61 then record { token = symbol_token r; taken = b ∷ c ∷ []; left = bs } else one s b (c ∷ bs)
 
--- the symbol that a byte and those behind it begin with
-unfoldable pub symbol_from : ℕ → List ℕ → Scanned
-symbol_from b bs =
+-- `*`, and `!` where an equals sign follows: symbols of the wide language alone
+abbrev pub further_symbol : ℕ → List ℕ → Scanned
+further_symbol b [] = if b == 42 then one Star b [] else no_symbol b []
+further_symbol b (c ∷ bs) = if b == 42 then one Star b (c ∷ bs) else if (b == 33) && (c == 61) then record { token = symbol_token Differs; taken = b ∷ c ∷ []; left = bs } else no_symbol b (c ∷ bs)
+
+-- the symbol that a byte and those behind it begin with; the flag says that those of the wide language are among them
+unfoldable pub symbol_in : Bool → ℕ → List ℕ → Scanned
+symbol_in wide b bs =
     if b == 40 then one Open b bs else
     if b == 41 then one Close b bs else
     if b == 123 then one OpenBrace b bs else
@@ -136,16 +145,16 @@ symbol_from b bs =
     if b == 61 then one Equals b bs else
     if b == 60 then one_or_two Lt Le b bs else
     if b == 62 then one_or_two Gt Ge b bs else
-    record { token = bad_token; taken = []; left = b ∷ bs }
+    if wide then further_symbol b bs else no_symbol b bs
 
 -- the token that the bytes begin with
-unfoldable pub scan : List ℕ → Scanned
-scan [] = record { token = end_token; taken = []; left = [] }
-scan (b ∷ bs) =
+unfoldable pub scan_in : Bool → List ℕ → Scanned
+scan_in wide [] = record { token = end_token; taken = []; left = [] }
+scan_in wide (b ∷ bs) =
     if is_letter b then record { token = word_or_name (run is_name_byte (b ∷ bs)); taken = run is_name_byte (b ∷ bs); left = behind_run is_name_byte (b ∷ bs) } else
     if is_ascii_digit b then record { token = number_token (digits_value 10 (run is_ascii_digit (b ∷ bs))); taken = run is_ascii_digit (b ∷ bs); left = behind_run is_ascii_digit (b ∷ bs) } else
     if b == 34 then text_scanned (text_from false bs) else
-    symbol_from b bs
+    symbol_in wide b bs
 
 -- the first token, at its place, and those that follow it; none follows the end or a bad byte
 abbrev pub headed : Place → Scanned → Token → Tokens → Tokens
@@ -154,17 +163,31 @@ headed p s bad_token rest = record { token = bad_token; place = after p s.taken 
 headed p s t rest = record { token = t; place = p } ∷ rest
 
 -- the tokens of the bytes that are left; each turn takes a byte, so the turns don't run out before the bytes
-unfoldable pub tokens_from : ℕ → Place → List ℕ → Tokens
-tokens_from zero p bs = []
-tokens_from (suc n) p bs =
+unfoldable pub tokens_in_from : Bool → ℕ → Place → List ℕ → Tokens
+tokens_in_from wide zero p bs = []
+tokens_in_from wide (suc n) p bs =
     let a = skip false p bs in
-    let s = scan a.bytes in
-    headed a.place s s.token (tokens_from n (after a.place s.taken) s.left)
+    let s = scan_in wide a.bytes in
+    headed a.place s s.token (tokens_in_from wide n (after a.place s.taken) s.left)
 
 -- the place of the first byte
 abbrev pub start : Place
 start = record { line = 1; column = 1 }
 
--- the tokens of a text, the last one the end or a bad byte
+-- the tokens of a text, the last one the end or a bad byte; the flag says that the symbols of the wide language are among them
+abbrev pub tokens_in : Bool → List ℕ → Tokens
+tokens_in wide bytes = tokens_in_from wide (suc (length bytes)) start bytes
+
+-- ---- texts of the other languages, and of databases
+
+abbrev pub symbol_from : ℕ → List ℕ → Scanned
+symbol_from = symbol_in false
+
+abbrev pub scan : List ℕ → Scanned
+scan = scan_in false
+
+abbrev pub tokens_from : ℕ → Place → List ℕ → Tokens
+tokens_from = tokens_in_from false
+
 abbrev pub tokens : List ℕ → Tokens
-tokens bytes = tokens_from (suc (length bytes)) start bytes
+tokens = tokens_in false

@@ -1,13 +1,13 @@
 -- What reading a query means: the raw query of a text, or the fault that is reported.
-use Rattle.std.specs.Prelude.{ℕ, Bool, List}
+use Rattle.std.specs.Prelude.{ℕ, Bool, true, List}
 use Rattle.lrp_model.specs.Tokens.{Tokens}
-use Rattle.lrp_model.specs.Refused.{TextOf, IsLawfulText, IsTextSaying}
-use Rattle.lrp_model.specs.TextFaults.{IsTextFault}
+use Rattle.lrp_model.specs.Refused.{TextOf, IsLawfulText, IsTextSaying, IsLawfulTextIn, IsTextSayingIn}
+use Rattle.lrp_model.specs.TextFaults.{IsTextFault, IsTextFaultIn}
 use Rattle.lrp_model.specs.declared.faults.QueryFault.{QueryFault}
-use Rattle.lrp_model.specs.Queries.{Language, WrittenQuery, query_text, FitsQuery}
-use Rattle.lrp_model.specs.Queries.Language.{first_order}
-use Rattle.lrp_model.specs.QueryMeaning.{raw_question}
-use Rattle.lrp_model.specs.RawQueries.{RawQuestion}
+use Rattle.lrp_model.specs.Queries.{Language, WrittenQuery, WrittenFile, query_text, file_text, FitsQuery, FitsFile}
+use Rattle.lrp_model.specs.Queries.Language.{first_order, wide}
+use Rattle.lrp_model.specs.QueryMeaning.{raw_question, raw_file}
+use Rattle.lrp_model.specs.RawQueries.{RawQuestion, RawFileView}
 
 -- the bytes are a lawful text of the language, of this written tree; as no bytes spell a hole, the tree has none
 abbrev pub IsTextIn : (l : Language) → List ℕ → WrittenQuery l → Type 0
@@ -38,3 +38,21 @@ Texts = TextsIn first_order
 
 abbrev pub IsQueryFault : List ℕ → QueryFault → Type 0
 IsQueryFault = IsFaultIn first_order
+
+-- ---- files of the wide language
+
+-- the bytes are a lawful file, of this written tree
+abbrev pub IsFileText : List ℕ → WrittenFile wide → Type 0
+IsFileText = IsLawfulTextIn true file_text FitsFile
+
+-- the bytes are a file, and this is what it says
+abbrev pub IsFile : List ℕ → RawFileView → Type 0
+IsFile = IsTextSayingIn true file_text FitsFile (raw_file {l = wide})
+
+-- the tokens spell a file, and with the flag a lawful one
+abbrev pub FileTexts : Bool → Tokens → Type 0
+FileTexts = TextOf (file_text {l = wide}) FitsFile
+
+-- the fault that reading reports
+abbrev pub IsFileFault : List ℕ → QueryFault → Type 0
+IsFileFault bytes f = IsTextFaultIn true FileTexts bytes f.kind f

@@ -1,5 +1,5 @@
 -- Queries with their places, without their places in memory, and what a raw query of the program is.
-use Rattle.std.specs.Prelude.{ℤ, List, [], ◌∷◌}
+use Rattle.std.specs.Prelude.{ℤ, List, [], ◌∷◌, map}
 use Rattle.lrp_model.specs.Texts.{Identifier}
 use Rattle.lrp_model.specs.declared.tokens.Place.{Place}
 use Rattle.lrp_model.specs.declared.relations.RowPoint.{RowPoint}
@@ -7,6 +7,8 @@ use Rattle.lrp_model.specs.declared.formulas.Op.{Op}
 use Rattle.lrp_model.specs.declared.raw.RawColumn.{RawColumn}
 use Rattle.lrp_model.specs.declared.raw.RawTerm.{RawTerm}
 use Rattle.lrp_model.specs.declared.raw.RawQuery.{RawQuery}
+use Rattle.lrp_model.specs.declared.raw.RawDefinition.{RawDefinition}
+use Rattle.lrp_model.specs.declared.raw.RawFile.{RawFile}
 use Rattle.lrp_model.specs.declared.raw.RawFormula.{RawFormula}
 use Rattle.lrp_model.specs.declared.raw.Ranged.{Ranged}
 use Rattle.lrp_model.specs.declared.raw.Paired.{Paired}
@@ -69,6 +71,36 @@ abbrev pub raw_forms_of : List RawFormula → RawForms
 raw_forms_of [] = no_raws
 raw_forms_of (f ∷ fs) = raw (raw_form_of f) (raw_forms_of fs)
 
+-- the place of a formula, that of its first token
+abbrev pub place_of : RawForm → Place
+place_of (raw_atom p n ts) = p
+place_of (raw_compare p l op r) = p
+place_of (raw_member p t point) = p
+place_of (raw_not p f) = p
+place_of (raw_and p fs) = p
+place_of (raw_or p fs) = p
+place_of (raw_implies p f g) = p
+place_of (raw_group p f) = p
+place_of (raw_exists p c f) = p
+place_of (raw_forall p c f) = p
+place_of (raw_ranged word o from to f) = o.place
+place_of (raw_paired word o f g) = o.place
+
+-- the same formula at another place
+abbrev pub raw_at : Place → RawForm → RawForm
+raw_at q (raw_atom p n ts) = raw_atom q n ts
+raw_at q (raw_compare p l op r) = raw_compare q l op r
+raw_at q (raw_member p t point) = raw_member q t point
+raw_at q (raw_not p f) = raw_not q f
+raw_at q (raw_and p fs) = raw_and q fs
+raw_at q (raw_or p fs) = raw_or q fs
+raw_at q (raw_implies p f g) = raw_implies q f g
+raw_at q (raw_group p f) = raw_group q f
+raw_at q (raw_exists p c f) = raw_exists q c f
+raw_at q (raw_forall p c f) = raw_forall q c f
+raw_at q (raw_ranged word o from to f) = raw_ranged word (operator_at q o.name o.name_place) from to f
+raw_at q (raw_paired word o f g) = raw_paired word (operator_at q o.name o.name_place) f g
+
 -- a query with its places: its head's columns and its body
 pub record RawQuestion : Type 0 where
   pub head : List RawColumn
@@ -76,6 +108,24 @@ pub record RawQuestion : Type 0 where
 
 abbrev pub raw_question_of : RawQuery → RawQuestion
 raw_question_of q = record { head = q.head; body = raw_form_of q.body }
+
+-- a definition: its name with its place, its columns and its body
+pub record RawDefinitionView : Type 0 where
+  pub name : Identifier
+  pub place : Place
+  pub columns : List RawColumn
+  pub body : RawForm
+
+-- the definitions before a query, and the query
+pub record RawFileView : Type 0 where
+  pub definitions : List RawDefinitionView
+  pub query : RawQuestion
+
+abbrev pub raw_definition_of : RawDefinition → RawDefinitionView
+raw_definition_of d = record { name = d.name; place = d.place; columns = d.columns; body = raw_form_of d.body }
+
+abbrev pub raw_file_of : RawFile → RawFileView
+raw_file_of f = record { definitions = map raw_definition_of f.definitions.items; query = raw_question_of f.query }
 
 -- ---- formulas of first-order logic
 

@@ -6,7 +6,7 @@ use Rattle.lrp_model.specs.declared.tokens.Fault.TheVariants.{Syntax, Number, Te
 use Rattle.lrp_model.specs.declared.tokens.Place.{Place}
 use Rattle.lrp_model.specs.Tokens.{Token, Placed, Tokens, Part, Spells}
 use Rattle.lrp_model.specs.Tokens.Token.{number_token, text_token}
-use Rattle.lrp_model.specs.Lexing.{tokens}
+use Rattle.lrp_model.specs.Lexing.{tokens_in}
 use Rattle.lrp_model.specs.Limits.{greatest_number}
 
 -- what a token shows of a fault that is no syntax fault
@@ -67,22 +67,33 @@ pub record IsRefusedAt (Text : Bool → Tokens → Type 0) (ts : Tokens) (k : Fa
   pub syntax : k ≡ Syntax → (other : Tokens) → Text false (front ++ bad ∷ other) → ⊥
   pub others : k ≢ Syntax → (other : Tokens) × Text false (front ++ bad ∷ other)
 
--- the bytes are a lawful text of a grammar, of this tree
-pub record IsLawfulText {A : Type 0} (spell : A → List Part) (Fits : A → Type 0) (bytes : List ℕ) (tree : A) : Type 0 where
+-- the bytes are a lawful text of a grammar, of this tree; the flag says that its symbols are those of the wide language
+pub record IsLawfulTextIn {A : Type 0} (wide : Bool) (spell : A → List Part) (Fits : A → Type 0) (bytes : List ℕ) (tree : A) : Type 0 where
   pub utf8 : IsUtf8 bytes
-  pub spelled : Spells (spell tree) (tokens bytes)
+  pub spelled : Spells (spell tree) (tokens_in wide bytes)
   pub lawful : Fits tree
 
 -- the bytes are a lawful text of a grammar, and this is what its tree says
-pub record IsTextSaying {A R : Type 0} (spell : A → List Part) (Fits : A → Type 0) (says : A → R) (bytes : List ℕ) (said : R) : Type 0 where
+pub record IsTextSayingIn {A R : Type 0} (wide : Bool) (spell : A → List Part) (Fits : A → Type 0) (says : A → R) (bytes : List ℕ) (said : R) : Type 0 where
   pub tree : A
-  pub text : IsLawfulText spell Fits bytes tree
+  pub text : IsLawfulTextIn wide spell Fits bytes tree
   pub meant : said ≡ says tree
 
 -- UTF-8, and refused by the grammar at this place
-pub record IsRefusedText (Text : Bool → Tokens → Type 0) (bytes : List ℕ) (k : Fault) (place : Place) : Type 0 where
+pub record IsRefusedTextIn (wide : Bool) (Text : Bool → Tokens → Type 0) (bytes : List ℕ) (k : Fault) (place : Place) : Type 0 where
   pub utf8 : IsUtf8 bytes
   pub bad : Placed
   pub tail : Tokens
-  pub refused : IsRefusedAt Text (tokens bytes) k bad tail
+  pub refused : IsRefusedAt Text (tokens_in wide bytes) k bad tail
   pub place_is : place ≡ bad.place
+
+-- ---- with the symbols of the other languages
+
+abbrev pub IsLawfulText : {A : Type 0} → (A → List Part) → (A → Type 0) → List ℕ → A → Type 0
+IsLawfulText = IsLawfulTextIn false
+
+abbrev pub IsTextSaying : {A R : Type 0} → (A → List Part) → (A → Type 0) → (A → R) → List ℕ → R → Type 0
+IsTextSaying = IsTextSayingIn false
+
+abbrev pub IsRefusedText : (Bool → Tokens → Type 0) → List ℕ → Fault → Place → Type 0
+IsRefusedText = IsRefusedTextIn false

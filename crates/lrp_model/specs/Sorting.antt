@@ -22,6 +22,7 @@ use Rattle.lrp_model.specs.declared.faults.QueryFault.{QueryFault}
 use Rattle.lrp_model.specs.declared.faults.QueryKind.{QueryKind}
 use Rattle.lrp_model.specs.declared.faults.QueryKind.TheVariants.{UnknownRelation, Arity, Sort as WrongSort, Unbound, Rebound, Wide, UnknownSort}
 use Rattle.lrp_model.specs.RawQueries.{RawForm, RawForms, RawQuestion, raw_atom, raw_compare, raw_member, raw_not, raw_and, raw_or, raw_implies, raw_group, raw_exists, raw_forall, raw_ranged, raw_paired, no_raws, raw}
+pub use Rattle.lrp_model.specs.RawQueries.{place_of}
 
 abbrev pub query_fault : QueryKind → Place → QueryFault
 query_fault k p = record { kind = k; place = p }
@@ -185,21 +186,6 @@ count passes bs (n ∷ ns) = if is_named_in ns n then count passes bs ns else co
 -- more than 8 variables of sort time, or more than 8 of all data sorts together
 abbrev pub too_many : Binders → List Identifier → Bool
 too_many bs names = nat_lt 8 (count is_time bs names) || nat_lt 8 (count is_data bs names)
-
--- the place of a formula, that of its first token
-abbrev pub place_of : RawForm → Place
-place_of (raw_atom p n ts) = p
-place_of (raw_compare p l op r) = p
-place_of (raw_member p t point) = p
-place_of (raw_not p f) = p
-place_of (raw_and p fs) = p
-place_of (raw_or p fs) = p
-place_of (raw_implies p f g) = p
-place_of (raw_group p f) = p
-place_of (raw_exists p c f) = p
-place_of (raw_forall p c f) = p
-place_of (raw_ranged word o from to f) = o.place
-place_of (raw_paired word o f g) = o.place
 
 -- Wide: a formula with too many free variables, these names counted beside its own; at its earliest token, before the faults inside it
 abbrev pub widened : Binders → List Identifier → RawForm → List QueryFault → List QueryFault

@@ -1,5 +1,5 @@
 -- The fault of bytes that are no text of a grammar: which kind is reported, and where.
-use Rattle.std.specs.Prelude.{◌≡◌, ℕ, Bool, true, List, ◌∷◌, ◌++◌}
+use Rattle.std.specs.Prelude.{◌≡◌, ℕ, Bool, true, false, List, ◌∷◌, ◌++◌}
 use Rattle.lrp_model.specs.declared.tokens.Place.{Place}
 use Rattle.lrp_model.specs.declared.tokens.Fault.{Fault}
 use Rattle.lrp_model.specs.declared.tokens.Fault.TheVariants.{Syntax as syntax, Number as number, TextTooLong as text_too_long, Period as period, Deep as deep, Memory as memory}
@@ -8,7 +8,7 @@ use Rattle.lrp_model.specs.declared.faults.QueryKind.{QueryKind}
 use Rattle.lrp_model.specs.declared.faults.QueryKind.TheVariants.{Utf8, Syntax, Number, Period, Deep, TextTooLong}
 use Rattle.lrp_model.specs.Tokens.{Token, Placed, Tokens}
 use Rattle.lrp_model.specs.Tokens.Token.{hole_token}
-use Rattle.lrp_model.specs.Refused.{IsCause, IsRefusedText}
+use Rattle.lrp_model.specs.Refused.{IsCause, IsRefusedTextIn}
 use Rattle.lrp_model.specs.DatabaseReading.{IsNoUtf8}
 
 -- the texts of a grammar, with the flag its lawful ones
@@ -29,19 +29,25 @@ IsRankedIn Texts number front t = Unit {0}
 IsRankedIn Texts memory front t = ⊥
 
 -- refused by the grammar at this place, for the kind that is reported there
-pub record IsNoTextOf (Texts : Grammatical) (bytes : List ℕ) (k : Fault) (place : Place) : Type 0 where
-  pub refusal : IsRefusedText Texts bytes k place
+pub record IsNoTextIn (wide : Bool) (Texts : Grammatical) (bytes : List ℕ) (k : Fault) (place : Place) : Type 0 where
+  pub refusal : IsRefusedTextIn wide Texts bytes k place
   pub ranked : IsRankedIn Texts k refusal.refused.front refusal.bad.token
 
+abbrev pub IsNoTextOf : Grammatical → List ℕ → Fault → Place → Type 0
+IsNoTextOf = IsNoTextIn false
+
 -- the fault that reading reports; the other kinds are those of sorts
+abbrev pub IsTextFaultIn : Bool → Grammatical → List ℕ → QueryKind → QueryFault → Type 0
+IsTextFaultIn wide Texts bytes Utf8 f = IsNoUtf8 bytes f.place
+IsTextFaultIn wide Texts bytes Syntax f = IsNoTextIn wide Texts bytes syntax f.place
+IsTextFaultIn wide Texts bytes Number f = IsNoTextIn wide Texts bytes number f.place
+IsTextFaultIn wide Texts bytes Period f = IsNoTextIn wide Texts bytes period f.place
+IsTextFaultIn wide Texts bytes Deep f = IsNoTextIn wide Texts bytes deep f.place
+IsTextFaultIn wide Texts bytes TextTooLong f = IsNoTextIn wide Texts bytes text_too_long f.place
+IsTextFaultIn wide Texts bytes _ f = ⊥
+
 abbrev pub IsTextFaultOf : Grammatical → List ℕ → QueryKind → QueryFault → Type 0
-IsTextFaultOf Texts bytes Utf8 f = IsNoUtf8 bytes f.place
-IsTextFaultOf Texts bytes Syntax f = IsNoTextOf Texts bytes syntax f.place
-IsTextFaultOf Texts bytes Number f = IsNoTextOf Texts bytes number f.place
-IsTextFaultOf Texts bytes Period f = IsNoTextOf Texts bytes period f.place
-IsTextFaultOf Texts bytes Deep f = IsNoTextOf Texts bytes deep f.place
-IsTextFaultOf Texts bytes TextTooLong f = IsNoTextOf Texts bytes text_too_long f.place
-IsTextFaultOf Texts bytes _ f = ⊥
+IsTextFaultOf = IsTextFaultIn false
 
 -- the same, by the kind that the fault has
 abbrev pub IsTextFault : Grammatical → List ℕ → QueryFault → Type 0

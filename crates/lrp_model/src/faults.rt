@@ -46,6 +46,8 @@ pub enum QueryKind {
     Wide,
     TextTooLong,
     UnknownSort,
+    /// A second definition of one name, or one whose name is a relation of the database.
+    Defined,
 }
 
 /// The fault of a text that is no query, or of a query that is not well-sorted.
@@ -124,6 +126,7 @@ impl QueryKind {
             QueryKind::Wide => 11,
             QueryKind::TextTooLong => 12,
             QueryKind::UnknownSort => 13,
+            QueryKind::Defined => 14,
         }
     }
 
@@ -145,6 +148,7 @@ impl QueryKind {
             QueryKind::Wide => "Wide",
             QueryKind::TextTooLong => "TextTooLong",
             QueryKind::UnknownSort => "UnknownSort",
+            QueryKind::Defined => "Defined",
         }
     }
 }

@@ -32,7 +32,10 @@ pub use list::{Copies, List};
 pub use memory::Memory;
 pub use names::{DataText, Name};
 pub use plans::{Plan, Planning, Step, StepKind};
-pub use raw::{Paired, Ranged, RawColumn, RawFormula, RawKind, RawQuery, RawTerm, RawTermKind};
+pub use raw::{
+    Paired, Ranged, RawColumn, RawDefinition, RawFile, RawFormula, RawKind, RawQuery, RawTerm,
+    RawTermKind,
+};
 pub use relations::{Bound, Column, Relation, Row, RowPoint, Sort, Value};
 pub use tokens::{Fault, LexFault, LexKind, Place, Symbol, Token, TokenKind, Word};
 pub use tuples::{Cell, Shape, Spot, Tuple};

@@ -10,7 +10,7 @@ pub struct Place {
     pub column: u32,
 }
 
-/// The symbols; `Le` is `<=`, `Ge` is `>=`, and `Bar` is `|`.
+/// The symbols; `Le` is `<=`, `Ge` is `>=`, and `Bar` is `|`. `Star`, `*`, and `Differs`, `!=`, are symbols of the wide language alone.
 #[derive(Clone, Copy, PartialEq, Eq)]
 pub enum Symbol {
     Open,
@@ -28,6 +28,8 @@ pub enum Symbol {
     Lt,
     Gt,
     Equals,
+    Star,
+    Differs,
 }
 
 /// The reserved words, which are no names; `Letter` is the `n` of a point `c+kn`.
