@@ -16,7 +16,7 @@ use Rattle.lrp_model.specs.Tokens.Token.{name_token, word_token, number_token, t
 use Rattle.lrp_model.specs.Tokens.Part.{at, any}
 use Rattle.lrp_model.specs.Databases.{comma, integer_text}
 use Rattle.std.specs.Str.Parse.{digits_value}
-use Rattle.lrp_model.specs.Lexing.{is_letter, is_name_byte, run, word_or_name, scan, symbol_from, after}
+use Rattle.lrp_model.specs.Lexing.{is_letter, is_name_byte, run, word_or_name, scan, symbol_from, after, scan_in, symbol_in}
 use Rattle.std.specs.Char.{is_ascii_digit}
 use Rattle.lrp_model.specs.Limits.{greatest_number}
 use Rattle.lrp_model.specs.Printed.{joined_by, quoted, escaped}
@@ -37,55 +37,55 @@ one_symbol : (s : Symbol) (b : ℕ) (p : Place) (rest : List ℕ) → Begins b �
 one_symbol s b p rest begins e = token_any (symbol_token s) p b [] rest tt begins e
 
 pub open_at : (p : Place) (rest : List ℕ) → Spelled (at p (symbol_token Open) ∷ []) p (40 ∷ []) rest
-unfolding scan symbol_from
+unfolding scan_in symbol_in
 open_at p rest = token_at (symbol_token Open) p 40 [] rest tt (record { plain = refl; dark = refl }) refl
 
 pub open_any : (p : Place) (rest : List ℕ) → Spelled (any (symbol_token Open) ∷ []) p (40 ∷ []) rest
-unfolding scan symbol_from
+unfolding scan_in symbol_in
 open_any p rest = one_symbol Open 40 p rest (record { plain = refl; dark = refl }) refl
 
 pub close : (p : Place) (rest : List ℕ) → Spelled (any (symbol_token Close) ∷ []) p (41 ∷ []) rest
-unfolding scan symbol_from
+unfolding scan_in symbol_in
 close p rest = one_symbol Close 41 p rest (record { plain = refl; dark = refl }) refl
 
 pub open_brace : (p : Place) (rest : List ℕ) → Spelled (any (symbol_token OpenBrace) ∷ []) p (123 ∷ []) rest
-unfolding scan symbol_from
+unfolding scan_in symbol_in
 open_brace p rest = one_symbol OpenBrace 123 p rest (record { plain = refl; dark = refl }) refl
 
 pub close_brace : (p : Place) (rest : List ℕ) → Spelled (any (symbol_token CloseBrace) ∷ []) p (125 ∷ []) rest
-unfolding scan symbol_from
+unfolding scan_in symbol_in
 close_brace p rest = one_symbol CloseBrace 125 p rest (record { plain = refl; dark = refl }) refl
 
 pub comma_only : (p : Place) (rest : List ℕ) → Spelled (any (symbol_token Comma) ∷ []) p (44 ∷ []) rest
-unfolding scan symbol_from
+unfolding scan_in symbol_in
 comma_only p rest = one_symbol Comma 44 p rest (record { plain = refl; dark = refl }) refl
 
 pub colon : (p : Place) (rest : List ℕ) → Spelled (any (symbol_token Colon) ∷ []) p (58 ∷ []) rest
-unfolding scan symbol_from
+unfolding scan_in symbol_in
 colon p rest = one_symbol Colon 58 p rest (record { plain = refl; dark = refl }) refl
 
 pub semicolon : (p : Place) (rest : List ℕ) → Spelled (any (symbol_token Semicolon) ∷ []) p (59 ∷ []) rest
-unfolding scan symbol_from
+unfolding scan_in symbol_in
 semicolon p rest = one_symbol Semicolon 59 p rest (record { plain = refl; dark = refl }) refl
 
 pub plus : (p : Place) (rest : List ℕ) → Spelled (any (symbol_token Plus) ∷ []) p (43 ∷ []) rest
-unfolding scan symbol_from
+unfolding scan_in symbol_in
 plus p rest = one_symbol Plus 43 p rest (record { plain = refl; dark = refl }) refl
 
 pub minus : (p : Place) (rest : List ℕ) → Spelled (any (symbol_token Minus) ∷ []) p (45 ∷ []) rest
-unfolding scan symbol_from
+unfolding scan_in symbol_in
 minus p rest = one_symbol Minus 45 p rest (record { plain = refl; dark = refl }) refl
 
 pub minus_at : (p : Place) (rest : List ℕ) → Spelled (at p (symbol_token Minus) ∷ []) p (45 ∷ []) rest
-unfolding scan symbol_from
+unfolding scan_in symbol_in
 minus_at p rest = token_at (symbol_token Minus) p 45 [] rest tt (record { plain = refl; dark = refl }) refl
 
 pub at_most : (p : Place) (rest : List ℕ) → Spelled (any (symbol_token Le) ∷ []) p (60 ∷ 61 ∷ []) rest
-unfolding scan symbol_from
+unfolding scan_in symbol_in
 at_most p rest = token_any (symbol_token Le) p 60 (61 ∷ []) rest tt (record { plain = refl; dark = refl }) refl
 
 pub at_least : (p : Place) (rest : List ℕ) → Spelled (any (symbol_token Ge) ∷ []) p (62 ∷ 61 ∷ []) rest
-unfolding scan symbol_from
+unfolding scan_in symbol_in
 at_least p rest = token_any (symbol_token Ge) p 62 (61 ∷ []) rest tt (record { plain = refl; dark = refl }) refl
 
 -- a comma and a blank

@@ -7,7 +7,7 @@ use Rattle.lrp_model.specs.declared.written.RawRelation.{RawRelation}
 use Rattle.lrp_model.specs.Tokens.{Takes, Spells}
 use Rattle.lrp_model.specs.Tokens.Token.{end_token}
 use Rattle.lrp_model.specs.Tokens.Part.{any}
-use Rattle.lrp_model.specs.Lexing.{after, start, tokens, tokens_from, skip, scan}
+use Rattle.lrp_model.specs.Lexing.{after, start, tokens, tokens_from, skip, scan, scan_in, tokens_in_from}
 use Rattle.lrp_model.specs.Databases.{relation_text, database_text}
 use Rattle.lrp_model.specs.Printed.{relation_bytes, database_bytes}
 use Rattle.lrp_text.proofs.Sound.{takes_join}
@@ -23,7 +23,7 @@ use Rattle.lrp_print.proofs.Utf8.{relations_utf8}
 
 -- where no bytes are left stands the end
 the_end : (p : Place) → Spells (any end_token ∷ []) (tokens_at p [])
-unfolding tokens_from skip scan
+unfolding tokens_in_from skip scan_in
 the_end p = (refl, refl)
 
 -- the tree of relations

@@ -13,7 +13,7 @@ use Rattle.lrp_model.specs.Texts.{Identifier}
 use Rattle.lrp_model.specs.Tokens.{Token}
 use Rattle.lrp_model.specs.Tokens.Token.{name_token, number_token, text_token}
 use Rattle.lrp_model.specs.Printed.{escaped, quoted}
-use Rattle.lrp_model.specs.Lexing.{is_letter, is_name_byte, is_forbidden, run, behind_run, word_or_name, Scanned, QuotedText as TextRead, text_from, text_scanned, one, one_or_two, symbol_from, scan}
+use Rattle.lrp_model.specs.Lexing.{is_letter, is_name_byte, is_forbidden, run, behind_run, word_or_name, Scanned, QuotedText as TextRead, text_from, text_scanned, one, one_or_two, symbol_from, scan, scan_in, symbol_in}
 use Rattle.lrp_text.proofs.Scans.{chosen}
 use Rattle.lrp_model.specs.Names.{IsName}
 use Rattle.lrp_print.proofs.Spelling.{took, Begins}
@@ -44,7 +44,7 @@ run_over test (b ∷ w) rest e s = by (test b) refl e (λ tail. run_over test w 
 
 -- a run of a name's bytes that begins with a letter is one token
 pub word_scanned : (b : ℕ) (bs rest : List ℕ) → is_letter b ≡ true → run is_name_byte (b ∷ bs) ≡ b ∷ bs → Stops is_name_byte rest → scan (b ∷ (bs ++ rest)) ≡ took (word_or_name (b ∷ bs)) (b ∷ bs) rest
-unfolding scan
+unfolding scan_in
 word_scanned b bs rest e whole s =
     let k = run_over is_name_byte (b ∷ bs) rest whole s in
     let here : scan (b ∷ (bs ++ rest)) ≡ took (word_or_name (run is_name_byte (b ∷ (bs ++ rest)))) (run is_name_byte (b ∷ (bs ++ rest))) (behind_run is_name_byte (b ∷ (bs ++ rest))) = rw e refl in
@@ -65,7 +65,7 @@ two_no_name s r b [] = tt
 two_no_name s r b (c ∷ bs) = chosen (λ x. NoName x.token) (c == 61) _ (one s b (c ∷ bs)) (λ e. tt) (λ e. tt)
 
 symbol_no_name : (b : ℕ) (bs : List ℕ) → NoName (symbol_from b bs).token
-unfolding symbol_from
+unfolding symbol_in
 symbol_no_name b bs =
     let P : Scanned → Type 0 = λ s. NoName s.token in
     chosen P (b == 40) (one Open b bs) _ (λ e. tt) (λ e. chosen P (b == 41) (one Close b bs) _ (λ e. tt) (λ e. chosen P (b == 123) (one OpenBrace b bs) _ (λ e. tt) (λ e.
@@ -90,7 +90,7 @@ pub record IsWord (n : Identifier) : Type 0 where
 
 -- what a name is made of
 pub name_word : (n : Identifier) → IsName n → IsWord n
-unfolding scan
+unfolding scan_in
 name_word [] h = absurd (subst NoName (ap (λ s. s.token) h) tt)
 name_word (b ∷ bs) h =
     let n = b ∷ bs in
@@ -154,7 +154,7 @@ digit_begins b e = record { plain = grind (arith, nat_tests); dark = grind (arit
 
 -- a run of digits is one token
 pub number_scanned : (b : ℕ) (bs rest : List ℕ) → is_ascii_digit b ≡ true → run is_ascii_digit (b ∷ bs) ≡ b ∷ bs → Stops is_ascii_digit rest → scan (b ∷ (bs ++ rest)) ≡ took (number_token (digits_value 10 (b ∷ bs))) (b ∷ bs) rest
-unfolding scan
+unfolding scan_in
 number_scanned b bs rest e whole s =
     let k = run_over is_ascii_digit (b ∷ bs) rest whole s in
     let here : scan (b ∷ (bs ++ rest)) ≡ took (number_token (digits_value 10 (run is_ascii_digit (b ∷ (bs ++ rest))))) (run is_ascii_digit (b ∷ (bs ++ rest))) (behind_run is_ascii_digit (b ∷ (bs ++ rest))) = rw (digit_no_letter b e, e) refl in
@@ -200,6 +200,6 @@ text_read (b ∷ t) rest h =
 
 -- a text between quotes is one token
 pub text_scanned_so : (t rest : List ℕ) → AllByRecursion IsPlain t → scan (34 ∷ ((flat_map escaped t ++ 34 ∷ []) ++ rest)) ≡ took (text_token t) (quoted t) rest
-unfolding scan
+unfolding scan_in
 text_scanned_so t rest h =
     ap (λ x. text_scanned (text_from false x)) (append_assoc (flat_map escaped t) (34 ∷ []) rest) ∙ ap text_scanned (text_read t rest h)

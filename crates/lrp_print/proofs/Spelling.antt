@@ -11,7 +11,7 @@ use Rattle.lrp_text.proofs.Sound.{takes_join}
 
 -- the tokens of bytes from a place on
 abbrev pub tokens_at : Place → List ℕ → Tokens
-tokens_at p bs = tokens_left (record { place = p; bytes = bs })
+tokens_at p bs = tokens_left false (record { place = p; bytes = bs })
 
 -- from a place on, the bytes spell the parts, and behind them stand the tokens of the rest
 pub record Spelled (parts : List Part) (place : Place) (bytes rest : List ℕ) : Type 0 where
@@ -56,10 +56,10 @@ next_token : (p : Place) (k : Token) (b : ℕ) (bs rest : List ℕ) → HasToken
 next_token p k b bs rest g s e =
     let old : At = record { place = p; bytes = b ∷ (bs ++ rest) } in
     let here : next_at old ≡ old = not_skipped p b (bs ++ rest) s in
-    let found : next_of old ≡ took k (b ∷ bs) rest = ap (λ a. scan a.bytes) here ∙ e in
+    let found : next_of false old ≡ took k (b ∷ bs) rest = ap (λ a. scan a.bytes) here ∙ e in
     let new : At = record { place = after p (b ∷ bs); bytes = rest } in
-    let behind : behind_next old ≡ new = ap (λ (a : At). record { place = after a.place (next_of old).taken; bytes = (next_of old).left }) here ∙ ap (λ (x : Scanned). record { place = after p x.taken; bytes = x.left }) found in
-    tokens_go old p k (ap (λ x. x.token) found) g (sym (ap (λ a. a.place) here)) ∙ ap (λ a. record { token = k; place = p } ∷ tokens_left a) behind
+    let behind : behind_next false old ≡ new = ap (λ (a : At). record { place = after a.place (next_of false old).taken; bytes = (next_of false old).left }) here ∙ ap (λ (x : Scanned). record { place = after p x.taken; bytes = x.left }) found in
+    tokens_go false old p k (ap (λ x. x.token) found) g (sym (ap (λ a. a.place) here)) ∙ ap (λ a. record { token = k; place = p } ∷ tokens_left false a) behind
 
 -- a token at its place
 pub token_at : (k : Token) (p : Place) (b : ℕ) (bs rest : List ℕ) → HasTokensBehind k → Begins b → scan (b ∷ (bs ++ rest)) ≡ took k (b ∷ bs) rest → Spelled (at p k ∷ []) p (b ∷ bs) rest
@@ -75,7 +75,7 @@ token_any k p b bs rest g s e =
 
 -- the tokens from a place on, by what stands there behind blanks
 abbrev tokens_from_next : At → Tokens
-tokens_from_next a = headed a.place (scan a.bytes) (scan a.bytes).token (tokens_left (record { place = after a.place (scan a.bytes).taken; bytes = (scan a.bytes).left }))
+tokens_from_next a = headed a.place (scan a.bytes) (scan a.bytes).token (tokens_left false (record { place = after a.place (scan a.bytes).taken; bytes = (scan a.bytes).left }))
 
 -- a blank is skipped
 blank_skipped : (p : Place) (b : ℕ) (bs : List ℕ) → (b == 35) ≡ false → is_blank b ≡ true → skip false p (b ∷ bs) ≡ skip false (moved p b) bs
@@ -88,4 +88,4 @@ unfolding after
 blank p b rest e d =
     let old : At = record { place = p; bytes = b ∷ rest } in
     let new : At = record { place = moved p b; bytes = rest } in
-    record { takes = next_tokens old ∙ ap tokens_from_next (blank_skipped p b rest e d) ∙ sym (next_tokens new) }
+    record { takes = next_tokens false old ∙ ap tokens_from_next (blank_skipped p b rest e d) ∙ sym (next_tokens false new) }

@@ -19,7 +19,7 @@ use Rattle.lrp_model.specs.declared.written.RawRelation.{RawRelation}
 use Rattle.lrp_model.specs.Tokens.{Token, Tokens, Part, Takes, Spells, separated, from, located_text}
 use Rattle.lrp_model.specs.Tokens.Token.{name_token, word_token, number_token, text_token, symbol_token, end_token, bad_token, hole_token}
 use Rattle.lrp_model.specs.Tokens.Part.{at, any}
-use Rattle.lrp_model.specs.Lexing.{Scanned, scan, skip, after, headed, tokens_from, tokens, start}
+use Rattle.lrp_model.specs.Lexing.{Scanned, scan, skip, after, headed, tokens_from, tokens, start, tokens_in_from}
 use Rattle.lrp_model.specs.Columns.{column_text}
 use Rattle.lrp_model.specs.Databases.{sign, integer_text, value_text, comma, bounds_text, row_text, relation_text, database_text}
 use Rattle.lrp_model.specs.DatabaseMeaning.{column_of, value_of, row_of, database_of}
@@ -37,7 +37,7 @@ headed_count p s hole_token rest n h = omega (arith, h)
 
 -- there are at most as many tokens as turns
 pub tokens_count : (n : ℕ) (p : Place) (bs : List ℕ) → length (tokens_from n p bs) ≤ n
-unfolding tokens_from
+unfolding tokens_in_from
 tokens_count zero p bs = omega arith
 tokens_count (suc n) p bs =
     let a = skip false p bs in

@@ -15,7 +15,7 @@ use Rattle.lrp_model.specs.Texts.{FitsText}
 use Rattle.lrp_model.specs.Tokens.{Token, Tokens, Part, Takes, Spells, separated, from, located_text}
 use Rattle.lrp_model.specs.Tokens.Token.{name_token, word_token, number_token, text_token, symbol_token, end_token, bad_token, hole_token}
 use Rattle.lrp_model.specs.Tokens.Part.{at, any}
-use Rattle.lrp_model.specs.Lexing.{Scanned, scan, skip, after, headed, tokens_from, tokens, start}
+use Rattle.lrp_model.specs.Lexing.{Scanned, scan, skip, after, headed, tokens_from, tokens, start, tokens_in_from}
 use Rattle.lrp_model.specs.Columns.{column_text}
 use Rattle.lrp_model.specs.Databases.{comma, value_text, name_part, bounds_text, row_text, relation_text, database_text}
 use Rattle.lrp_text.proofs.Cuts.{skip_cut, skip_rest, scan_cut, scan_rest}
@@ -54,7 +54,7 @@ headed_texted p s hole_token rest h r = (tt, r)
 
 -- all tokens of bytes of UTF-8
 pub tokens_texted : (n : ℕ) (p : Place) (bs : List ℕ) → IsUtf8 bs → AllByRecursion (λ t. TextToken t.token) (tokens_from n p bs)
-unfolding tokens_from
+unfolding tokens_in_from
 tokens_texted zero p bs u = tt
 tokens_texted (suc n) p bs u =
     let a = skip false p bs in

@@ -1,12 +1,12 @@
 -- The slice of a text, by itself, is that text.
-use Rattle.std.proofs.Common.{◌≡◌, ℕ, Bool, true, false, ◌||◌, ◌==◌, List, [], ◌∷◌, refl, ap, ◌∙◌, subst, Result, Ok, Err, codes}
+use Rattle.std.proofs.Common.{◌≡◌, ℕ, Bool, true, false, ◌||◌, ◌&&◌, ◌==◌, List, [], ◌∷◌, refl, ap, ◌∙◌, subst, Result, Ok, Err, codes}
 use Rattle.std.specs.Str.{bytes_eq}
 use Rattle.lrp_model.specs.declared.tokens.Symbol.{Symbol}
-use Rattle.lrp_model.specs.declared.tokens.Symbol.TheVariants.{Open, Close, OpenBrace, CloseBrace, Comma, Colon, Semicolon, Bar, Plus, Minus, Le, Ge, Lt, Gt, Equals}
+use Rattle.lrp_model.specs.declared.tokens.Symbol.TheVariants.{Open, Close, OpenBrace, CloseBrace, Comma, Colon, Semicolon, Bar, Plus, Minus, Le, Ge, Lt, Gt, Equals, Star}
 use Rattle.lrp_model.specs.Tokens.{Token}
 use Rattle.lrp_model.specs.Tokens.Token.{text_token, number_token, end_token}
 use Rattle.std.specs.Str.Parse.{digits_value}
-use Rattle.lrp_model.specs.Lexing.{is_letter, is_name_byte, is_forbidden, run, behind_run, word_or_name, Scanned, QuotedText as TextRead, longer, more_taken, bad_at, text_from, text_scanned, one, one_or_two, symbol_from, scan}
+use Rattle.lrp_model.specs.Lexing.{is_letter, is_name_byte, is_forbidden, run, behind_run, word_or_name, Scanned, QuotedText as TextRead, longer, more_taken, bad_at, text_from, text_scanned, one, one_or_two, symbol_in, scan_in, scan, further_symbol, no_symbol}
 use Rattle.std.specs.Char.{is_ascii_digit}
 use Rattle.lrp_text.proofs.Scans.{chosen}
 
@@ -83,32 +83,37 @@ two_no_text : (s r : Symbol) (b : ℕ) (bs : List ℕ) → NoText (one_or_two s 
 two_no_text s r b [] = tt
 two_no_text s r b (c ∷ bs) = chosen (λ x. NoText x.token) (c == 61) _ (one s b (c ∷ bs)) (λ e. tt) (λ e. tt)
 
+-- nor is a symbol of the wide language alone
+further_no_text : (b : ℕ) (bs : List ℕ) → NoText (further_symbol b bs).token
+further_no_text b [] = chosen (λ x. NoText x.token) (b == 42) (one Star b []) (no_symbol b []) (λ e. tt) (λ e. tt)
+further_no_text b (c ∷ bs) = chosen (λ x. NoText x.token) (b == 42) (one Star b (c ∷ bs)) _ (λ e. tt) (λ e. chosen (λ x. NoText x.token) ((b == 33) && (c == 61)) _ (no_symbol b (c ∷ bs)) (λ d. tt) (λ d. tt))
+
 -- a symbol is no text
-pub symbol_no_text : (b : ℕ) (bs : List ℕ) → NoText (symbol_from b bs).token
-unfolding symbol_from
-symbol_no_text b bs =
+pub symbol_no_text : (wide : Bool) (b : ℕ) (bs : List ℕ) → NoText (symbol_in wide b bs).token
+unfolding symbol_in
+symbol_no_text wide b bs =
     let P : Scanned → Type 0 = λ s. NoText s.token in
     chosen P (b == 40) (one Open b bs) _ (λ e. tt) (λ e. chosen P (b == 41) (one Close b bs) _ (λ e. tt) (λ e. chosen P (b == 123) (one OpenBrace b bs) _ (λ e. tt) (λ e.
     chosen P (b == 125) (one CloseBrace b bs) _ (λ e. tt) (λ e. chosen P (b == 44) (one Comma b bs) _ (λ e. tt) (λ e. chosen P (b == 58) (one Colon b bs) _ (λ e. tt) (λ e.
     chosen P (b == 59) (one Semicolon b bs) _ (λ e. tt) (λ e. chosen P (b == 124) (one Bar b bs) _ (λ e. tt) (λ e. chosen P (b == 43) (one Plus b bs) _ (λ e. tt) (λ e.
     chosen P (b == 45) (one Minus b bs) _ (λ e. tt) (λ e. chosen P (b == 61) (one Equals b bs) _ (λ e. tt) (λ e. chosen P (b == 60) _ _ (λ e. two_no_text Lt Le b bs) (λ e.
-    chosen P (b == 62) _ _ (λ e. two_no_text Gt Ge b bs) (λ e. tt)))))))))))))
+    chosen P (b == 62) _ _ (λ e. two_no_text Gt Ge b bs) (λ e. chosen P wide _ _ (λ w. further_no_text b bs) (λ w. tt))))))))))))))
 
 -- a text with its quotes
 quoted_same : (r : Result TextRead Scanned) → IsAlone false r → SameText (text_scanned r)
-unfolding scan
+unfolding scan_in
 quoted_same (Ok u) k t e = ap (λ x. (text_scanned x).token) k ∙ e
 quoted_same (Err s) k t e = absurd cc
 
 -- the slice of a text token is, by itself, that text
-pub scan_alone : (bs : List ℕ) → SameText (scan bs)
-unfolding scan
-scan_alone [] = λ t e. absurd cc
-scan_alone (b ∷ bs) =
+pub scan_alone : (wide : Bool) (bs : List ℕ) → SameText (scan_in wide bs)
+unfolding scan_in
+scan_alone wide [] = λ t e. absurd cc
+scan_alone wide (b ∷ bs) =
     chosen SameText (is_letter b) _ _ (λ e. none_same (record { token = word_or_name (run is_name_byte (b ∷ bs)); taken = run is_name_byte (b ∷ bs); left = behind_run is_name_byte (b ∷ bs) }) (word_no_text (run is_name_byte (b ∷ bs))))
     (λ n. chosen SameText (is_ascii_digit b) _ _ (λ e. none_same (record { token = number_token (digits_value 10 (run is_ascii_digit (b ∷ bs))); taken = run is_ascii_digit (b ∷ bs); left = behind_run is_ascii_digit (b ∷ bs) }) tt)
-    (λ m. chosen SameText (b == 34) (text_scanned (text_from false bs)) (symbol_from b bs) (λ e. quoted_same (text_from false bs) (text_alone false bs))
-    (λ o. none_same (symbol_from b bs) (symbol_no_text b bs))))
+    (λ m. chosen SameText (b == 34) (text_scanned (text_from false bs)) (symbol_in wide b bs) (λ e. quoted_same (text_from false bs) (text_alone false bs))
+    (λ o. none_same (symbol_in wide b bs) (symbol_no_text wide b bs))))
 
 -- the end is the token of no bytes alone
 abbrev EndsHere : List ℕ → Scanned → Type 0
@@ -124,11 +129,11 @@ quoted_ends bs (Ok t) e = absurd cc
 quoted_ends bs (Err s) e = absurd cc
 
 -- the end stands behind the last byte
-pub scan_end : (bs : List ℕ) → EndsHere bs (scan bs)
-unfolding scan
-scan_end [] = λ e. refl
-scan_end (b ∷ bs) =
+pub scan_end : (wide : Bool) (bs : List ℕ) → EndsHere bs (scan_in wide bs)
+unfolding scan_in
+scan_end wide [] = λ e. refl
+scan_end wide (b ∷ bs) =
     chosen (EndsHere (b ∷ bs)) (is_letter b) _ _ (λ e. none_ends (b ∷ bs) (record { token = word_or_name (run is_name_byte (b ∷ bs)); taken = run is_name_byte (b ∷ bs); left = behind_run is_name_byte (b ∷ bs) }) (word_no_text (run is_name_byte (b ∷ bs))))
     (λ n. chosen (EndsHere (b ∷ bs)) (is_ascii_digit b) _ _ (λ e. none_ends (b ∷ bs) (record { token = number_token (digits_value 10 (run is_ascii_digit (b ∷ bs))); taken = run is_ascii_digit (b ∷ bs); left = behind_run is_ascii_digit (b ∷ bs) }) tt)
-    (λ m. chosen (EndsHere (b ∷ bs)) (b == 34) (text_scanned (text_from false bs)) (symbol_from b bs) (λ e. quoted_ends (b ∷ bs) (text_from false bs))
-    (λ o. none_ends (b ∷ bs) (symbol_from b bs) (symbol_no_text b bs))))
+    (λ m. chosen (EndsHere (b ∷ bs)) (b == 34) (text_scanned (text_from false bs)) (symbol_in wide b bs) (λ e. quoted_ends (b ∷ bs) (text_from false bs))
+    (λ o. none_ends (b ∷ bs) (symbol_in wide b bs) (symbol_no_text wide b bs))))

@@ -48,15 +48,15 @@ sort_err (name_token n) k e = absurd cc
 sort_err _ k e = cc
 
 -- the token of a sort that was read, with its place
-sort_told : (t : Placed) (q : Sort × Place) → with_place t.place (sort_of t.token) ≡ Ok q → IsPart (sort_part q) t
+pub sort_told : (t : Placed) (q : Sort × Place) → with_place t.place (sort_of t.token) ≡ Ok q → IsPart (sort_part q) t
 sort_told t q e = let k = placed_is (sort_of t.token) t.place q e in (sort_is t.token q.0 k.0, k.1)
 
 -- the sort of a token with its place
-sort_seen : (q : Sort × Place) (t : Placed) → IsPart (sort_part q) t → with_place t.place (sort_of t.token) ≡ Ok q
+pub sort_seen : (q : Sort × Place) (t : Placed) → IsPart (sort_part q) t → with_place t.place (sort_of t.token) ≡ Ok q
 sort_seen q t h = rw (h.0, h.1, sort_again q.0) refl
 
 -- a sort stops for its syntax alone
-sort_stops : TestStops (λ t. with_place t.place (sort_of t.token)) sort_part (λ q. Unit {0})
+pub sort_stops : TestStops (λ t. with_place t.place (sort_of t.token)) sort_part (λ q. Unit {0})
 sort_stops = record { token = record { token = word_token Time; place = start }; value = (time_sort, start); fits = tt; is = (refl, refl); fault = λ t k e. inl (sort_err t.token k (placed_err (sort_of t.token) t.place k e)) }
 
 -- a column depends on its tokens and the next one alone

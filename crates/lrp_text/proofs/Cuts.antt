@@ -9,9 +9,9 @@ use Rattle.std.proofs.lemmas.Str.{IsCharBoundary-start, IsCharBoundary-end}
 use Rattle.lrp_model.specs.declared.tokens.Place.{Place}
 use Rattle.lrp_model.specs.Tokens.{Token}
 use Rattle.lrp_model.specs.Tokens.Token.{end_token, bad_token}
-use Rattle.lrp_model.specs.Lexing.{At, moved, after, is_blank, skip, scan}
+use Rattle.lrp_model.specs.Lexing.{At, moved, after, is_blank, skip, scan_in, scan}
 use Rattle.lrp_text.proofs.Runs.{front_of}
-use Rattle.lrp_text.proofs.Scans.{chosen, EndsPlain, ends_more, ends_boundary, StopsPlain, goes_boundary, scan_taken, after_line}
+use Rattle.lrp_text.proofs.Scans.{chosen, EndsPlain, ends_more, ends_boundary, StopsPlain, goes_boundary, scan_taken_in, after_line}
 
 -- where the bytes in front may end: nowhere else than a text may be cut
 abbrev Ends : Bool → List ℕ → List ℕ → Type 0
@@ -109,27 +109,27 @@ skip_shorter p bs =
     omega arith
 
 -- a token takes no more than there is
-pub scan_shorter : (bs : List ℕ) → length (scan bs).left ≤ length bs
-scan_shorter bs =
-    let k = scan_taken bs in
-    let size : length bs ≡ length (scan bs).taken + length (scan bs).left = ap length (sym k.whole) ∙ length-append (scan bs).taken (scan bs).left in
+pub scan_shorter : (wide : Bool) (bs : List ℕ) → length (scan_in wide bs).left ≤ length bs
+scan_shorter wide bs =
+    let k = scan_taken_in wide bs in
+    let size : length bs ≡ length (scan_in wide bs).taken + length (scan_in wide bs).left = ap length (sym k.whole) ∙ length-append (scan_in wide bs).taken (scan_in wide bs).left in
     omega arith
 
 -- the length of what a token takes and leaves
-pub scan_size : (bs : List ℕ) → length (scan bs).taken + length (scan bs).left ≡ length bs
-scan_size bs = sym (length-append (scan bs).taken (scan bs).left) ∙ ap length (scan_taken bs).whole
+pub scan_size : (wide : Bool) (bs : List ℕ) → length (scan_in wide bs).taken + length (scan_in wide bs).left ≡ length bs
+scan_size wide bs = sym (length-append (scan_in wide bs).taken (scan_in wide bs).left) ∙ ap length (scan_taken_in wide bs).whole
 
 -- the slice of a token
-pub scan_slice : (bs : List ℕ) → take (length bs - length (scan bs).left) bs ≡ (scan bs).taken
-scan_slice bs = subst (λ x. take (length x - length (scan bs).left) x ≡ (scan bs).taken) (scan_taken bs).whole (front_of (scan bs).taken (scan bs).left)
+pub scan_slice : (wide : Bool) (bs : List ℕ) → take (length bs - length (scan_in wide bs).left) bs ≡ (scan_in wide bs).taken
+scan_slice wide bs = subst (λ x. take (length x - length (scan_in wide bs).left) x ≡ (scan_in wide bs).taken) (scan_taken_in wide bs).whole (front_of (scan_in wide bs).taken (scan_in wide bs).left)
 
 -- what is left behind a token
-pub scan_rest : (bs : List ℕ) → drop (length bs - length (scan bs).left) bs ≡ (scan bs).left
-scan_rest bs = behind_front (scan bs).taken (scan bs).left bs (scan_taken bs).whole
+pub scan_rest_in : (wide : Bool) (bs : List ℕ) → drop (length bs - length (scan_in wide bs).left) bs ≡ (scan_in wide bs).left
+scan_rest_in wide bs = behind_front (scan_in wide bs).taken (scan_in wide bs).left bs (scan_taken_in wide bs).whole
 
 -- the place behind what a token takes
-pub scan_place : (p : Place) (bs : List ℕ) → after p (scan bs).taken ≡ record { line = p.line; column = p.column + length (scan bs).taken }
-scan_place p bs = after_line p (scan bs).taken (scan_taken bs).line
+pub scan_place : (wide : Bool) (p : Place) (bs : List ℕ) → after p (scan_in wide bs).taken ≡ record { line = p.line; column = p.column + length (scan_in wide bs).taken }
+scan_place wide p bs = after_line p (scan_in wide bs).taken (scan_taken_in wide bs).line
 
 -- a text may be cut behind a token, and before a bad byte
 cut_behind : (xs ys : List ℕ) (k : Token) → IsUtf8 (xs ++ ys) → ((k ≡ bad_token) × StopsPlain xs ys) ⊎ (((k ≡ end_token) × (xs ≡ [])) ⊎ EndsPlain xs) → IsCharBoundary (xs ++ ys) (length xs)
@@ -139,8 +139,15 @@ cut_behind xs ys k u (inr (inl e)) = subst (λ x. IsCharBoundary (xs ++ ys) (len
 cut_behind xs ys k u (inr (inr e)) = ends_boundary xs ys u e
 
 -- the same by the bytes that are left
+pub scan_cut_in : (wide : Bool) (bs : List ℕ) → IsUtf8 bs → IsCharBoundary bs (length bs - length (scan_in wide bs).left)
+scan_cut_in wide bs u =
+    let k = scan_taken_in wide bs in
+    let cut = cut_behind (scan_in wide bs).taken (scan_in wide bs).left (scan_in wide bs).token (subst IsUtf8 (sym k.whole) u) k.ends in
+    subst (IsCharBoundary bs) (front_length (scan_in wide bs).taken (scan_in wide bs).left bs k.whole) (subst (λ x. IsCharBoundary x (length (scan_in wide bs).taken)) k.whole cut)
+
+-- of the other languages
 pub scan_cut : (bs : List ℕ) → IsUtf8 bs → IsCharBoundary bs (length bs - length (scan bs).left)
-scan_cut bs u =
-    let k = scan_taken bs in
-    let cut = cut_behind (scan bs).taken (scan bs).left (scan bs).token (subst IsUtf8 (sym k.whole) u) k.ends in
-    subst (IsCharBoundary bs) (front_length (scan bs).taken (scan bs).left bs k.whole) (subst (λ x. IsCharBoundary x (length (scan bs).taken)) k.whole cut)
+scan_cut = scan_cut_in false
+
+pub scan_rest : (bs : List ℕ) → drop (length bs - length (scan bs).left) bs ≡ (scan bs).left
+scan_rest = scan_rest_in false

@@ -1,5 +1,6 @@
 -- What the next token is told by its lexeme, and what is read where it is taken.
-use Rattle.std.proofs.Common.{◌≡◌, ◌<◌, ◌≤◌, ℕ, Bool, true, false, List, [], ◌∷◌, refl, ap, ◌∙◌, sym, subst, Ok, Err, Result, nat_le, ◌==◌, if◌then◌else◌, length, arith}
+use Rattle.std.proofs.Common.{◌≡◌, ◌<◌, ◌≤◌, ℕ, Bool, true, false, ◌&&◌, List, [], ◌∷◌, refl, ap, ap₂, ◌∙◌, sym, subst, Ok, Err, Result, nat_le, ◌==◌, if◌then◌else◌, length, arith}
+use Rattle.std.specs.Str.{bytes_eq}
 use Rattle.std.proofs.lemmas.Bool.{le-leb, leb-true, eqb-true}
 use Rattle.lrp_model.specs.declared.tokens.Symbol.{Symbol as SymbolOf}
 use Rattle.lrp_model.specs.declared.tokens.Word.{Word as WordOf}
@@ -14,7 +15,7 @@ use Rattle.lrp_model.specs.declared.relations.Sort.{Sort}
 use Rattle.lrp_model.specs.declared.tokens.Word.TheVariants.{Time, Data}
 use Rattle.lrp_text.specs.Parsers.{ParseOutcome, accept, taken, look, eat, eaten, Reads, IsResultOrMemory}
 use Rattle.lrp_text.specs.ColumnRule.{sort_of, sort, word_sort, shown_sort}
-use Rattle.lrp_text.specs.Taking.{is_symbol_token, is_word_token, is_name_token, is_text_token, is_end_token, required, name_of, number_of, limited, period_of, limited_period, text_of, short_enough, with_place, name, number, period, text, expect_end}
+use Rattle.lrp_text.specs.Taking.{is_symbol_token, is_word_token, is_name_token, is_named_token, is_text_token, is_end_token, required, name_of, number_of, limited, period_of, limited_period, text_of, short_enough, with_place, name, number, period, text, expect_end}
 use Rattle.lrp_text.specs.declared.lexemes.Lexeme.{Lexeme}
 use Rattle.lrp_text.specs.declared.lexemes.Lexeme.TheVariants.{Name, Word, Number, LargeNumber, Text, LongText, Symbol, End, Bad}
 use Rattle.lrp_text.specs.Lexemes.{IsSaid, shows_symbol, shows_word, shows_name, shows_text, shows_end, shown_number, shown_period}
@@ -52,6 +53,9 @@ word_shown w slice = record { name = refl; word = λ _. refl; number = λ _ _. r
 
 name_shown : (slice : List ℕ) → IsShown is_name_token slice shows_name
 name_shown slice = record { name = refl; word = λ _. refl; number = λ _ _. refl; large = λ _ _. refl; text = λ _. refl; long = λ _. refl; symbol = λ _. refl; ended = refl; bad = refl }
+
+named_shown : (word slice : List ℕ) → IsShown (is_named_token word) slice (λ l. shows_name l && bytes_eq slice word)
+named_shown word slice = record { name = refl; word = λ _. refl; number = λ _ _. refl; large = λ _ _. refl; text = λ _. refl; long = λ _. refl; symbol = λ _. refl; ended = refl; bad = refl }
 
 text_shown : (slice : List ℕ) → IsShown is_text_token slice shows_text
 text_shown slice = record { name = refl; word = λ _. refl; number = λ _ _. refl; large = λ _ _. refl; text = λ _. refl; long = λ _. refl; symbol = λ _. refl; ended = refl; bad = refl }
@@ -100,6 +104,10 @@ look_word w ts l slice place st = look_shown false (is_word_token w) ts l slice 
 -- whether a name is seen
 pub look_name : (ts : Tokens) (l : Lexeme) (slice : List ℕ) (place : Place) → Stands ts l slice place → look false (λ t. is_name_token t.token) ts ≡ Ok (shows_name l, ts)
 look_name ts l slice place st = look_shown false is_name_token ts l slice place st (shows_name l) (said is_name_token slice shows_name (name_shown slice) l st.token st.said)
+
+-- whether this name is seen
+pub look_named : (word : List ℕ) (ts : Tokens) (l : Lexeme) (slice : List ℕ) (place : Place) (name same : Bool) → Stands ts l slice place → shows_name l ≡ name → bytes_eq slice word ≡ same → look false (λ t. is_named_token word t.token) ts ≡ Ok (name && same, ts)
+look_named word ts l slice place name same st e f = look_shown false (is_named_token word) ts l slice place st (name && same) (said (is_named_token word) slice (λ k. shows_name k && bytes_eq slice word) (named_shown word slice) l st.token st.said ∙ ap₂ (λ a b. a && b) e f)
 
 -- whether a text is seen
 pub look_text : (ts : Tokens) (l : Lexeme) (slice : List ℕ) (place : Place) → Stands ts l slice place → look false (λ t. is_text_token t.token) ts ≡ Ok (shows_text l, ts)
@@ -208,6 +216,13 @@ pub expects_missed : (test : Placed → Bool) (ts us : Tokens) (r : Bool) → ea
 unfolding eat accept
 expects_missed test [] us r h is = let p : ◌≡◌ {A = Bool × Tokens} (false, []) (r, us) = cc in ap (λ x. Err (Syntax, x.1)) p
 expects_missed test (t ∷ ts) us r h is = missed_at test t ts us (test t) r refl h is
+
+-- what is seen was expected, and what is not seen was not
+pub expects_seen : (test : Placed → Bool) (ts us vs : Tokens) (r : Bool) (t : Placed) → look false test ts ≡ Ok (r, vs) → r ≡ true → ts ≡ t ∷ us → accept (λ x. required (test x)) ts ≡ Ok (tt, us)
+expects_seen test ts us vs r t h is w = expects_eaten test ts us true (eats_seen test ts us vs r t h is w) refl
+
+pub expects_unseen : (test : Placed → Bool) (ts vs : Tokens) (r : Bool) → look false test ts ≡ Ok (r, vs) → r ≡ false → accept (λ x. required (test x)) ts ≡ Err (Syntax, ts)
+expects_unseen test ts vs r h is = expects_missed test ts ts false (eats_unseen test ts vs r h is) refl
 
 -- a value that the next token gives is taken
 pub accepts_next : {A : Type 0} (test : Placed → Result A Fault) (ts us : Tokens) (t u : Placed) (left : Tokens) (a : A) → ts ≡ t ∷ left → ts ≡ u ∷ us → test t ≡ Ok a → accept test ts ≡ Ok (a, us)

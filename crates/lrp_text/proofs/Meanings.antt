@@ -12,7 +12,7 @@ use Rattle.std.proofs.lemmas.Str.{IsUtf8-append, IsUtf8-take, IsUtf8-drop, IsCha
 use Rattle.lrp_model.specs.Texts.{FitsText}
 use Rattle.lrp_model.specs.Tokens.Token.{text_token, number_token}
 use Rattle.std.specs.Str.Parse.{digits_value}
-use Rattle.lrp_model.specs.Lexing.{is_letter, is_name_byte, is_forbidden, run, behind_run, word_or_name, Scanned, QuotedText as TextRead, longer, more_taken, bad_at, text_from, text_scanned, symbol_from, scan}
+use Rattle.lrp_model.specs.Lexing.{is_letter, is_name_byte, is_forbidden, run, behind_run, word_or_name, Scanned, QuotedText as TextRead, longer, more_taken, bad_at, text_from, text_scanned, symbol_from, scan, scan_in}
 use Rattle.std.specs.Char.{is_ascii_digit}
 use Rattle.lrp_text.specs.Lexemes.{read_of, text_read, ended}
 use Rattle.lrp_text.proofs.Scans.{chosen}
@@ -150,7 +150,7 @@ quoted_of bs t (Err s) is e = absurd cc
 
 -- a slice whose token is a text begins with a quote
 pub scan_quoted : (slice t : List ℕ) → (scan slice).token ≡ text_token t → IsQuoted slice t
-unfolding scan
+unfolding scan_in
 scan_quoted [] t = λ e. absurd cc
 scan_quoted (b ∷ bs) t =
     let P : Scanned → Type 0 = λ s. s.token ≡ text_token t → IsQuoted (b ∷ bs) t in
@@ -158,7 +158,7 @@ scan_quoted (b ∷ bs) t =
     (λ n. chosen P (is_ascii_digit b) _ _ (λ e. none_quoted (b ∷ bs) t (record { token = number_token (digits_value 10 (run is_ascii_digit (b ∷ bs))); taken = run is_ascii_digit (b ∷ bs); left = behind_run is_ascii_digit (b ∷ bs) }) tt)
     (λ m. chosen P (b == 34) (text_scanned (text_from false bs)) (symbol_from b bs)
     (λ e h. subst (λ x. IsQuoted (x ∷ bs) t) (sym (eqb-true b 34 e)) (quoted_of bs t (text_from false bs) refl h))
-    (λ o. none_quoted (b ∷ bs) t (symbol_from b bs) (symbol_no_text b bs))))
+    (λ o. none_quoted (b ∷ bs) t (symbol_from b bs) (symbol_no_text false b bs))))
 
 -- the end of a text, where its meaning so far is known
 ended_at : (made : List ℕ) (b : ℕ) (bs t : List ℕ) (c : Bool) → option_map (λ x. made ++ x) (if◌then◌else◌ {A = Option (List ℕ) × List ℕ} c (Some [], bs) (None, b ∷ bs)).0 ≡ Some t → made ≡ t

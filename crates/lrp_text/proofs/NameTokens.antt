@@ -1,10 +1,10 @@
 -- The names among the tokens of bytes are names, and so are those of the columns that tokens spell.
-use Rattle.std.proofs.Common.{◌≡◌, ℕ, zero, suc, Bool, true, false, ◌||◌, ◌==◌, if◌then◌else◌, List, [], ◌∷◌, ◌++◌, map, length, refl, sym, ap, subst, ◌∙◌, codes, Result, Ok, Err}
+use Rattle.std.proofs.Common.{◌≡◌, ℕ, zero, suc, Bool, true, false, ◌||◌, ◌&&◌, ◌==◌, if◌then◌else◌, List, [], ◌∷◌, ◌++◌, map, length, refl, sym, ap, subst, ◌∙◌, codes, Result, Ok, Err}
 use Rattle.std.specs.List.{AllByRecursion}
 use Rattle.std.specs.Str.{bytes_eq}
 use Rattle.lrp_model.specs.declared.tokens.Place.{Place}
 use Rattle.lrp_model.specs.declared.tokens.Symbol.{Symbol}
-use Rattle.lrp_model.specs.declared.tokens.Symbol.TheVariants.{Open, Close, OpenBrace, CloseBrace, Comma, Colon, Semicolon, Bar, Plus, Minus, Le, Ge, Lt, Gt, Equals}
+use Rattle.lrp_model.specs.declared.tokens.Symbol.TheVariants.{Open, Close, OpenBrace, CloseBrace, Comma, Colon, Semicolon, Bar, Plus, Minus, Le, Ge, Lt, Gt, Equals, Star}
 use Rattle.lrp_model.specs.declared.relations.Sort.{Sort}
 use Rattle.lrp_model.specs.declared.relations.Sort.TheVariants.{Time, Data, Named}
 use Rattle.lrp_model.specs.declared.raw.RawColumn.{RawColumn}
@@ -12,7 +12,7 @@ use Rattle.lrp_model.specs.Tokens.{Token, Tokens, Part, Takes, Spells, separated
 use Rattle.lrp_model.specs.Tokens.Token.{name_token, word_token, number_token, text_token, symbol_token, end_token, bad_token, hole_token}
 use Rattle.lrp_model.specs.Tokens.Part.{at, any}
 use Rattle.std.specs.Str.Parse.{digits_value}
-use Rattle.lrp_model.specs.Lexing.{Scanned, QuotedText as TextRead, scan, run, behind_run, is_letter, is_name_byte, word_or_name, one, one_or_two, symbol_from, text_from, text_scanned, skip, after, headed, tokens_from, tokens, start}
+use Rattle.lrp_model.specs.Lexing.{Scanned, QuotedText as TextRead, scan, run, behind_run, is_letter, is_name_byte, word_or_name, one, one_or_two, symbol_from, text_from, text_scanned, skip, after, headed, tokens, start, scan_in, symbol_in, further_symbol, no_symbol, tokens_in_from, tokens_in}
 use Rattle.std.specs.Char.{is_ascii_digit}
 use Rattle.lrp_model.specs.Columns.{column_text, sort_token}
 use Rattle.lrp_model.specs.Databases.{comma}
@@ -37,7 +37,7 @@ word_scanned r = record { token = word_or_name r; taken = r; left = [] }
 
 -- a run of a name's bytes that begins with a letter is taken whole
 scan_word : (b : ℕ) (r : List ℕ) → is_letter b ≡ true → run is_name_byte r ≡ r → behind_run is_name_byte r ≡ [] → scan (b ∷ r) ≡ word_scanned (b ∷ r)
-unfolding scan run behind_run
+unfolding scan_in run behind_run
 scan_word b r e whole none =
     let letter : is_name_byte b ≡ true = ap (λ c. c || is_ascii_digit b) e in
     let one_run : (if is_name_byte b then b ∷ run is_name_byte r else []) ≡ b ∷ r = ap (λ c. if c then b ∷ run is_name_byte r else []) letter ∙ ap (λ l. b ∷ l) whole in
@@ -98,15 +98,19 @@ two_named : (s r : Symbol) (b : ℕ) (bs : List ℕ) → NamedToken (one_or_two 
 two_named s r b [] = tt
 two_named s r b (c ∷ bs) = chosen (λ x. NamedToken x.token) (c == 61) _ (one s b (c ∷ bs)) (λ e. tt) (λ e. tt)
 
-symbol_named : (b : ℕ) (bs : List ℕ) → NamedToken (symbol_from b bs).token
-unfolding symbol_from
-symbol_named b bs =
+further_named : (b : ℕ) (bs : List ℕ) → NamedToken (further_symbol b bs).token
+further_named b [] = chosen (λ x. NamedToken x.token) (b == 42) (one Star b []) (no_symbol b []) (λ e. tt) (λ e. tt)
+further_named b (c ∷ bs) = chosen (λ x. NamedToken x.token) (b == 42) (one Star b (c ∷ bs)) _ (λ e. tt) (λ e. chosen (λ x. NamedToken x.token) ((b == 33) && (c == 61)) _ (no_symbol b (c ∷ bs)) (λ d. tt) (λ d. tt))
+
+symbol_named : (wide : Bool) (b : ℕ) (bs : List ℕ) → NamedToken (symbol_in wide b bs).token
+unfolding symbol_in
+symbol_named wide b bs =
     let P : Scanned → Type 0 = λ s. NamedToken s.token in
     chosen P (b == 40) (one Open b bs) _ (λ e. tt) (λ e. chosen P (b == 41) (one Close b bs) _ (λ e. tt) (λ e. chosen P (b == 123) (one OpenBrace b bs) _ (λ e. tt) (λ e.
     chosen P (b == 125) (one CloseBrace b bs) _ (λ e. tt) (λ e. chosen P (b == 44) (one Comma b bs) _ (λ e. tt) (λ e. chosen P (b == 58) (one Colon b bs) _ (λ e. tt) (λ e.
     chosen P (b == 59) (one Semicolon b bs) _ (λ e. tt) (λ e. chosen P (b == 124) (one Bar b bs) _ (λ e. tt) (λ e. chosen P (b == 43) (one Plus b bs) _ (λ e. tt) (λ e.
     chosen P (b == 45) (one Minus b bs) _ (λ e. tt) (λ e. chosen P (b == 61) (one Equals b bs) _ (λ e. tt) (λ e. chosen P (b == 60) _ _ (λ e. two_named Lt Le b bs) (λ e.
-    chosen P (b == 62) _ _ (λ e. two_named Gt Ge b bs) (λ e. tt)))))))))))))
+    chosen P (b == 62) _ _ (λ e. two_named Gt Ge b bs) (λ e. chosen P wide _ _ (λ w. further_named b bs) (λ w. tt))))))))))))))
 
 -- a text has no name
 text_named : (r : Result TextRead Scanned) → NamedToken (text_scanned r).token
@@ -114,12 +118,12 @@ text_named (Ok t) = tt
 text_named (Err s) = tt
 
 -- the first token of bytes has a name, if it is one
-scan_named : (bs : List ℕ) → NamedToken (scan bs).token
-unfolding scan
-scan_named [] = tt
-scan_named (b ∷ bs) =
+scan_named : (wide : Bool) (bs : List ℕ) → NamedToken (scan_in wide bs).token
+unfolding scan_in
+scan_named wide [] = tt
+scan_named wide (b ∷ bs) =
     let P : Scanned → Type 0 = λ s. NamedToken s.token in
-    chosen P (is_letter b) _ _ (λ e. first_word b bs e) (λ n. chosen P (is_ascii_digit b) _ _ (λ e. tt) (λ m. chosen P (b == 34) (text_scanned (text_from false bs)) (symbol_from b bs) (λ e. text_named (text_from false bs)) (λ o. symbol_named b bs)))
+    chosen P (is_letter b) _ _ (λ e. first_word b bs e) (λ n. chosen P (is_ascii_digit b) _ _ (λ e. tt) (λ m. chosen P (b == 34) (text_scanned (text_from false bs)) (symbol_in wide b bs) (λ e. text_named (text_from false bs)) (λ o. symbol_named wide b bs)))
 
 -- a token with those behind it
 headed_named : (p : Place) (s : Scanned) (k : Token) (rest : Tokens) → NamedToken k → AllByRecursion (λ t. NamedToken t.token) rest → AllByRecursion (λ t. NamedToken t.token) (headed p s k rest)
@@ -133,13 +137,13 @@ headed_named p s bad_token rest h r = (tt, tt)
 headed_named p s hole_token rest h r = (tt, r)
 
 -- all tokens of bytes
-pub tokens_named : (n : ℕ) (p : Place) (bs : List ℕ) → AllByRecursion (λ t. NamedToken t.token) (tokens_from n p bs)
-unfolding tokens_from
-tokens_named zero p bs = tt
-tokens_named (suc n) p bs =
+pub tokens_named : (wide : Bool) (n : ℕ) (p : Place) (bs : List ℕ) → AllByRecursion (λ t. NamedToken t.token) (tokens_in_from wide n p bs)
+unfolding tokens_in_from
+tokens_named wide zero p bs = tt
+tokens_named wide (suc n) p bs =
     let a = skip false p bs in
-    let s = scan a.bytes in
-    headed_named a.place s s.token (tokens_from n (after a.place s.taken) s.left) (scan_named a.bytes) (tokens_named n (after a.place s.taken) s.left)
+    let s = scan_in wide a.bytes in
+    headed_named a.place s s.token (tokens_in_from wide n (after a.place s.taken) s.left) (scan_named wide a.bytes) (tokens_named wide n (after a.place s.taken) s.left)
 
 -- a part of a tree's text has a name, if it is one
 abbrev pub NamedPart : Part → Type 0
@@ -189,5 +193,8 @@ columns_named (c ∷ d ∷ cs) h =
     (column_named c (all_front NamedPart (column_text c) (comma ∷ separated comma column_text (d ∷ cs)) h), columns_named (d ∷ cs) (all_tail NamedPart comma (separated comma column_text (d ∷ cs)) (all_behind NamedPart (column_text c) (comma ∷ separated comma column_text (d ∷ cs)) h)))
 
 -- the names in parts that bytes spell are names
+pub spelled_named_in : (wide : Bool) (bytes : List ℕ) (ps : List Part) → Spells ps (tokens_in wide bytes) → AllByRecursion NamedPart ps
+spelled_named_in wide bytes ps h = takes_named ps (tokens_in wide bytes) [] h (tokens_named wide (suc (length bytes)) start bytes)
+
 pub spelled_named : (bytes : List ℕ) (ps : List Part) → Spells ps (tokens bytes) → AllByRecursion NamedPart ps
-spelled_named bytes ps h = takes_named ps (tokens bytes) [] h (tokens_named (suc (length bytes)) start bytes)
+spelled_named = spelled_named_in false

@@ -1,5 +1,5 @@
 -- What a scanned token takes: the bytes before those left, on one line, up to a place where a text may be cut.
-use Rattle.std.proofs.Common.{◌≡◌, ◌<◌, ◌+◌, ◌⊎◌, inl, inr, ℕ, Bool, true, false, ◌||◌, ◌==◌, List, [], ◌∷◌, ◌++◌, refl, ap, ◌∙◌, sym, subst, if◌then◌else◌, length, get_or, Result, Ok, Err, arith, append_assoc, append-nil}
+use Rattle.std.proofs.Common.{◌≡◌, ◌<◌, ◌+◌, ◌⊎◌, inl, inr, ℕ, Bool, true, false, ◌||◌, ◌&&◌, ◌==◌, List, [], ◌∷◌, ◌++◌, refl, ap, ◌∙◌, sym, subst, if◌then◌else◌, length, get_or, Result, Ok, Err, arith, append_assoc, append-nil}
 use Rattle.std.proofs.lemmas.Bool.{eqb-true}
 use Rattle.std.proofs.lemmas.Bool.Decides.{nat_tests}
 use Rattle.std.proofs.lemmas.List.{length-append}
@@ -8,11 +8,11 @@ use Rattle.std.specs.Str.{IsUtf8, IsCharBoundary}
 use Rattle.std.proofs.lemmas.Str.{IsCharBoundary-after_ascii, IsCharBoundary-before_ascii, IsCharBoundary-end}
 use Rattle.lrp_model.specs.declared.tokens.Place.{Place}
 use Rattle.lrp_model.specs.declared.tokens.Symbol.{Symbol}
-use Rattle.lrp_model.specs.declared.tokens.Symbol.TheVariants.{Open, Close, OpenBrace, CloseBrace, Comma, Colon, Semicolon, Bar, Plus, Minus, Le, Ge, Lt, Gt, Equals}
+use Rattle.lrp_model.specs.declared.tokens.Symbol.TheVariants.{Open, Close, OpenBrace, CloseBrace, Comma, Colon, Semicolon, Bar, Plus, Minus, Le, Ge, Lt, Gt, Equals, Star, Differs}
 use Rattle.lrp_model.specs.Tokens.{Token}
-use Rattle.lrp_model.specs.Tokens.Token.{end_token, bad_token, number_token}
+use Rattle.lrp_model.specs.Tokens.Token.{end_token, bad_token, number_token, symbol_token}
 use Rattle.std.specs.Str.Parse.{digits_value}
-use Rattle.lrp_model.specs.Lexing.{is_letter, is_name_byte, is_forbidden, moved, after, run, behind_run, word_or_name, Scanned, QuotedText as TextRead, longer, more_taken, bad_at, text_from, text_scanned, one, one_or_two, symbol_from, scan}
+use Rattle.lrp_model.specs.Lexing.{is_letter, is_name_byte, is_forbidden, moved, after, run, behind_run, word_or_name, Scanned, QuotedText as TextRead, longer, more_taken, bad_at, text_from, text_scanned, one, one_or_two, symbol_in, scan_in, scan, further_symbol, no_symbol}
 use Rattle.std.specs.Char.{is_ascii_digit}
 use Rattle.lrp_text.proofs.Runs.{run_whole}
 
@@ -182,10 +182,32 @@ two_taken s r v b (c ∷ bs) feed small e =
     (λ d. let equals : c ≡ 61 = eqb-true c 61 d in record { whole = refl; line = (subst (λ x. (x == 10) ≡ false) (sym is) feed, (no_feed (λ x. x == 61) c true false d refl (λ h. absurd cc), tt)); ends = inr (inr (b ∷ [], c, refl, omega arith)) })
     (λ d. one_taken s v b (c ∷ bs) feed small e)
 
+-- no symbol takes nothing
+none_taken : (b : ℕ) (bs : List ℕ) → IsTaken (b ∷ bs) (no_symbol b bs)
+none_taken b bs = record { whole = refl; line = tt; ends = inl (refl, inl refl) }
+
+-- what a symbol of the wide language alone takes
+further_taken : (b : ℕ) (bs : List ℕ) → IsTaken (b ∷ bs) (further_symbol b bs)
+further_taken b [] = chosen (IsTaken (b ∷ [])) (b == 42) _ _ (one_taken Star 42 b [] refl (omega arith)) (λ n. none_taken b [])
+further_taken b (c ∷ bs) =
+    chosen (IsTaken (b ∷ c ∷ bs)) (b == 42) _ _ (one_taken Star 42 b (c ∷ bs) refl (omega arith)) (λ n.
+    chosen (IsTaken (b ∷ c ∷ bs)) ((b == 33) && (c == 61)) _ _ (differs_taken b c bs) (λ m. none_taken b (c ∷ bs)))
+  where
+    both_true : (x y : Bool) → (x && y) ≡ true → (x ≡ true) × (y ≡ true)
+    both_true true y e = (refl, e)
+    both_true false y e = absurd cc
+
+    differs_taken : (b c : ℕ) (bs : List ℕ) → ((b == 33) && (c == 61)) ≡ true → IsTaken (b ∷ c ∷ bs) (record { token = symbol_token Differs; taken = b ∷ c ∷ []; left = bs })
+    differs_taken b c bs e =
+        let k = both_true (b == 33) (c == 61) e in
+        let mark : b ≡ 33 = eqb-true b 33 k.0 in
+        let equals : c ≡ 61 = eqb-true c 61 k.1 in
+        record { whole = refl; line = (subst (λ x. (x == 10) ≡ false) (sym mark) refl, (subst (λ x. (x == 10) ≡ false) (sym equals) refl, tt)); ends = inr (inr (b ∷ [], c, refl, omega arith)) }
+
 -- what a symbol takes
-symbol_taken : (b : ℕ) (bs : List ℕ) → IsTaken (b ∷ bs) (symbol_from b bs)
-unfolding symbol_from
-symbol_taken b bs =
+symbol_taken : (wide : Bool) (b : ℕ) (bs : List ℕ) → IsTaken (b ∷ bs) (symbol_in wide b bs)
+unfolding symbol_in
+symbol_taken wide b bs =
     let P : Scanned → Type 0 = IsTaken (b ∷ bs) in
     chosen P (b == 40) _ _ (one_taken Open 40 b bs refl (omega arith)) (λ n1.
     chosen P (b == 41) _ _ (one_taken Close 41 b bs refl (omega arith)) (λ n2.
@@ -200,7 +222,7 @@ symbol_taken b bs =
     chosen P (b == 61) _ _ (one_taken Equals 61 b bs refl (omega arith)) (λ n11.
     chosen P (b == 60) _ _ (two_taken Lt Le 60 b bs refl (omega arith)) (λ n12.
     chosen P (b == 62) _ _ (two_taken Gt Ge 62 b bs refl (omega arith)) (λ n13.
-    record { whole = refl; line = tt; ends = inl (refl, inl refl) })))))))))))))
+    chosen P wide _ _ (λ w. further_taken b bs) (λ w. record { whole = refl; line = tt; ends = inl (refl, inl refl) }))))))))))))))
 
 -- a byte of a name is one of ASCII
 name_small : (b : ℕ) → is_name_byte b ≡ true → b < 128
@@ -211,10 +233,10 @@ digit_small : (b : ℕ) → is_ascii_digit b ≡ true → b < 128
 digit_small b e = grind (arith, nat_tests)
 
 -- what the token takes that bytes begin with
-pub scan_taken : (bs : List ℕ) → IsTaken bs (scan bs)
-unfolding scan
-scan_taken [] = record { whole = refl; line = tt; ends = inr (inl (refl, refl)) }
-scan_taken (b ∷ bs) =
+pub scan_taken_in : (wide : Bool) (bs : List ℕ) → IsTaken bs (scan_in wide bs)
+unfolding scan_in
+scan_taken_in wide [] = record { whole = refl; line = tt; ends = inr (inl (refl, refl)) }
+scan_taken_in wide (b ∷ bs) =
     let P : Scanned → Type 0 = IsTaken (b ∷ bs) in
     chosen P (is_letter b) _ _
     (λ e. run_taken_so is_name_byte (word_or_name (run is_name_byte (b ∷ bs))) b bs (λ x t. no_feed is_name_byte x true false t refl (λ h. absurd cc)) name_small (ap (λ c. c || is_ascii_digit b) e))
@@ -222,4 +244,8 @@ scan_taken (b ∷ bs) =
     (λ e. run_taken_so is_ascii_digit (number_token (digits_value 10 (run is_ascii_digit (b ∷ bs)))) b bs (λ x t. no_feed is_ascii_digit x true false t refl (λ h. absurd cc)) digit_small e)
     (λ m. chosen P (b == 34) _ _
     (λ e. subst (λ x. IsTaken (x ∷ bs) (text_scanned (text_from false bs))) (sym (eqb-true b 34 e)) (quoted_taken bs (text_from false bs) (text_taken false bs)))
-    (λ o. symbol_taken b bs)))
+    (λ o. symbol_taken wide b bs)))
+
+-- of the other languages
+pub scan_taken : (bs : List ℕ) → IsTaken bs (scan bs)
+scan_taken = scan_taken_in false

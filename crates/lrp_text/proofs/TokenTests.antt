@@ -1,7 +1,7 @@
 -- The tests of tokens, and what they say.
 use Rattle.std.proofs.Common.{◌≡◌, ◌⊎◌, inl, inr, ◌≤◌, ℕ, zero, suc, Bool, true, false, List, [], refl, ap, ◌∙◌, sym, subst, Ok, Err, Result, arith, nat_le, ◌==◌, length}
 use Rattle.lrp_model.specs.declared.tokens.Symbol.{Symbol}
-use Rattle.lrp_model.specs.declared.tokens.Symbol.TheVariants.{Open, Close, OpenBrace, CloseBrace, Comma, Colon, Semicolon, Bar, Plus, Minus, Le, Ge, Lt, Gt, Equals}
+use Rattle.lrp_model.specs.declared.tokens.Symbol.TheVariants.{Open, Close, OpenBrace, CloseBrace, Comma, Colon, Semicolon, Bar, Plus, Minus, Le, Ge, Lt, Gt, Equals, Star, Differs}
 use Rattle.lrp_model.specs.declared.tokens.Word.{Word}
 use Rattle.lrp_model.specs.declared.tokens.Word.TheVariants.{Relation, Where, Time, Data, Letter, Exists, Forall, Not, And, Or, Implies, In}
 use Rattle.lrp_model.specs.declared.tokens.Place.{Place}
@@ -37,6 +37,8 @@ same_symbol_is Ge Ge e = refl
 same_symbol_is Lt Lt e = refl
 same_symbol_is Gt Gt e = refl
 same_symbol_is Equals Equals e = refl
+same_symbol_is Star Star e = refl
+same_symbol_is Differs Differs e = refl
 same_symbol_is _ _ e = absurd cc
 
 -- a symbol is found the same as itself
@@ -56,6 +58,8 @@ same_symbol_refl Ge = refl
 same_symbol_refl Lt = refl
 same_symbol_refl Gt = refl
 same_symbol_refl Equals = refl
+same_symbol_refl Star = refl
+same_symbol_refl Differs = refl
 
 -- words that are found the same are
 same_word_is : (s t : Word) → same_word s t ≡ true → s ≡ t

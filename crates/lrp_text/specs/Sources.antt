@@ -1,10 +1,10 @@
 -- What stands next in a source, and the tokens that are left of it.
-use Rattle.std.specs.Prelude.{◌≡◌, ◌<◌, ◌+◌, ◌^◌, ℕ, suc, false, List, [], ◌∷◌, length}
+use Rattle.std.specs.Prelude.{◌≡◌, ◌<◌, ◌+◌, ◌^◌, ℕ, suc, Bool, false, List, [], ◌∷◌, length}
 use Rattle.lrp_text.specs.declared.sources.Source.{Source}
 use Rattle.lrp_model.specs.declared.tokens.Place.{Place}
 use Rattle.lrp_model.specs.Tokens.{Token, Tokens}
 use Rattle.lrp_model.specs.Tokens.Token.{text_token, end_token, bad_token}
-use Rattle.lrp_model.specs.Lexing.{At, Scanned, after, skip, scan, tokens_from}
+use Rattle.lrp_model.specs.Lexing.{At, Scanned, after, skip, scan_in, tokens_in_from}
 use Rattle.lrp_text.specs.declared.lexemes.Lexeme.{Lexeme}
 use Rattle.lrp_text.specs.declared.lexemes.Found.{Found}
 use Rattle.lrp_text.specs.declared.lexemes.Lexeme.TheVariants.{Bad}
@@ -23,22 +23,22 @@ pub record HasPlacesInRange (s : At) : Type 0 where
 abbrev pub next_at : At → At
 next_at s = skip false s.place s.bytes
 
--- the token there, and the bytes that it takes
-abbrev pub next_of : At → Scanned
-next_of s = scan (next_at s).bytes
+-- the token there, and the bytes that it takes; the flag says that the symbols of the wide language are among the tokens
+abbrev pub next_of : Bool → At → Scanned
+next_of wide s = scan_in wide (next_at s).bytes
 
 -- behind that token
-abbrev pub behind_next : At → At
-behind_next s = record { place = after (next_at s).place (next_of s).taken; bytes = (next_of s).left }
+abbrev pub behind_next : Bool → At → At
+behind_next wide s = record { place = after (next_at s).place (next_of wide s).taken; bytes = (next_of wide s).left }
 
 -- the tokens of the bytes that are left, the last one the end or a bad byte
-abbrev pub tokens_left : At → Tokens
-tokens_left s = tokens_from (suc (length s.bytes)) s.place s.bytes
+abbrev pub tokens_left : Bool → At → Tokens
+tokens_left wide s = tokens_in_from wide (suc (length s.bytes)) s.place s.bytes
 
 -- what stands next is this lexeme, with its slice and its place, and the source goes on behind it; at a bad byte it stays
-abbrev pub IsFoundLexeme : At → Lexeme → List ℕ → Place → At → Type 0
-IsFoundLexeme old Bad slice place new = ((next_of old).token ≡ bad_token) × (slice ≡ (next_of old).taken) × (place ≡ after (next_at old).place (next_of old).taken) × (new ≡ old)
-IsFoundLexeme old l slice place new = IsSaid l slice (next_of old).token × (slice ≡ (next_of old).taken) × (place ≡ (next_at old).place) × (new ≡ behind_next old)
+abbrev pub IsFoundLexeme : Bool → At → Lexeme → List ℕ → Place → At → Type 0
+IsFoundLexeme wide old Bad slice place new = ((next_of wide old).token ≡ bad_token) × (slice ≡ (next_of wide old).taken) × (place ≡ after (next_at old).place (next_of wide old).taken) × (new ≡ old)
+IsFoundLexeme wide old l slice place new = IsSaid l slice (next_of wide old).token × (slice ≡ (next_of wide old).taken) × (place ≡ (next_at old).place) × (new ≡ behind_next wide old)
 
 -- the next token is what a lexeme says, at its place; where it is a text, the slice by itself is that text; behind the end stands nothing
 pub record Stands (ts : Tokens) (l : Lexeme) (slice : List ℕ) (place : Place) : Type 0 where
@@ -46,7 +46,7 @@ pub record Stands (ts : Tokens) (l : Lexeme) (slice : List ℕ) (place : Place) 
   pub left : Tokens
   pub whole : ts ≡ record { token = token; place = place } ∷ left
   pub said : IsSaid l slice token
-  pub text : (t : List ℕ) → token ≡ text_token t → (scan slice).token ≡ text_token t
+  pub text : (t : List ℕ) → token ≡ text_token t → (scan_in false slice).token ≡ text_token t
   pub last : token ≡ end_token → left ≡ []
 
 -- others follow this token
@@ -62,5 +62,6 @@ Goes (t ∷ ts) = HasTokensBehind t.token
 
 -- a cursor: what stands next where it is, and the source behind that
 pub record IsCursorAt (here : Source) (found : Found) (behind : Source) : Type 0 where
-  pub next : IsFoundLexeme (at_of here) found.lexeme found.slice.now found.place (at_of behind)
+  pub next : IsFoundLexeme here.wide (at_of here) found.lexeme found.slice.now found.place (at_of behind)
+  pub signs : behind.wide ≡ here.wide
   pub range : HasPlacesInRange (at_of behind)

@@ -1,5 +1,5 @@
 -- What a lexer gives: the tokens of a text in order, or where and why there is none.
-use Rattle.std.specs.Prelude.{◌≡◌, ◌≤◌, ◌<◌, ℕ, List, [], ◌∷◌, ◌++◌, length, Result, Ok, Err}
+use Rattle.std.specs.Prelude.{◌≡◌, ◌≤◌, ◌<◌, ℕ, List, [], ◌∷◌, ◌++◌, length, Result, Ok, Err, false}
 use Rattle.lrp_model.specs.declared.tokens.Place.{Place}
 use Rattle.lrp_model.specs.declared.tokens.Token.{Token as SourceToken}
 use Rattle.lrp_model.specs.declared.tokens.TokenKind.{TokenKind}
@@ -34,21 +34,21 @@ IsFaulty _ _ = ⊥
 
 -- the next token is given, with its slice and its place, and the lexer stands behind it
 pub record GivesToken (old new : At) (kind : TokenKind) (slice : List ℕ) (place : Place) : Type 0 where
-  pub kind_is : IsTokenOfKind kind (next_of old).token
-  pub slice_is : slice ≡ (next_of old).taken
+  pub kind_is : IsTokenOfKind kind (next_of false old).token
+  pub slice_is : slice ≡ (next_of false old).taken
   pub place_is : place ≡ (next_at old).place
-  pub goes_on : new ≡ behind_next old
+  pub goes_on : new ≡ behind_next false old
 
 -- the next token is faulty; the lexer stands behind it, or at a bad byte where it was
 pub record GivesFault (old new : At) (kind : LexKind) (place at : Place) (next : At) : Type 0 where
-  pub kind_is : IsFaulty kind (next_of old).token
+  pub kind_is : IsFaulty kind (next_of false old).token
   pub place_is : place ≡ at
   pub goes_on : new ≡ next
 
 -- a fault, at its token or at its byte
 abbrev pub FaultAt : At → At → LexKind → Place → Type 0
-FaultAt old new BadByte place = GivesFault old new BadByte place (after (next_at old).place (next_of old).taken) old
-FaultAt old new kind place = GivesFault old new kind place (next_at old).place (behind_next old)
+FaultAt old new BadByte place = GivesFault old new BadByte place (after (next_at old).place (next_of false old).taken) old
+FaultAt old new kind place = GivesFault old new kind place (next_at old).place (behind_next false old)
 
 -- what the next token gives
 abbrev pub GivesNext : At → At → Result SourceToken LexFault → Type 0
@@ -97,4 +97,4 @@ pub record IsTextSlice (slice : List ℕ) : Type 0 where
 
 -- a slice that is the text that stands next
 abbrev pub IsNextText : At → List ℕ → Type 0
-IsNextText old slice = (s : IsTextSlice slice) × ((next_of old).token ≡ text_token s.text)
+IsNextText old slice = (s : IsTextSlice slice) × ((next_of false old).token ≡ text_token s.text)

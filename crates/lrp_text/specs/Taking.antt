@@ -1,7 +1,8 @@
 -- What a parser may take as its next token.
 use Rattle.std.specs.Prelude.{◌≤◌, ℕ, Bool, true, false, List, [], Result, Ok, Err, length, nat_le, ◌==◌}
+use Rattle.std.specs.Str.{bytes_eq}
 use Rattle.lrp_model.specs.declared.tokens.Symbol.{Symbol}
-use Rattle.lrp_model.specs.declared.tokens.Symbol.TheVariants.{Open, Close, OpenBrace, CloseBrace, Comma, Colon, Semicolon, Bar, Plus, Minus, Le, Ge, Lt, Gt, Equals}
+use Rattle.lrp_model.specs.declared.tokens.Symbol.TheVariants.{Open, Close, OpenBrace, CloseBrace, Comma, Colon, Semicolon, Bar, Plus, Minus, Le, Ge, Lt, Gt, Equals, Star, Differs}
 use Rattle.lrp_model.specs.declared.tokens.Word.{Word}
 use Rattle.lrp_model.specs.declared.tokens.Word.TheVariants.{Relation, Where, Time, Data, Letter, Exists, Forall, Not, And, Or, Implies, In}
 use Rattle.lrp_model.specs.declared.tokens.Place.{Place}
@@ -31,6 +32,8 @@ same_symbol Ge Ge = true
 same_symbol Lt Lt = true
 same_symbol Gt Gt = true
 same_symbol Equals Equals = true
+same_symbol Star Star = true
+same_symbol Differs Differs = true
 same_symbol _ _ = false
 
 -- whether two reserved words are one
@@ -168,6 +171,19 @@ is_text t = is_text_token t.token
 -- whether a name stands there
 abbrev pub is_name : Placed → Bool
 is_name t = is_name_token t.token
+
+-- whether a token is this name
+abbrev pub is_named_token : List ℕ → Token → Bool
+is_named_token word (name_token n) = bytes_eq n word
+is_named_token word _ = false
+
+-- whether this name stands there
+abbrev pub is_named : List ℕ → Placed → Bool
+is_named word t = is_named_token word t.token
+
+-- takes this name
+abbrev pub expect_named : List ℕ → Parser (Unit {0})
+expect_named word = accept (λ t. required (is_named word t))
 
 -- whether a token is the end
 abbrev pub is_end_token : Token → Bool

@@ -21,7 +21,7 @@ impl<'a> Model for TokenCursor<'a> {
 
     ghost Value = { List Placed };
 
-    ghost view = { λ c. tokens_left (at_of c.here) };
+    ghost view = { λ c. tokens_left c.here.wide (at_of c.here) };
 
     ghost invariant = { λ c. IsCursorAt c.here c.found c.behind };
 }
@@ -29,10 +29,10 @@ impl<'a> Model for TokenCursor<'a> {
 impl<'a> TokenCursor<'a> {
     ghost use Rattle.std.specs.Prelude.{◌≡◌, ◌≢◌, ◌≤◌, ◌<◌, ◌∷◌, true, false, length, Ok, Err, IfOk};
     ghost use Rattle.lrp_model.specs.Tokens.{Placed};
-    ghost use Rattle.lrp_model.specs.Lexing.{tokens};
+    ghost use Rattle.lrp_model.specs.Lexing.{tokens, tokens_in};
     ghost use Rattle.lrp_model.specs.Limits.{greatest_number, most_bytes};
     ghost use Rattle.lrp_text.specs.Parsers.{Reads, look, eat};
-    ghost use Rattle.lrp_text.specs.Taking.{here, is_symbol, is_word, is_name, is_text, is_end, expect, expect_word, expect_end, behind_end, number, period, IsWrittenPeriod, name, text};
+    ghost use Rattle.lrp_text.specs.Taking.{here, is_symbol, is_word, is_name, is_named, expect_named, is_text, is_end, expect, expect_word, expect_end, behind_end, number, period, IsWrittenPeriod, name, text};
     ghost use Rattle.lrp_text.specs.Sources.{Stands, Goes};
 
     /// The tokens of a text of at most 16,777,216 bytes.
@@ -40,9 +40,18 @@ impl<'a> TokenCursor<'a> {
         requires { length text.now ≤ most_bytes }
         ensures { result ≡ tokens text.now }
     {
+        TokenCursor::of(text, false)
+    }
+
+    /// The same, where the flag says that the symbols of the wide language are among the tokens.
+    pub fn of(text: &'a str, wide: bool) -> Self
+        requires { length text.now ≤ most_bytes }
+        ensures { result ≡ tokens_in wide text.now }
+    {
         let here = Source {
             place: Place { line: 1, column: 1 },
             rest: text,
+            wide,
         };
         let (found, behind) = step(here);
         TokenCursor {
@@ -98,6 +107,28 @@ impl<'a> TokenCursor<'a> {
         ensures { look false is_name self.now ≡ Ok (result, self.now) }
     {
         self.peek().lexeme.is_name()
+    }
+
+    /// Whether this name comes next, which is no reserved word.
+    pub fn sees_named(&self, word: &str) -> bool
+        ensures { look false (is_named word.now) self.now ≡ Ok (result, self.now) }
+    {
+        let next = self.peek();
+        next.lexeme.is_name() && next.slice == word
+    }
+
+    /// Takes this name, or refuses what stands there.
+    pub fn expect_named(&mut self, word: &str) -> Result<(), Fault>
+        ensures value { Reads (expect_named word.now self.old) result self.new }
+        ensures shorter { length self.new ≤ length self.old }
+        ensures fewer { IfOk result (λ _. length self.new < length self.old) }
+        ensures takes_no_memory { result ≢ Err Fault.Memory }
+    {
+        if !self.sees_named(word) {
+            return Err(Fault::Syntax);
+        }
+        self.advance();
+        Ok(())
     }
 
     /// Whether a text comes next, however long.

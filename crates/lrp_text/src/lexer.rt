@@ -11,6 +11,7 @@ pub struct Lexer<'a> {
 }
 
 impl<'a> Model for Lexer<'a> {
+    ghost use Rattle.std.specs.Prelude.{◌≡◌, false};
     ghost use Rattle.lrp_model.specs.Lexing.{At};
     ghost use Rattle.lrp_text.specs.Sources.{at_of, HasPlacesInRange};
 
@@ -18,11 +19,11 @@ impl<'a> Model for Lexer<'a> {
 
     ghost view = { λ l. at_of l.source };
 
-    ghost invariant = { λ l. HasPlacesInRange (at_of l.source) };
+    ghost invariant = { λ l. (l.source.wide ≡ false) × HasPlacesInRange (at_of l.source) };
 }
 
 impl<'a> Lexer<'a> {
-    ghost use Rattle.std.specs.Prelude.{◌≡◌, ◌≤◌, length, IfOk};
+    ghost use Rattle.std.specs.Prelude.{◌≡◌, ◌≤◌, false, length, IfOk};
     ghost use Rattle.lrp_model.specs.Lexing.{start};
     ghost use Rattle.lrp_text.specs.Sources.{IsFoundLexeme, tokens_left};
     ghost use Rattle.lrp_text.specs.Stream.{GivesNext, IsNextToken, IsSliceOf, IsNextText};
@@ -37,13 +38,14 @@ impl<'a> Lexer<'a> {
             source: Source {
                 place: Place { line: 1, column: 1 },
                 rest: text,
+                wide: false,
             },
         }
     }
 
     // What stands next, with its slice and its place.
     fn found(&mut self) -> Found<'a>
-        ensures { IsFoundLexeme self.old result.lexeme result.slice.now result.place self.new }
+        ensures { IsFoundLexeme false self.old result.lexeme result.slice.now result.place self.new }
     {
         let (found, source) = step(self.source);
         self.source = source;
@@ -56,7 +58,7 @@ impl<'a> Lexer<'a> {
     /// end inside a text, and comes again for ever, as the end does.
     pub fn next(&mut self) -> Result<Token<'a>, LexFault>
         ensures step { GivesNext self.old self.new result }
-        ensures order { IsNextToken result (tokens_left self.old) (tokens_left self.new) }
+        ensures order { IsNextToken result (tokens_left false self.old) (tokens_left false self.new) }
         ensures slice { IfOk result (λ t. IsSliceOf self.old t.slice.now t.place self.new) }
         // What the slice of a text means is what `text_of` gives of it.
         ensures text { IfOk result (λ t. t.kind ≡ TokenKind.Text

@@ -2,7 +2,7 @@
 ghost use Rattle.std.specs.Prelude.{◌≡◌, ◌<◌, [], ◌∷◌, MatchOption, IfSome, length};
 ghost use Rattle.std.specs.Option.{option_map};
 ghost use Rattle.std.specs.Str.Parse.{digits_value};
-ghost use Rattle.lrp_model.specs.Lexing.{symbol_from, word_or_name, run, behind_run, is_name_byte, scan as scan_rule};
+ghost use Rattle.lrp_model.specs.Lexing.{symbol_in, word_or_name, run, behind_run, is_name_byte, scan_in as scan_rule};
 ghost use Rattle.std.specs.Char.{is_ascii_digit as is_digit_byte};
 ghost use Rattle.lrp_model.specs.Tokens.Token.{symbol_token};
 ghost use Rattle.lrp_text.specs.Lexemes.{IsLexeme, IsNamed, IsNumberLexeme, bad_symbol, text_read, behind_bytes, ended};
@@ -12,11 +12,11 @@ use crate::lexemes::Lexeme;
 use lrp_model::{LIMIT, Symbol, Word};
 
 // The symbol that a byte and those behind it begin with, and what follows it.
-#[tactic(auto, unfolding(lrp_model::specs::Lexing::symbol_from))]
-fn symbol(first: u8, rest: &[u8]) -> Option<(Symbol, &[u8])>
-    ensures { MatchOption result (symbol_from first rest.now ≡ bad_symbol first rest.now)
-        (λ r. ((symbol_from first rest.now).token ≡ symbol_token r.0)
-        × ((symbol_from first rest.now).left ≡ r.1.now)) }
+#[tactic(auto, unfolding(lrp_model::specs::Lexing::symbol_in))]
+fn symbol(wide: bool, first: u8, rest: &[u8]) -> Option<(Symbol, &[u8])>
+    ensures { MatchOption result (symbol_in wide first rest.now ≡ bad_symbol first rest.now)
+        (λ r. ((symbol_in wide first rest.now).token ≡ symbol_token r.0)
+        × ((symbol_in wide first rest.now).left ≡ r.1.now)) }
 {
     let one = match first {
         b'(' => Symbol::Open,
@@ -37,6 +37,11 @@ fn symbol(first: u8, rest: &[u8]) -> Option<(Symbol, &[u8])>
         b'>' => match rest {
             [b'=', tail @ ..] => return Some((Symbol::Ge, tail)),
             _ => Symbol::Gt,
+        },
+        b'*' if wide => Symbol::Star,
+        b'!' if wide => match rest {
+            [b'=', tail @ ..] => return Some((Symbol::Differs, tail)),
+            _ => return None,
         },
         _ => return None,
     };
@@ -125,11 +130,12 @@ fn text(bytes: &[u8]) -> (Option<usize>, &[u8])
     }
 }
 
-// The token that the bytes begin with, and the bytes behind it; at a byte that begins none, the bytes from it on.
-#[tactic(auto, unfolding(lrp_model::specs::Lexing::scan))]
-pub fn scan(bytes: &[u8]) -> (Lexeme, &[u8])
-    ensures lexeme { IsLexeme result.0 (scan_rule bytes.now) }
-    ensures left { result.1.now ≡ (scan_rule bytes.now).left }
+// The token that the bytes begin with, and the bytes behind it; at a byte that begins none, the bytes from it on. The flag
+// says that the symbols of the wide language are among the tokens.
+#[tactic(auto, unfolding(lrp_model::specs::Lexing::scan_in))]
+pub fn scan(wide: bool, bytes: &[u8]) -> (Lexeme, &[u8])
+    ensures lexeme { IsLexeme result.0 (scan_rule wide bytes.now) }
+    ensures left { result.1.now ≡ (scan_rule wide bytes.now).left }
 {
     match bytes {
         [] => (Lexeme::End, bytes),
@@ -140,7 +146,7 @@ pub fn scan(bytes: &[u8]) -> (Lexeme, &[u8])
             (Some(_), rest) => (Lexeme::LongText, rest),
             (None, rest) => (Lexeme::Bad, rest),
         },
-        [b, tail @ ..] => match symbol(*b, tail) {
+        [b, tail @ ..] => match symbol(wide, *b, tail) {
             Some((symbol, rest)) => (Lexeme::Symbol(symbol), rest),
             None => (Lexeme::Bad, bytes),
         },

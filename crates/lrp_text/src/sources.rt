@@ -1,6 +1,6 @@
 // What is left of a text, and what stands next in it.
 ghost use Rattle.std.specs.Prelude.{◌≡◌, ◌+◌, length, false};
-ghost use Rattle.lrp_model.specs.Lexing.{skip as skip_rule, scan as scan_rule};
+ghost use Rattle.lrp_model.specs.Lexing.{skip as skip_rule, scan_in as scan_rule};
 ghost use Rattle.lrp_text.specs.Lexemes.{IsLexeme};
 ghost use Rattle.lrp_text.specs.Sources.{at_of, next_at, IsFoundLexeme, HasPlacesInRange};
 
@@ -9,11 +9,12 @@ use crate::lexemes::{Found, Lexeme};
 use crate::scanning::scan;
 use lrp_model::Place;
 
-/// The rest of a text, and the place where it begins.
+/// The rest of a text, the place where it begins, and whether its symbols are those of the wide language.
 #[derive(Clone, Copy)]
 pub struct Source<'a> {
     pub place: Place,
     pub rest: &'a str,
+    pub wide: bool,
 }
 
 // Goes behind the blanks and comments that come first.
@@ -21,6 +22,7 @@ pub struct Source<'a> {
 fn behind_blanks(source: Source<'_>) -> Source<'_>
     requires { HasPlacesInRange (at_of source) }
     ensures next { at_of result ≡ next_at (at_of source.entry) }
+    ensures signs { result.wide ≡ source.entry.wide }
     ensures range { HasPlacesInRange (at_of result) }
 {
     let text = source.rest;
@@ -28,18 +30,19 @@ fn behind_blanks(source: Source<'_>) -> Source<'_>
     Source {
         place,
         rest: &text[text.len() - rest.len()..],
+        wide: source.wide,
     }
 }
 
 // Takes the token that the text begins with; at a bad byte, the bytes before it.
-#[tactic(auto, using(crate::proofs::Cuts::scan_cut, crate::proofs::Cuts::scan_slice, crate::proofs::Cuts::scan_rest, crate::proofs::Cuts::scan_shorter, crate::proofs::Cuts::scan_size))]
-fn first(text: &str) -> (Lexeme, &str, &str)
-    ensures lexeme { IsLexeme result.0 (scan_rule text.now) }
-    ensures slice { result.1.now ≡ (scan_rule text.now).taken }
-    ensures rest { result.2.now ≡ (scan_rule text.now).left }
+#[tactic(auto, using(crate::proofs::Cuts::scan_cut_in, crate::proofs::Cuts::scan_slice, crate::proofs::Cuts::scan_rest_in, crate::proofs::Cuts::scan_shorter, crate::proofs::Cuts::scan_size))]
+fn first(wide: bool, text: &str) -> (Lexeme, &str, &str)
+    ensures lexeme { IsLexeme result.0 (scan_rule wide text.now) }
+    ensures slice { result.1.now ≡ (scan_rule wide text.now).taken }
+    ensures rest { result.2.now ≡ (scan_rule wide text.now).left }
     ensures size { length result.1.now + length result.2.now ≡ length text.now }
 {
-    let (lexeme, left) = scan(text.as_bytes());
+    let (lexeme, left) = scan(wide, text.as_bytes());
     let end = text.len() - left.len();
     (lexeme, &text[..end], &text[end..])
 }
@@ -47,13 +50,18 @@ fn first(text: &str) -> (Lexeme, &str, &str)
 // What stands next, with its slice and its place, and where the source goes on: behind it, or at a bad byte where it was.
 pub fn step(source: Source<'_>) -> (Found<'_>, Source<'_>)
     requires { HasPlacesInRange (at_of source) }
-    ensures found { IsFoundLexeme (at_of source.entry) result.0.lexeme result.0.slice.now
+    ensures found { IsFoundLexeme source.entry.wide (at_of source.entry) result.0.lexeme result.0.slice.now
         result.0.place
         (at_of result.1) }
+    ensures signs { result.1.wide ≡ source.entry.wide }
     ensures range { HasPlacesInRange (at_of result.1) }
 {
-    let Source { place, rest: text } = behind_blanks(source);
-    let (lexeme, slice, rest) = first(text);
+    let Source {
+        place,
+        rest: text,
+        wide,
+    } = behind_blanks(source);
+    let (lexeme, slice, rest) = first(wide, text);
     let end = Place {
         line: place.line,
         column: place.column + slice.len() as u32,
@@ -71,5 +79,12 @@ pub fn step(source: Source<'_>) -> (Found<'_>, Source<'_>)
         slice,
         place,
     };
-    (found, Source { place: end, rest })
+    (
+        found,
+        Source {
+            place: end,
+            rest,
+            wide,
+        },
+    )
 }
