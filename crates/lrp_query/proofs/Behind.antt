@@ -22,16 +22,16 @@ in_turn (Ok q) f g = refl
 in_turn (Err e) f g = refl
 
 -- parsers that go on alike
-alike : {A B : Type 0} (o : ParseOutcome A) (f g : A → Parser B) → ((a : A) (ts : Tokens) → f a ts ≡ g a ts) → and_then o f ≡ and_then o g
+pub alike : {A B : Type 0} (o : ParseOutcome A) (f g : A → Parser B) → ((a : A) (ts : Tokens) → f a ts ≡ g a ts) → and_then o f ≡ and_then o g
 alike (Ok q) f g h = h q.0 q.1
 alike (Err e) f g h = refl
 
 module _ {R P N F : Type 0} (make : OperatorTrees R P N F) (inner : Parser F) where
-  ranged_same : (word : R) (p : Place) (ts : Tokens) → ranged_parts make inner word p ts ≡ ranged make inner word p ts
+  pub ranged_same : (word : R) (p : Place) (ts : Tokens) → ranged_parts make inner word p ts ≡ ranged make inner word p ts
   unfolding ranged_parts variable ranged
   ranged_same word p ts = in_turn (name ts) _ _ ∙ alike (name ts) _ _ (λ v us. in_turn (expect Open us) _ _)
 
-  paired_same : (word : P) (p : Place) (ts : Tokens) → paired_parts make inner word p ts ≡ paired make inner word p ts
+  pub paired_same : (word : P) (p : Place) (ts : Tokens) → paired_parts make inner word p ts ≡ paired make inner word p ts
   unfolding paired_parts variable closed_by paired
   paired_same word p ts =
       in_turn (name ts) _ _ ∙ alike (name ts) _ _ (λ v us.
@@ -44,7 +44,7 @@ module _ {R P N F : Type 0} (make : OperatorTrees R P N F) (inner : Parser F) wh
 
 module _ {K T F Q R P N : Type 0} (make : Trees K T F Q) (operators : OperatorTrees R P N F) (inner : Parser F) (turns : ℕ) (n : Identifier) (p : Place) (ts : Tokens) where
   -- what stands there without operators, where no other name follows
-  pub plainly_behind : look false is_name ts ≡ Ok (false, ts) → with_operators make operators inner turns n p ts ≡ behind_name make turns n p ts
+  pub plainly_behind : look false is_name ts ≡ Ok (false, ts) → with_operators make operators inner turns n p ts ≡ behind_name false make turns n p ts
   unfolding with_operators
   plainly_behind e = rw e refl
 
@@ -64,7 +64,7 @@ module _ {K T F Q R P N : Type 0} (make : Trees K T F Q) (operators : OperatorTr
 
 module _ {K T F Q R P N : Type 0} (make : Trees K T F Q) (operators : OperatorTrees R P N F) (inner : Parser F) (turns : ℕ) (n : Identifier) (p : Place) where
   -- no atom, comparison or `in` has a name behind its own
-  no_name : (k : Token) (q : Place) (us : Tokens) → is_name_token k ≡ true → behind_name make turns n p (record { token = k; place = q } ∷ us) ≡ Err (Syntax, record { token = k; place = q } ∷ us)
+  no_name : (k : Token) (q : Place) (us : Tokens) → is_name_token k ≡ true → behind_name false make turns n p (record { token = k; place = q } ∷ us) ≡ Err (Syntax, record { token = k; place = q } ∷ us)
   unfolding behind_name named_term offset tested comparing eat accept
   no_name (name_token m) q us e = refl
   no_name (word_token w) q us e = absurd cc
@@ -75,11 +75,11 @@ module _ {K T F Q R P N : Type 0} (make : Trees K T F Q) (operators : OperatorTr
   no_name bad_token q us e = absurd cc
   no_name hole_token q us e = absurd cc
 
-  either_way : (again : Bool) (us : Tokens) → operators.word_of n ≡ None → (again ≡ true → behind_name make turns n p us ≡ Err (Syntax, us)) → (if again then operator operators inner p (operators.word_of n) else behind_name make turns n p) us ≡ behind_name make turns n p us
+  either_way : (again : Bool) (us : Tokens) → operators.word_of n ≡ None → (again ≡ true → behind_name false make turns n p us ≡ Err (Syntax, us)) → (if again then operator operators inner p (operators.word_of n) else behind_name false make turns n p) us ≡ behind_name false make turns n p us
   either_way true us none stops = ap (λ o. operator operators inner p o us) none ∙ sym (stops refl)
   either_way false us none stops = refl
 
-  pub wordless : (ts : Tokens) → operators.word_of n ≡ None → with_operators make operators inner turns n p ts ≡ behind_name make turns n p ts
+  pub wordless : (ts : Tokens) → operators.word_of n ≡ None → with_operators make operators inner turns n p ts ≡ behind_name false make turns n p ts
   unfolding with_operators look
   wordless [] none = refl
   wordless (t ∷ us) none = either_way (is_name t) (t ∷ us) none (no_name t.token t.place us)

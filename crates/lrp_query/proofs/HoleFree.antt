@@ -1,13 +1,13 @@
 -- No bytes make a hole.
-use Rattle.std.proofs.Common.{◌≡◌, ℕ, zero, suc, Bool, true, false, ◌==◌, List, [], ◌∷◌, refl, Result, Ok, Err, codes, if◌then◌else◌}
+use Rattle.std.proofs.Common.{◌≡◌, ℕ, zero, suc, Bool, true, false, ◌==◌, ◌&&◌, List, [], ◌∷◌, refl, Result, Ok, Err, codes, if◌then◌else◌}
 use Rattle.std.specs.Str.{bytes_eq}
 use Rattle.lrp_model.specs.declared.tokens.Symbol.{Symbol}
-use Rattle.lrp_model.specs.declared.tokens.Symbol.TheVariants.{Open, Close, OpenBrace, CloseBrace, Comma, Colon, Semicolon, Bar, Plus, Minus, Le, Ge, Lt, Gt, Equals}
+use Rattle.lrp_model.specs.declared.tokens.Symbol.TheVariants.{Open, Close, OpenBrace, CloseBrace, Comma, Colon, Semicolon, Bar, Plus, Minus, Le, Ge, Lt, Gt, Equals, Star}
 use Rattle.lrp_model.specs.declared.tokens.Place.{Place}
 use Rattle.lrp_model.specs.Tokens.{Token, Tokens}
 use Rattle.lrp_model.specs.Tokens.Token.{name_token, word_token, number_token, text_token, symbol_token, end_token, bad_token, hole_token}
 use Rattle.std.specs.Str.Parse.{digits_value}
-use Rattle.lrp_model.specs.Lexing.{is_letter, is_name_byte, run, behind_run, word_or_name, Scanned, QuotedText as TextRead, text_from, text_scanned, one, one_or_two, symbol_from, scan, after, skip, start, headed, tokens_from, tokens}
+use Rattle.lrp_model.specs.Lexing.{is_letter, is_name_byte, run, behind_run, word_or_name, Scanned, QuotedText as TextRead, text_from, text_scanned, one, one_or_two, further_symbol, no_symbol, symbol_in, scan_in, after, skip, start, headed, tokens_in_from, tokens_in}
 use Rattle.std.specs.Char.{is_ascii_digit}
 use Rattle.lrp_query.specs.Rules.{is_hole_token}
 use Rattle.lrp_query.proofs.Marks.{NoHoles}
@@ -40,15 +40,20 @@ two_clean : (s r : Symbol) (b : ℕ) (bs : List ℕ) → Clean (one_or_two s r b
 two_clean s r b [] = refl
 two_clean s r b (c ∷ bs) = scanned (c == 61) _ (one s b (c ∷ bs)) refl refl
 
+-- nor is a symbol of the wide language alone
+further_clean : (b : ℕ) (bs : List ℕ) → Clean (further_symbol b bs)
+further_clean b [] = scanned (b == 42) (one Star b []) _ refl refl
+further_clean b (c ∷ bs) = scanned (b == 42) (one Star b (c ∷ bs)) _ refl (scanned ((b == 33) && (c == 61)) _ (no_symbol b (c ∷ bs)) refl refl)
+
 -- nor is a symbol
-symbol_clean : (b : ℕ) (bs : List ℕ) → Clean (symbol_from b bs)
-unfolding symbol_from
-symbol_clean b bs =
+symbol_clean : (wide : Bool) (b : ℕ) (bs : List ℕ) → Clean (symbol_in wide b bs)
+unfolding symbol_in
+symbol_clean wide b bs =
     scanned (b == 40) (one Open b bs) _ refl (scanned (b == 41) (one Close b bs) _ refl (scanned (b == 123) (one OpenBrace b bs) _ refl
     (scanned (b == 125) (one CloseBrace b bs) _ refl (scanned (b == 44) (one Comma b bs) _ refl (scanned (b == 58) (one Colon b bs) _ refl
     (scanned (b == 59) (one Semicolon b bs) _ refl (scanned (b == 124) (one Bar b bs) _ refl (scanned (b == 43) (one Plus b bs) _ refl
     (scanned (b == 45) (one Minus b bs) _ refl (scanned (b == 61) (one Equals b bs) _ refl (scanned (b == 60) _ _ (two_clean Lt Le b bs)
-    (scanned (b == 62) _ _ (two_clean Gt Ge b bs) refl))))))))))))
+    (scanned (b == 62) _ _ (two_clean Gt Ge b bs) (scanned wide _ _ (further_clean b bs) refl)))))))))))))
 
 -- nor is a text
 text_clean : (r : Result TextRead Scanned) → Clean (text_scanned r)
@@ -56,13 +61,13 @@ text_clean (Ok t) = refl
 text_clean (Err s) = refl
 
 -- nor is any token
-scan_clean : (bs : List ℕ) → Clean (scan bs)
-unfolding scan
-scan_clean [] = refl
-scan_clean (b ∷ bs) =
+scan_clean : (wide : Bool) (bs : List ℕ) → Clean (scan_in wide bs)
+unfolding scan_in
+scan_clean wide [] = refl
+scan_clean wide (b ∷ bs) =
     scanned (is_letter b) (record { token = word_or_name (run is_name_byte (b ∷ bs)); taken = run is_name_byte (b ∷ bs); left = behind_run is_name_byte (b ∷ bs) }) _ (word_clean (run is_name_byte (b ∷ bs)))
     (scanned (is_ascii_digit b) (record { token = number_token (digits_value 10 (run is_ascii_digit (b ∷ bs))); taken = run is_ascii_digit (b ∷ bs); left = behind_run is_ascii_digit (b ∷ bs) }) _ refl
-    (scanned (b == 34) (text_scanned (text_from false bs)) (symbol_from b bs) (text_clean (text_from false bs)) (symbol_clean b bs)))
+    (scanned (b == 34) (text_scanned (text_from false bs)) (symbol_in wide b bs) (text_clean (text_from false bs)) (symbol_clean wide b bs)))
 
 -- a token and those that follow it
 headed_clean : (p : Place) (s : Scanned) (k : Token) (rest : Tokens) → is_hole_token k ≡ false → NoHoles rest → NoHoles (headed p s k rest)
@@ -76,14 +81,14 @@ headed_clean p s end_token rest h r = (refl, tt)
 headed_clean p s bad_token rest h r = (refl, tt)
 
 -- none of the tokens of some bytes
-from_clean : (n : ℕ) (p : Place) (bs : List ℕ) → NoHoles (tokens_from n p bs)
-unfolding tokens_from
-from_clean zero p bs = tt
-from_clean (suc n) p bs =
+from_clean : (wide : Bool) (n : ℕ) (p : Place) (bs : List ℕ) → NoHoles (tokens_in_from wide n p bs)
+unfolding tokens_in_from
+from_clean wide zero p bs = tt
+from_clean wide (suc n) p bs =
     let a = skip false p bs in
-    let s = scan a.bytes in
-    headed_clean a.place s s.token (tokens_from n (after a.place s.taken) s.left) (scan_clean a.bytes) (from_clean n (after a.place s.taken) s.left)
+    let s = scan_in wide a.bytes in
+    headed_clean a.place s s.token (tokens_in_from wide n (after a.place s.taken) s.left) (scan_clean wide a.bytes) (from_clean wide n (after a.place s.taken) s.left)
 
 -- none of the tokens of a text
-pub tokens_clean : (bytes : List ℕ) → NoHoles (tokens bytes)
-tokens_clean bytes = from_clean _ start bytes
+pub tokens_clean : (wide : Bool) (bytes : List ℕ) → NoHoles (tokens_in wide bytes)
+tokens_clean wide bytes = from_clean wide _ start bytes

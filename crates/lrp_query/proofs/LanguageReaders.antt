@@ -8,7 +8,7 @@ use Rattle.lrp_model.specs.declared.tokens.Fault.{Fault}
 use Rattle.lrp_model.specs.declared.tokens.Fault.TheVariants.{Syntax}
 use Rattle.lrp_model.specs.Tokens.{Placed, Tokens, Takes}
 use Rattle.lrp_model.specs.Refused.{Stops}
-use Rattle.lrp_model.specs.Queries.{Language, WrittenFormula, ranged_word, paired_word}
+use Rattle.lrp_model.specs.Queries.{WrittenFormula, ranged_word, paired_word}
 use Rattle.lrp_model.specs.Queries.Language.{first_order, temporal}
 use Rattle.lrp_text.specs.Parsers.{Parser, look}
 use Rattle.lrp_text.specs.Taking.{is_name, is_name_token}
@@ -31,7 +31,7 @@ use Rattle.lrp_model.specs.declared.raw.Ranged.{Ranged}
 use Rattle.lrp_model.specs.declared.raw.Ranged.TheVariants.{Once, Always}
 use Rattle.lrp_model.specs.declared.raw.Paired.{Paired}
 use Rattle.lrp_model.specs.declared.raw.Paired.TheVariants.{Since, Until}
-use Rattle.lrp_query.proofs.Languages.{OperatorOver, over_range, over_pair, written_operators, behind_first, grammar, temporal_grammar, none_taken, FitsOperator}
+use Rattle.lrp_query.proofs.Languages.{Narrow, plain, tense, OperatorOver, over_range, over_pair, written_operators, behind_first, grammar, temporal_grammar, none_taken, FitsOperator}
 use Rattle.lrp_query.proofs.OperatorReader.{ranged_answers, paired_answers, ranged_sound, paired_sound, ranged_stops, paired_stops}
 use Rattle.lrp_model.proofs.Logic.{choose}
 
@@ -66,7 +66,7 @@ written_behind = with_operators (trees temporal_grammar) written_operators
 
 module _ (inner : Parser (WrittenFormula temporal)) (d turns : ℕ) (rules : FormulaRules temporal_grammar d turns inner) where
   -- where no name follows it is that of queries
-  plainly_read : (n : Identifier) (p : Place) (us : Tokens) → IsNot is_name us → written_behind inner turns n p us ≡ behind_name (trees temporal_grammar) turns n p us
+  plainly_read : (n : Identifier) (p : Place) (us : Tokens) → IsNot is_name us → written_behind inner turns n p us ≡ behind_name false (trees temporal_grammar) turns n p us
   unfolding with_operators look
   plainly_read n p [] alone = refl
   plainly_read n p (u ∷ us) alone = rw alone refl
@@ -91,7 +91,7 @@ module _ (inner : Parser (WrittenFormula temporal)) (d turns : ℕ) (rules : For
   operator_sound n p (Some (OfPair word)) is us q e = paired_sound inner d turns rules word n p is us q e
   operator_sound n p None is us q e = absurd cc
 
-  either_sound : (n : Identifier) (p : Place) (again : Bool) (us : Tokens) (q : (WrittenFormula temporal) × Tokens) → (if again then operator written_operators inner p (word_of n) else behind_name (trees temporal_grammar) turns n p) us ≡ Ok q → IsFormula temporal_grammar (suc d) (name_at n p ∷ us) q
+  either_sound : (n : Identifier) (p : Place) (again : Bool) (us : Tokens) (q : (WrittenFormula temporal) × Tokens) → (if again then operator written_operators inner p (word_of n) else behind_name false (trees temporal_grammar) turns n p) us ≡ Ok q → IsFormula temporal_grammar (suc d) (name_at n p ∷ us) q
   either_sound n p true us q e = operator_sound n p (word_of n) (word_told n) us q e
   either_sound n p false us q e = behind_name_sound temporal_grammar d turns n p us q e
 
@@ -112,7 +112,7 @@ module _ (inner : Parser (WrittenFormula temporal)) (d turns : ℕ) (rules : For
       let k : (Syntax, us) ≡ e = cc in
       subst (λ x. Stops R us x) k (at_once R us no_terms (atom p n [], tt, ((refl, refl), (refl, (refl, refl)))))
 
-  either_stops : (n : Identifier) (p : Place) (again : Bool) (us : Tokens) (e : Fault × Tokens) → length us < turns → (if again then operator written_operators inner p (word_of n) else behind_name (trees temporal_grammar) turns n p) us ≡ Err e → Stops (λ c x. LayerTexts temporal_grammar d c (name_at n p ∷ x)) us e
+  either_stops : (n : Identifier) (p : Place) (again : Bool) (us : Tokens) (e : Fault × Tokens) → length us < turns → (if again then operator written_operators inner p (word_of n) else behind_name false (trees temporal_grammar) turns n p) us ≡ Err e → Stops (λ c x. LayerTexts temporal_grammar d c (name_at n p ∷ x)) us e
   either_stops n p true us e lt h = operator_stops n p (word_of n) (word_told n) us e lt h
   either_stops n p false us e lt h = behind_name_stops temporal_grammar d turns n p us e lt h
 
@@ -143,25 +143,25 @@ temporal_reader = record {
 }
 
 -- in first-order logic nothing stands behind a name but an atom or a term
-pub plain_behind : (inner : Parser (WrittenFormula first_order)) (d turns : ℕ) → FormulaRules (grammar first_order) d turns inner → BehindRules (grammar first_order) d turns (plainly (trees (grammar first_order)) inner turns)
+pub plain_behind : (inner : Parser (WrittenFormula first_order)) (d turns : ℕ) → FormulaRules (grammar plain) d turns inner → BehindRules (grammar plain) d turns (plainly (trees (grammar plain)) inner turns)
 plain_behind inner d turns r = record {
   plain = λ n p us alone. refl;
   back = λ x us left lt h g. absurd (none_taken x);
-  sound = behind_name_sound (grammar first_order) d turns;
-  viable = λ n p us e lt h. rolled_stops (grammar first_order) d (name_at n p ∷ []) us e (behind_name_stops (grammar first_order) d turns n p us e lt h);
+  sound = behind_name_sound (grammar plain) d turns;
+  viable = λ n p us e lt h. rolled_stops (grammar plain) d (name_at n p ∷ []) us e (behind_name_stops (grammar plain) d turns n p us e lt h);
 }
 
-abbrev pub plain_reader : Reader (grammar first_order)
+abbrev pub plain_reader : Reader (grammar plain)
 plain_reader = record {
-  behind = plainly (trees (grammar first_order));
+  behind = plainly (trees (grammar plain));
   rules = plain_behind;
-  local = λ inner l turns. behind_name_local (trees (grammar first_order)) turns;
+  local = λ inner l turns. behind_name_local (trees (grammar plain)) turns;
   marks = plainly marking;
   tells = record { local = λ inner l turns. behind_name_local marking turns; told = λ inner t l turns. behind_name_told turns };
-  same = λ inner other s turns. behind_name_same (Unit {0}) (trees (grammar first_order)) marking (marks_of (grammar first_order)) turns;
+  same = λ inner other s turns. behind_name_same (Unit {0}) (trees (grammar plain)) marking (marks_of (grammar plain)) turns;
 }
 
 -- of each language
-abbrev pub reader : (l : Language) → Reader (grammar l)
-reader first_order = plain_reader
-reader temporal = temporal_reader
+abbrev pub reader : (n : Narrow) → Reader (grammar n)
+reader plain = plain_reader
+reader tense = temporal_reader

@@ -10,13 +10,16 @@ use Rattle.lrp_model.specs.declared.written.Integer.{Integer}
 use Rattle.lrp_model.specs.declared.raw.Ranged.{Ranged}
 use Rattle.lrp_model.specs.declared.raw.Paired.{Paired}
 use Rattle.lrp_model.specs.Limits.{greatest_number}
-use Rattle.lrp_model.specs.Tokens.{Part, separated}
+use Rattle.lrp_model.specs.Tokens.{Part, located_text, separated}
 use Rattle.lrp_model.specs.Tokens.Token.{name_token, word_token, symbol_token}
 use Rattle.lrp_model.specs.Tokens.Part.{at, any}
 use Rattle.lrp_model.specs.RawQueries.{Operator}
-use Rattle.lrp_model.specs.Queries.{Language, TakesOperators, WrittenFormula, FurtherMembers, WrittenQuery, formula_text, members_text, interval_text, ranged_word, paired_word, FitsSizes, FitSizes, FitsDepth, FitDepth, FitsQuery}
-use Rattle.lrp_model.specs.Queries.Language.{first_order, temporal}
-use Rattle.lrp_model.specs.Queries.WrittenFormula.{atom_formula as written_atom, compared as written_compared, member as written_member, denied as written_denied, all_of as written_all, any_of as written_any, implied as written_implied, group as written_group, some as written_some, every as written_every, ranged as written_range, paired as written_pair, hole as written_hole}
+use Rattle.lrp_model.specs.Queries.{Language, TakesOperators, TakesWide, IsFormula, WrittenArgument, WrittenTerm, argument_text, term_text, FitsArgument, FitsTerm, WrittenFormula, FurtherMembers, WrittenQuery, formula_text, members_text, interval_text, ranged_word, paired_word, FitsSizes, FitSizes, FitsDepth, FitDepth, FitsQuery}
+use Rattle.lrp_model.specs.Queries.Language.{first_order, temporal, wide}
+use Rattle.lrp_model.specs.Queries.WrittenArgument.{argument, star}
+use Rattle.lrp_model.specs.declared.written.Located.{Located}
+use Rattle.lrp_model.specs.Databases.{comma}
+use Rattle.lrp_model.specs.Queries.WrittenFormula.{atom_formula as written_atom, compared as written_compared, member as written_member, denied as written_denied, all_of as written_all, any_of as written_any, implied as written_implied, group as written_group, some as written_some, every as written_every, ranged as written_range, paired as written_pair, differing as written_differing, several as written_several, bare_all as written_bare_all, bare_any as written_bare_any, bare_chain as written_bare_chain, chain as written_chain, hole as written_hole}
 use Rattle.lrp_model.specs.Queries.FurtherMembers.{last, more}
 use Rattle.lrp_query.specs.OperatorRules.{OperatorTrees}
 use Rattle.lrp_query.specs.Grammars.{word_of, opened_operator}
@@ -60,6 +63,49 @@ members_fit d g (h ∷ gs) a = let k = members_fit d h gs a.1 in ((a.0.0, k.0), 
 each_fits : {l : Language} (d : ℕ) (g : WrittenFormula l) (gs : List (WrittenFormula l)) → FitSizes (further g gs) → FitDepth (further g gs) d → AllByRecursion (FitsAt d) (g ∷ gs)
 each_fits d g [] s k = ((s, k), tt)
 each_fits d g (h ∷ gs) s k = ((s.0, k.0), each_fits d h gs s.1 k.1)
+
+-- ---- arguments
+
+-- where no `*` is taken, arguments of an atom are terms
+abbrev pub term_in : {l : Language} → (TakesWide l → ⊥) → WrittenArgument l → WrittenTerm
+term_in narrow (argument t) = t
+term_in narrow (star t) = absurd (narrow t)
+
+abbrev pub terms_in : {l : Language} → (TakesWide l → ⊥) → List (Located (WrittenArgument l)) → List (Located WrittenTerm)
+terms_in narrow [] = []
+terms_in narrow (b ∷ bs) = record { item = term_in narrow b.item; place = b.place } ∷ terms_in narrow bs
+
+abbrev pub arguments : {l : Language} → List (Located WrittenTerm) → List (Located (WrittenArgument l))
+arguments [] = []
+arguments (t ∷ ts) = record { item = argument t.item; place = t.place } ∷ arguments ts
+
+argument_again : {l : Language} (narrow : TakesWide l → ⊥) (a : WrittenArgument l) → argument (term_in narrow a) ≡ a
+argument_again narrow (argument t) = refl
+argument_again narrow (star t) = absurd (narrow t)
+
+arguments_again : {l : Language} (narrow : TakesWide l → ⊥) (bs : List (Located (WrittenArgument l))) → arguments (terms_in narrow bs) ≡ bs
+arguments_again narrow [] = refl
+arguments_again narrow (b ∷ bs) = rw (argument_again narrow b.item, arguments_again narrow bs) refl
+
+arguments_spell : (l : Language) (ts : List (Located WrittenTerm)) → separated comma (located_text (argument_text {l = l})) (arguments {l = l} ts) ≡ separated comma (located_text term_text) ts
+arguments_spell l [] = refl
+arguments_spell l (t ∷ []) = refl
+arguments_spell l (t ∷ (u ∷ ts)) = ap (λ ps. located_text term_text t ++ comma ∷ ps) (arguments_spell l (u ∷ ts))
+
+arguments_fit : (l : Language) (ts : List (Located WrittenTerm)) → AllByRecursion (λ a. FitsArgument a.item) (arguments {l = l} ts) ↔ AllByRecursion (λ t. FitsTerm t.item) ts
+arguments_fit l [] = ((λ h. h), λ h. h)
+arguments_fit l (t ∷ ts) = let k = arguments_fit l ts in ((λ h. (h.0, k.0 h.1)), λ h. (h.0, k.1 h.1))
+
+-- each formula of these languages is one of the grammar
+pub plain_formula : (l : Language) → (TakesWide l → ⊥) → (f : WrittenFormula l) → IsFormula l f
+plain_formula first_order narrow f = tt
+plain_formula temporal narrow f = tt
+plain_formula wide narrow f = absurd (narrow refl)
+
+pub one_formula : (l : Language) → (TakesWide l → ⊥) → (f : WrittenFormula l) → (a b : IsFormula l f) → a ≡ b
+one_formula first_order narrow f a b = refl
+one_formula temporal narrow f a b = refl
+one_formula wide narrow f a b = absurd (narrow refl)
 
 -- ---- operators
 
@@ -118,7 +164,7 @@ operators = record { place = place_of; word = first_word; rest = behind_first; F
 
 -- a formula of a layer
 abbrev pub roll : {l : Language} → Layer (WrittenFormula l) (OperatorOver l) → WrittenFormula l
-roll (atom p n ts) = written_atom p n ts
+roll (atom p n ts) = written_atom p n (arguments ts)
 roll (compared l op r) = written_compared l op r
 roll (member t i k) = written_member t i k
 roll (denied p f) = written_denied p f
@@ -132,38 +178,50 @@ roll (hole p) = written_hole p
 roll (other x) = rolled_operator x
 
 -- the layer of a formula
-abbrev pub unroll : {l : Language} → WrittenFormula l → Layer (WrittenFormula l) (OperatorOver l)
-unroll (written_atom p n ts) = atom p n ts
-unroll (written_compared l op r) = compared l op r
-unroll (written_member t i k) = member t i k
-unroll (written_denied p f) = denied p f
-unroll (written_all p f fs) = all_of p f (first_of fs) (rest_of fs)
-unroll (written_any p f fs) = any_of p f (first_of fs) (rest_of fs)
-unroll (written_implied p f g) = implied p f g
-unroll (written_group p f) = group p f
-unroll (written_some p c f) = some p c f
-unroll (written_every p c f) = every p c f
-unroll (written_range t word o from to f) = other (over_range t word o from to f)
-unroll (written_pair t word o f g) = other (over_pair t word o f g)
-unroll (written_hole p) = hole p
+abbrev pub unroll : {l : Language} → (TakesWide l → ⊥) → WrittenFormula l → Layer (WrittenFormula l) (OperatorOver l)
+unroll narrow (written_atom p n ts) = atom p n (terms_in narrow ts)
+unroll narrow (written_compared l op r) = compared l op r
+unroll narrow (written_member t i k) = member t i k
+unroll narrow (written_denied p f) = denied p f
+unroll narrow (written_all p f fs) = all_of p f (first_of fs) (rest_of fs)
+unroll narrow (written_any p f fs) = any_of p f (first_of fs) (rest_of fs)
+unroll narrow (written_implied p f g) = implied p f g
+unroll narrow (written_group p f) = group p f
+unroll narrow (written_some p c f) = some p c f
+unroll narrow (written_every p c f) = every p c f
+unroll narrow (written_range t word o from to f) = other (over_range t word o from to f)
+unroll narrow (written_pair t word o f g) = other (over_pair t word o f g)
+unroll narrow (written_hole p) = hole p
+unroll narrow (written_differing t l r) = absurd (narrow t)
+unroll narrow (written_several t q p ns c f) = absurd (narrow t)
+unroll narrow (written_bare_all t f fs) = absurd (narrow t)
+unroll narrow (written_bare_any t f fs) = absurd (narrow t)
+unroll narrow (written_bare_chain t f fs) = absurd (narrow t)
+unroll narrow (written_chain t p f g fs) = absurd (narrow t)
 
-pub unrolled : {l : Language} (f : WrittenFormula l) → roll (unroll f) ≡ f
-unrolled (written_atom p n ts) = refl
-unrolled (written_compared l op r) = refl
-unrolled (written_member t i k) = refl
-unrolled (written_denied p f) = refl
-unrolled (written_all p f fs) = ap (written_all p f) (listed_again fs)
-unrolled (written_any p f fs) = ap (written_any p f) (listed_again fs)
-unrolled (written_implied p f g) = refl
-unrolled (written_group p f) = refl
-unrolled (written_some p c f) = refl
-unrolled (written_every p c f) = refl
-unrolled (written_range t word o from to f) = refl
-unrolled (written_pair t word o f g) = refl
-unrolled (written_hole p) = refl
+pub unrolled : {l : Language} (narrow : TakesWide l → ⊥) (f : WrittenFormula l) → roll (unroll narrow f) ≡ f
+unrolled narrow (written_atom p n ts) = ap (written_atom p n) (arguments_again narrow ts)
+unrolled narrow (written_compared l op r) = refl
+unrolled narrow (written_member t i k) = refl
+unrolled narrow (written_denied p f) = refl
+unrolled narrow (written_all p f fs) = ap (written_all p f) (listed_again fs)
+unrolled narrow (written_any p f fs) = ap (written_any p f) (listed_again fs)
+unrolled narrow (written_implied p f g) = refl
+unrolled narrow (written_group p f) = refl
+unrolled narrow (written_some p c f) = refl
+unrolled narrow (written_every p c f) = refl
+unrolled narrow (written_range t word o from to f) = refl
+unrolled narrow (written_pair t word o f g) = refl
+unrolled narrow (written_hole p) = refl
+unrolled narrow (written_differing t l r) = absurd (narrow t)
+unrolled narrow (written_several t q p ns c f) = absurd (narrow t)
+unrolled narrow (written_bare_all t f fs) = absurd (narrow t)
+unrolled narrow (written_bare_any t f fs) = absurd (narrow t)
+unrolled narrow (written_bare_chain t f fs) = absurd (narrow t)
+unrolled narrow (written_chain t p f g fs) = absurd (narrow t)
 
 pub text_is : {l : Language} (x : Layer (WrittenFormula l) (OperatorOver l)) → formula_text (roll x) ≡ layer_text operators formula_text x
-text_is (atom p n ts) = refl
+text_is {l = l} (atom p n ts) = ap (λ ps. at p (name_token n) ∷ any (symbol_token Open) ∷ (ps ++ any (symbol_token Close) ∷ [])) (arguments_spell l ts)
 text_is (compared l op r) = refl
 text_is (member t i k) = refl
 text_is (denied p f) = refl
@@ -178,7 +236,7 @@ text_is (other (over_range t word o from to f)) = refl
 text_is (other (over_pair t word o f g)) = refl
 
 pub fits_is : {l : Language} (d : ℕ) (x : Layer (WrittenFormula l) (OperatorOver l)) → FitsAt (suc d) (roll x) ↔ LayerFits operators FitsAt d x
-fits_is d (atom p n ts) = ((λ f. f.0), λ f. (f, tt))
+fits_is {l = l} d (atom p n ts) = let k = arguments_fit l ts in ((λ f. k.0 f.0), λ f. (k.1 f, tt))
 fits_is d (compared l op r) = ((λ f. f.0), λ f. (f, tt))
 fits_is d (member t i k) = ((λ f. f.0), λ f. (f, tt))
 fits_is d (denied p f) = ((λ k. k), λ k. k)
@@ -207,23 +265,36 @@ only_hole (every p c g) f = f.1
 only_hole (other (over_range t word o from to g)) f = f.1
 only_hole (other (over_pair t word o g h)) f = f.1
 
--- the grammar of a language
-abbrev pub grammar : (l : Language) → Grammar (WrittenFormula l) (OperatorOver l) (WrittenQuery l)
-grammar l = record {
+-- the languages without wide formulas
+pub data Narrow : Type 0 where
+  plain : Narrow
+  tense : Narrow
+
+abbrev pub language_of : Narrow → Language
+language_of plain = first_order
+language_of tense = temporal
+
+pub not_wide : (n : Narrow) → TakesWide (language_of n) → ⊥
+not_wide plain t = absurd cc
+not_wide tense t = absurd cc
+
+-- the grammar of such a language
+abbrev pub grammar : (n : Narrow) → Grammar (WrittenFormula (language_of n)) (OperatorOver (language_of n)) (WrittenQuery (language_of n))
+grammar n = record {
   others = operators;
   roll = roll;
-  unroll = unroll;
-  unrolled = unrolled;
+  unroll = unroll (not_wide n);
+  unrolled = unrolled (not_wide n);
   text = formula_text;
   text_is = text_is;
   Fits = FitsAt;
   fits_is = fits_is;
   hole_fits = λ p. (tt, tt);
   only_hole = only_hole;
-  question = λ cs f. record { head = cs; body = f };
+  question = λ cs f. record { head = cs; body = f; formula = plain_formula (language_of n) (not_wide n) f };
   head = λ q. q.head;
   body = λ q. q.body;
-  whole = λ q. refl;
+  whole = λ q. ap (λ h. record { head = q.head; body = q.body; formula = h }) (one_formula (language_of n) (not_wide n) q.body (plain_formula (language_of n) (not_wide n) q.body) q.formula);
   head_is = λ cs f. refl;
   body_is = λ cs f. refl;
   FitsQuery = FitsQuery;
@@ -231,4 +302,4 @@ grammar l = record {
 }
 
 abbrev pub temporal_grammar : Grammar (WrittenFormula temporal) (OperatorOver temporal) (WrittenQuery temporal)
-temporal_grammar = grammar temporal
+temporal_grammar = grammar tense

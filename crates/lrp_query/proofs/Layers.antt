@@ -1,5 +1,5 @@
 -- Grammars of queries: formulas by their outermost layer, so that what holds of the rules is said once for each grammar.
-use Rattle.std.proofs.Common.{◌≡◌, ◌↔◌, ◌≤◌, ◌<◌, ℕ, suc, Bool, List, [], ◌∷◌, ◌++◌, length, refl, sym, subst, Ok, Err}
+use Rattle.std.proofs.Common.{◌≡◌, ◌↔◌, ◌≤◌, ◌<◌, ℕ, suc, Bool, List, [], ◌∷◌, ◌++◌, length, refl, sym, subst, Ok, Err, false}
 use Rattle.std.specs.List.{AllByRecursion}
 use Rattle.lrp_model.specs.Texts.{Identifier}
 use Rattle.lrp_model.specs.declared.tokens.Symbol.TheVariants.{Open, Close, Plus}
@@ -8,6 +8,8 @@ use Rattle.lrp_model.specs.declared.tokens.Place.{Place}
 use Rattle.lrp_model.specs.declared.written.Located.{Located}
 use Rattle.lrp_model.specs.declared.written.Integer.{Integer}
 use Rattle.lrp_model.specs.declared.formulas.Op.{Op}
+use Rattle.lrp_model.specs.declared.formulas.Op.TheVariants.{Eq}
+use Rattle.lrp_model.specs.Lexing.{start}
 use Rattle.lrp_model.specs.declared.raw.RawColumn.{RawColumn}
 use Rattle.lrp_model.specs.Tokens.{Tokens, Part, Takes, Spells, located_text, separated}
 use Rattle.lrp_model.specs.Tokens.Token.{name_token, word_token, number_token, symbol_token, hole_token}
@@ -49,13 +51,14 @@ abbrev pub many_members : {F X : Type 0} → (Place → F → F → List F → L
 many_members make p (f ∷ g ∷ gs) = make p f g gs
 many_members make p _ = hole p
 
--- the trees of a grammar whose formulas are made of layers
+-- the trees of a grammar whose formulas are made of layers; no rule of such a grammar asks for a `!=` or for a formula's place
 abbrev pub layered : {F X Q : Type 0} → (Layer F X → F) → (List RawColumn → F → Q) → Trees WrittenTerm (Located WrittenTerm) F Q
 layered roll question = record {
   terms = written_terms;
   formulas = record {
     atom_of = λ p n ts. roll (atom p n ts);
     comparison = λ l op r. roll (compared l op r);
+    difference = λ l r. roll (denied l.place (roll (compared l Eq r)));
     membership = λ t i k. roll (member t i k);
     negation = λ p f. roll (denied p f);
     conjunction = λ p fs. roll (many_members all_of p fs);
@@ -64,6 +67,8 @@ layered roll question = record {
     parenthesis = λ p f. roll (group p f);
     existential = λ p c f. roll (some p c f);
     universal = λ p c f. roll (every p c f);
+    place_of = λ f. start;
+    at_place = λ p f. f;
   };
   cut = λ t. cut_at (roll (hole t.place)) t.token;
   question = question;
@@ -191,7 +196,7 @@ module _ {F X Q : Type 0} (g : Grammar F X Q) where
 
   -- what stands behind a name that begins a formula: as in each grammar where no other name follows, and else what this one has beyond it
   pub record BehindRules (d turns : ℕ) (behind_it : Identifier → Place → Parser F) : Type 0 where
-    pub plain : (n : Identifier) (p : Place) (us : Tokens) → IsNot is_name us → behind_it n p us ≡ behind_name (trees g) turns n p us
+    pub plain : (n : Identifier) (p : Place) (us : Tokens) → IsNot is_name us → behind_it n p us ≡ behind_name false (trees g) turns n p us
     pub back : (x : X) (us left : Tokens) → length us < turns → Takes (g.others.rest x) us left → NoShift left → Answers (behind_it (g.others.word x) (g.others.place x) us) (g.roll (other x)) left (g.others.Fits d x)
     pub sound : (n : Identifier) (p : Place) (us : Tokens) (q : F × Tokens) → behind_it n p us ≡ Ok q → IsFormula (suc d) (record { token = name_token n; place = p } ∷ us) q
     pub viable : (n : Identifier) (p : Place) (us : Tokens) (e : Fault × Tokens) → length us < turns → behind_it n p us ≡ Err e → Stops (λ c x. FormulaTexts (suc d) c (record { token = name_token n; place = p } ∷ x)) us e

@@ -1,6 +1,12 @@
 pub mod Shown
 pub mod Started
+pub mod WideParsers
 mod Behind
+mod Places
+mod Parts
+mod Chains
+mod Turning
+mod Columns
 mod OfBytes
 pub mod LocalRules
 pub mod TermRules
@@ -27,3 +33,18 @@ mod Meant
 pub mod LanguageTexts
 pub mod Whole
 pub mod LawfulQueries
+mod WideTold
+mod WideRule
+mod WideTerms
+mod WideWritten
+mod WideLevels
+mod WideWhole
+mod WideBinders
+mod WideTests
+mod WideOperators
+mod WideStarts
+mod WideFormulas
+mod FileRules
+mod FileRanks
+pub mod FileTexts
+mod FileNarrow

@@ -16,7 +16,7 @@ use Rattle.lrp_query.specs.declared.starts.Start.{Start}
 use Rattle.lrp_query.specs.declared.starts.Start.TheVariants.{Not as by_not, Exists as by_exists, Forall as by_forall, Open as by_open, Name as by_name, Term as by_term}
 use Rattle.lrp_text.specs.IntegerRule.{integer}
 use Rattle.lrp_text.specs.OffsetRule.{offset}
-use Rattle.lrp_query.specs.Rules.{TermTrees, Trees, BehindName, named_term, unnamed_term, bare_term, term, op_of, point, comparing, tested, atom_terms, behind_name, named, unnamed, negated, existing, holding, implying, conjoined, disjoined, behind_first, enclosed, start_of, is_hole_token, started, formula_over, formula_with, query_with}
+use Rattle.lrp_query.specs.Rules.{TermTrees, Trees, BehindName, named_term, unnamed_term, bare_term, term, op_of, point, comparing, tested, atom_terms, behind_name, named, unnamed, negated, existing, holding, implying, conjoined, disjoined, behind_first, enclosed, start_of, is_hole_token, started, formula_over, formula_with, query_with, query_over}
 
 module _ {K T : Type 0} (make : TermTrees K T) where
   -- a name with or without an offset depends on its tokens and on the next one alone
@@ -64,21 +64,21 @@ module _ {K T F Q : Type 0} (make : Trees K T F Q) where
       bind_local (term make.terms) _ (term_local make.terms) (λ right. pure_local _))
 
   -- what stands behind a first term depends on its tokens and on the next one alone
-  pub test_local : (left : T) → Local (tested make left)
+  pub test_local : (left : T) → Local (tested false make left)
   unfolding tested
   test_local left =
       bind_local (eat (is_word In)) _ (eat_local _) (λ inside.
       if_local inside _ _ (point_local left) (comparing_local left))
 
   -- the terms of an atom depend on their tokens and on the next one alone
-  pub atom_terms_local : (turns : ℕ) (n : Identifier) (p : Place) → Local (atom_terms make turns n p)
+  pub atom_terms_local : (turns : ℕ) (n : Identifier) (p : Place) → Local (atom_terms false make turns n p)
   unfolding atom_terms
   atom_terms_local turns n p =
       bind_local (listed (term make.terms) (is_symbol Comma) (is_symbol Close) turns) _ (listed_local (term make.terms) _ _ (term_local make.terms) turns) (λ ts.
       bind_local (expect Close) _ (accept_local _) (λ u. pure_local _))
 
   -- what stands behind a name depends on its tokens and on the next one alone
-  pub behind_name_local : (turns : ℕ) (n : Identifier) (p : Place) → Local (behind_name make turns n p)
+  pub behind_name_local : (turns : ℕ) (n : Identifier) (p : Place) → Local (behind_name false make turns n p)
   unfolding behind_name
   behind_name_local turns n p =
       bind_local (eat (is_symbol Open)) _ (eat_local _) (λ opens.
@@ -91,7 +91,7 @@ module _ {K T F Q : Type 0} (make : Trees K T F Q) where
   named_local behind local = bind_local name _ (accept_local _) (λ n. local n.0 n.1)
 
   -- what begins with another term depends on its tokens and on the next one alone
-  pub unnamed_local : (p : Place) → Local (unnamed make p)
+  pub unnamed_local : (p : Place) → Local (unnamed false make p)
   unfolding unnamed
   unnamed_local p = bind_local (unnamed_term make.terms) _ (unnamed_term_local make.terms) (λ k. test_local _)
 
@@ -186,7 +186,7 @@ module _ {K T F Q : Type 0} (make : Trees K T F Q) where
 
     -- a query depends on its tokens and on the next one alone
     pub query_local : (turns : ℕ) → Local (query_with make behind turns)
-    unfolding query_with
+    unfolding query_with query_over
     query_local turns =
         bind_local (expect OpenBrace) _ (accept_local _) (λ u.
         bind_local (listed column (is_symbol Comma) (is_symbol Bar) turns) _ (listed_local _ _ _ column_local turns) (λ cs.

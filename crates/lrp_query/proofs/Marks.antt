@@ -11,6 +11,7 @@ use Rattle.lrp_model.specs.declared.tokens.Place.{Place}
 use Rattle.lrp_model.specs.declared.tokens.Fault.{Fault}
 use Rattle.lrp_model.specs.declared.tokens.Fault.TheVariants.{Syntax, Number, Deep, Memory}
 use Rattle.lrp_model.specs.declared.written.Integer.{Integer}
+use Rattle.lrp_model.specs.Lexing.{start}
 use Rattle.lrp_model.specs.Tokens.{Token, Placed, Tokens}
 use Rattle.lrp_model.specs.Tokens.Token.{name_token, word_token, number_token, text_token, symbol_token, end_token}
 use Rattle.lrp_model.specs.Refused.{Fitting}
@@ -25,7 +26,7 @@ use Rattle.lrp_query.specs.declared.starts.Start.{Start}
 use Rattle.lrp_query.specs.declared.starts.Start.TheVariants.{Not as by_not, Exists as by_exists, Forall as by_forall, Open as by_open, Name as by_name, Term as by_term}
 use Rattle.lrp_text.specs.IntegerRule.{integer}
 use Rattle.lrp_text.specs.OffsetRule.{unmoved, moved_by, offset}
-use Rattle.lrp_query.specs.Rules.{Trees, BehindName, named_term, unnamed_term, bare_term, term, op_of, point, comparing, tested, atom_terms, behind_name, named, unnamed, negated, existing, holding, implying, conjoined, disjoined, behind_first, enclosed, start_of, is_hole_token, started, formula_over, formula_with, query_with}
+use Rattle.lrp_query.specs.Rules.{Trees, BehindName, named_term, unnamed_term, bare_term, term, op_of, point, comparing, tested, atom_terms, behind_name, named, unnamed, negated, existing, holding, implying, conjoined, disjoined, behind_first, enclosed, start_of, is_hole_token, started, formula_over, formula_with, query_with, query_over}
 use Rattle.lrp_text.proofs.IntegerRule.{integer_local}
 use Rattle.lrp_text.proofs.OffsetRule.{offset_local}
 use Rattle.lrp_query.proofs.LocalRules.{named_term_local, unnamed_term_local, bare_term_local, term_local, formula_local}
@@ -37,6 +38,7 @@ marking = record {
   formulas = record {
     atom_of = λ p n ts. tt;
     comparison = λ l op r. tt;
+    difference = λ l r. tt;
     membership = λ l i k. tt;
     negation = λ p f. tt;
     conjunction = λ p fs. tt;
@@ -45,6 +47,8 @@ marking = record {
     parenthesis = λ p f. tt;
     existential = λ p c f. tt;
     universal = λ p c f. tt;
+    place_of = λ f. start;
+    at_place = λ p f. f;
   };
   cut = λ t. Err Memory;
   question = λ cs f. tt;
@@ -330,17 +334,17 @@ symbol_leaf s (symbol_token y) = required_at (symbol_token y) (same_symbol y s) 
 symbol_leaf s _ = tt
 
 -- a reserved word
-word_leaf : (w : Word) (k : Token) → LeafAt k (required (is_word_token w k))
+pub word_leaf : (w : Word) (k : Token) → LeafAt k (required (is_word_token w k))
 word_leaf w (word_token v) = required_at (word_token v) (same_word v w) refl
 word_leaf w _ = tt
 
 -- the end
-end_leaf : (k : Token) → LeafAt k (required (is_end_token k))
+pub end_leaf : (k : Token) → LeafAt k (required (is_end_token k))
 end_leaf end_token = refl
 end_leaf _ = tt
 
 -- a name
-name_leaf : (p : Place) (k : Token) → LeafAt k (with_place p (name_of k))
+pub name_leaf : (p : Place) (k : Token) → LeafAt k (with_place p (name_of k))
 name_leaf p (name_token n) = refl
 name_leaf p _ = tt
 
@@ -350,7 +354,7 @@ limited_leaf n m true = refl
 limited_leaf n m false = tt
 
 -- a number
-number_leaf : (k : Token) → LeafAt k (number_of k)
+pub number_leaf : (k : Token) → LeafAt k (number_of k)
 number_leaf (number_token n) = limited_leaf n n (nat_le n 4611686018427387904)
 number_leaf _ = tt
 
@@ -360,7 +364,7 @@ counted_leaf n true = tt
 counted_leaf n false = limited_leaf n n (nat_le n 4611686018427387904)
 
 -- a period
-period_leaf : (k : Token) → LeafAt k (period_of k)
+pub period_leaf : (k : Token) → LeafAt k (period_of k)
 period_leaf (number_token n) = counted_leaf n (n == 0)
 period_leaf _ = tt
 
@@ -370,12 +374,12 @@ short_leaf t true = refl
 short_leaf t false = tt
 
 -- a text
-text_leaf : (k : Token) → LeafAt k (text_of k)
+pub text_leaf : (k : Token) → LeafAt k (text_of k)
 text_leaf (text_token t) = short_leaf t _
 text_leaf _ = tt
 
 -- a comparison
-op_leaf : (k : Token) → LeafAt k (op_of k)
+pub op_leaf : (k : Token) → LeafAt k (op_of k)
 op_leaf (symbol_token le_sign) = refl
 op_leaf (symbol_token lt_sign) = refl
 op_leaf (symbol_token ge_sign) = refl
@@ -384,7 +388,7 @@ op_leaf (symbol_token Equals) = refl
 op_leaf _ = tt
 
 -- a sort
-sort_leaf : (p : Place) (k : Token) → LeafAt k (with_place p (sort_of k))
+pub sort_leaf : (p : Place) (k : Token) → LeafAt k (with_place p (sort_of k))
 sort_leaf p (word_token Time) = refl
 sort_leaf p (word_token Data) = refl
 sort_leaf p (name_token n) = refl
@@ -417,7 +421,7 @@ number_then f next = accept_then (λ t. number_of t.token) f (λ t. number_leaf 
 -- ---- the rules
 
 -- a column
-column_fixed : IsFixed column
+pub column_fixed : IsFixed column
 unfolding column
 column_fixed =
     fixed_bind name _ (fixed_accept _ (λ t. name_leaf t.place t.token)) (λ n.
@@ -505,26 +509,26 @@ unfolding comparing
 comparing_told l = accept_then (λ t. op_of t.token) _ (λ t. op_leaf t.token) (λ op. bind_then false (term marking.terms) _ (sooner true _ term_told) (term_local marking.terms) (λ r. done true))
 
 -- what stands behind a first term
-test_told : (l : Unit {0}) → Tells true (tested marking l)
+test_told : (l : Unit {0}) → Tells true (tested false marking l)
 unfolding tested
 test_told l = eat_then (is_word In) _ (word_clean In) (sooner true _ (point_told l)) (comparing_told l)
 
 -- the terms of an atom
-atom_terms_told : (turns : ℕ) (n : Identifier) (p : Place) → Tells true (atom_terms marking turns n p)
+atom_terms_told : (turns : ℕ) (n : Identifier) (p : Place) → Tells true (atom_terms false marking turns n p)
 unfolding atom_terms
 atom_terms_told turns n p =
     bind_then true (listed (term marking.terms) (is_symbol Comma) (is_symbol Close) turns) _ (listed_told (term marking.terms) (is_symbol Comma) (is_symbol Close) (symbol_clean Comma) term_told (term_local marking.terms) turns) (listed_local (term marking.terms) _ _ (term_local marking.terms) turns) (λ ts.
     symbol_then Close _ (done false))
 
 -- what stands behind a name
-pub behind_name_told : (turns : ℕ) (n : Identifier) (p : Place) → Tells true (behind_name marking turns n p)
+pub behind_name_told : (turns : ℕ) (n : Identifier) (p : Place) → Tells true (behind_name false marking turns n p)
 unfolding behind_name
 behind_name_told turns n p =
     eat_then (is_symbol Open) _ (symbol_clean Open) (sooner true _ (atom_terms_told turns n p))
     (bind_then true (named_term marking.terms n) _ (named_term_told n) (named_term_local marking.terms n) (λ k. test_told tt))
 
 -- what begins with another term
-unnamed_told : (p : Place) → Tells true (unnamed marking p)
+unnamed_told : (p : Place) → Tells true (unnamed false marking p)
 unfolding unnamed
 unnamed_told p = bind_then true (unnamed_term marking.terms) _ unnamed_term_told (unnamed_term_local marking.terms) (λ k. test_told tt)
 
@@ -624,7 +628,7 @@ module _ (behind : BehindName (Unit {0})) (b : BehindTells behind) where
 
   -- a query
   pub query_told : (turns : ℕ) → Tells true (query_with marking behind turns)
-  unfolding query_with
+  unfolding query_with query_over
   query_told turns =
       symbol_then OpenBrace _ (sooner true _ (bind_then true (listed column (is_symbol Comma) (is_symbol Bar) turns) _ (listed_told column (is_symbol Comma) (is_symbol Bar) (symbol_clean Comma) column_told column_local turns) (listed_local column _ _ column_local turns) (λ cs.
       symbol_then Bar _ (bind_then false (formula_with marking behind 64 turns) _ (formula_told 64 turns) (formula_local marking behind b.local 64 turns) (λ f.

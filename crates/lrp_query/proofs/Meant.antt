@@ -1,19 +1,20 @@
 -- The reader that makes raw queries reads what the written tree means.
-use Rattle.std.proofs.Common.{◌≡◌, ℕ, inl, List, [], ◌∷◌, map, refl, ap, sym, subst}
+use Rattle.std.proofs.Common.{◌≡◌, ℕ, inl, List, [], ◌∷◌, map, refl, ap, sym, subst, false}
 use Rattle.lrp_model.specs.Texts.{Identifier}
 use Rattle.lrp_model.specs.declared.tokens.Place.{Place}
 use Rattle.lrp_model.specs.DatabaseMeaning.{integer_of}
 use Rattle.lrp_model.specs.Tokens.{Tokens}
-use Rattle.lrp_model.specs.Queries.{Language, WrittenFormula}
+use Rattle.lrp_model.specs.Queries.{Language, WrittenFormula, WrittenTerm}
+use Rattle.lrp_model.specs.declared.written.Located.{Located}
 use Rattle.lrp_model.specs.Queries.Language.{first_order, temporal}
 use Rattle.lrp_model.specs.Queries.WrittenFormula.{hole}
-use Rattle.lrp_model.specs.QueryMeaning.{term_kind, raw_term, raw_form, raw_forms, raw_question}
-use Rattle.lrp_model.specs.RawQueries.{RawForm, raw, no_raws, raw_and, raw_or}
+use Rattle.lrp_model.specs.QueryMeaning.{term_kind, raw_argument, raw_term, raw_form, raw_forms, raw_question}
+use Rattle.lrp_model.specs.RawQueries.{RawForm, raw, raw_atom, no_raws, raw_and, raw_or}
 use Rattle.lrp_text.specs.Parsers.{Parser}
-use Rattle.lrp_query.specs.Rules.{raws, behind_name, plainly, query_with}
+use Rattle.lrp_query.specs.Rules.{raws, behind_name, plainly, query_with, query_over}
 use Rattle.lrp_query.specs.Grammars.{meant, operators_in, behind_in, query_in}
 use Rattle.lrp_query.proofs.Layers.{trees}
-use Rattle.lrp_query.proofs.Languages.{further, grammar, written_operators}
+use Rattle.lrp_query.proofs.Languages.{Narrow, plain, tense, language_of, arguments, further, grammar, written_operators}
 use Rattle.lrp_query.proofs.LanguageReaders.{written_behind, reader}
 use Rattle.lrp_query.proofs.Natural.{mapped, Same, Mapping, cut_same, unmarked, behind_name_same, query_same}
 use Rattle.lrp_query.proofs.OperatorLaws.{behind_same}
@@ -24,16 +25,21 @@ further_raws : {l : Language} (g : WrittenFormula l) (gs : List (WrittenFormula 
 further_raws g [] = refl
 further_raws g (h ∷ gs) = ap (raw (raw_form g)) (further_raws h gs)
 
+-- arguments that are terms mean what these do
+arguments_meant : (l : Language) (ts : List (Located WrittenTerm)) → map (raw_argument {l = l}) (arguments {l = l} ts) ≡ map raw_term ts
+arguments_meant l [] = refl
+arguments_meant l (t ∷ ts) = ap (λ rest. raw_term t ∷ rest) (arguments_meant l ts)
+
 -- raw queries are made from written ones
-abbrev meaning : (l : Language) → Mapping ⊥ (trees (grammar l)) meant
-meaning l = record {
+abbrev meaning : (n : Narrow) → Mapping ⊥ (trees (grammar n)) meant
+meaning n = record {
   kind = term_kind;
   term = raw_term;
   formula = raw_form;
   question = raw_question;
   kind_is = λ t. refl;
   term_is = λ p k. refl;
-  atom_is = λ p n ts. refl;
+  atom_is = λ p r ts. ap (raw_atom p r) (sym (arguments_meant (language_of n) ts));
   comparison_is = λ l op r. refl;
   membership_is = λ l i k. refl;
   negation_is = λ p f. refl;
@@ -48,13 +54,14 @@ meaning l = record {
 }
 
 -- in first-order logic both read alike behind a name, since none is the first word of an operator
-behind_meant : (inner : Parser RawForm) (turns : ℕ) (n : Identifier) (p : Place) (ts : Tokens) → Same ⊥ (trees (grammar first_order)).cut raw_form (behind_name (trees (grammar first_order)) turns n p ts) (behind_in first_order inner turns n p ts)
+behind_meant : (inner : Parser RawForm) (turns : ℕ) (n : Identifier) (p : Place) (ts : Tokens) → Same ⊥ (trees (grammar plain)).cut raw_form (behind_name false (trees (grammar plain)) turns n p ts) (behind_in first_order inner turns n p ts)
 behind_meant inner turns n p ts =
-    subst (Same ⊥ (trees (grammar first_order)).cut raw_form (behind_name (trees (grammar first_order)) turns n p ts)) (sym (wordless meant (operators_in first_order) inner turns n p ts refl)) (behind_name_same ⊥ (trees (grammar first_order)) meant (meaning first_order) turns n p ts)
+    subst (Same ⊥ (trees (grammar plain)).cut raw_form (behind_name false (trees (grammar plain)) turns n p ts)) (sym (wordless meant (operators_in first_order) inner turns n p ts refl)) (behind_name_same ⊥ (trees (grammar plain)) meant (meaning plain) turns n p ts)
 
 -- a query is read as the raw one that it means
-pub query_meant : (l : Language) (turns : ℕ) (ts : Tokens) → query_in l turns ts ≡ mapped raw_question (query_with (trees (grammar l)) (reader l).behind turns ts)
-query_meant first_order turns ts = unmarked raw_question (query_with (trees (grammar first_order)) (plainly (trees (grammar first_order))) turns ts) (query_in first_order turns ts) (query_same ⊥ (trees (grammar first_order)) meant (meaning first_order) (plainly (trees (grammar first_order))) (behind_in first_order) (λ inner other same n p q us. behind_meant other n p q us) turns ts)
-query_meant temporal turns ts =
-    unmarked raw_question (query_with (trees (grammar temporal)) written_behind turns ts) (query_in temporal turns ts)
-    (query_same ⊥ (trees (grammar temporal)) meant (meaning temporal) written_behind (behind_in temporal) (λ inner other same n p i us. behind_same ⊥ (trees (grammar temporal)) meant (meaning temporal) written_operators (operators_in temporal) integer_of (λ k. refl) (λ i. refl) (λ word o a b f. refl) (λ word o f g. refl) inner other same n p i us) turns ts)
+pub query_meant : (n : Narrow) (turns : ℕ) (ts : Tokens) → query_in (language_of n) turns ts ≡ mapped raw_question (query_with (trees (grammar n)) (reader n).behind turns ts)
+unfolding query_with query_over
+query_meant plain turns ts = unmarked raw_question (query_with (trees (grammar plain)) (plainly (trees (grammar plain))) turns ts) (query_in first_order turns ts) (query_same ⊥ (trees (grammar plain)) meant (meaning plain) (plainly (trees (grammar plain))) (behind_in first_order) (λ inner other same n p q us. behind_meant other n p q us) turns ts)
+query_meant tense turns ts =
+    unmarked raw_question (query_with (trees (grammar tense)) written_behind turns ts) (query_in temporal turns ts)
+    (query_same ⊥ (trees (grammar tense)) meant (meaning tense) written_behind (behind_in temporal) (λ inner other same n p i us. behind_same ⊥ (trees (grammar tense)) meant (meaning tense) written_operators (operators_in temporal) integer_of (λ k. refl) (λ i. refl) (λ word o a b f. refl) (λ word o f g. refl) inner other same n p i us) turns ts)

@@ -21,7 +21,7 @@ use Rattle.lrp_query.specs.declared.starts.Start.{Start}
 use Rattle.lrp_query.specs.declared.starts.Start.TheVariants.{Not as by_not, Exists as by_exists, Forall as by_forall, Open as by_open, Name as by_name, Term as by_term}
 use Rattle.lrp_text.specs.IntegerRule.{integer}
 use Rattle.lrp_text.specs.OffsetRule.{offset}
-use Rattle.lrp_query.specs.Rules.{Trees, BehindName, cut_at, with_offset, named_term, unnamed_term, bare_term, term, op_of, point, comparing, tested, atom_terms, behind_name, named, unnamed, negated, existing, holding, implying, conjoined, disjoined, behind_first, enclosed, start_of, is_hole_token, started, formula_over, formula_with, query_with}
+use Rattle.lrp_query.specs.Rules.{Trees, BehindName, cut_at, with_offset, named_term, unnamed_term, bare_term, term, op_of, point, comparing, tested, atom_terms, behind_name, named, unnamed, negated, existing, holding, implying, conjoined, disjoined, behind_first, enclosed, start_of, is_hole_token, started, formula_over, formula_with, query_with, query_over}
 
 -- ---- outcomes
 
@@ -198,23 +198,23 @@ module _ {K T F Q L U G R : Type 0} (E : Type 0) (one : Trees K T F Q) (two : Tr
       bind E one.cut (term one.terms us) (term two.terms us) m.term _ _ m.formula (term_same us) (λ r vs e. made E one.cut m.formula (one.formulas.comparison l op r) (two.formulas.comparison (m.term l) op (m.term r)) vs (m.comparison_is l op r)))
 
   -- what stands behind a first term
-  test_same : (l : T) (ts : Tokens) → Same E one.cut m.formula (tested one l ts) (tested two (m.term l) ts)
+  test_same : (l : T) (ts : Tokens) → Same E one.cut m.formula (tested false one l ts) (tested false two (m.term l) ts)
   unfolding tested
   test_same l ts = leaf E one.cut (eat (is_word In) ts) _ _ m.formula (λ inside us. choice E one.cut inside _ _ _ _ m.formula us (point_same l us) (comparing_same l us))
 
   -- a term of this kind and what stands behind it
-  kind_test_same : (p : Place) (k : K) (ts : Tokens) → Same E one.cut m.formula (tested one (one.terms.term_at p k) ts) (tested two (two.terms.term_at p (m.kind k)) ts)
-  kind_test_same p k ts = subst (λ t. Same E one.cut m.formula (tested one (one.terms.term_at p k) ts) (tested two t ts)) (sym (m.term_is p k)) (test_same (one.terms.term_at p k) ts)
+  kind_test_same : (p : Place) (k : K) (ts : Tokens) → Same E one.cut m.formula (tested false one (one.terms.term_at p k) ts) (tested false two (two.terms.term_at p (m.kind k)) ts)
+  kind_test_same p k ts = subst (λ t. Same E one.cut m.formula (tested false one (one.terms.term_at p k) ts) (tested false two t ts)) (sym (m.term_is p k)) (test_same (one.terms.term_at p k) ts)
 
   -- the terms of an atom
-  atom_terms_same : (turns : ℕ) (n : Identifier) (p : Place) (ts : Tokens) → Same E one.cut m.formula (atom_terms one turns n p ts) (atom_terms two turns n p ts)
+  atom_terms_same : (turns : ℕ) (n : Identifier) (p : Place) (ts : Tokens) → Same E one.cut m.formula (atom_terms false one turns n p ts) (atom_terms false two turns n p ts)
   unfolding atom_terms
   atom_terms_same turns n p ts =
       bind E one.cut (listed (term one.terms) (is_symbol Comma) (is_symbol Close) turns ts) (listed (term two.terms) (is_symbol Comma) (is_symbol Close) turns ts) (map m.term) _ _ m.formula (listed_same E one.cut (term one.terms) (term two.terms) m.term (is_symbol Comma) (is_symbol Close) term_same turns ts) (λ all us e.
       leaf E one.cut (expect Close us) _ _ m.formula (λ a vs. made E one.cut m.formula (one.formulas.atom_of p n all) (two.formulas.atom_of p n (map m.term all)) vs (m.atom_is p n all)))
 
   -- what stands behind a name
-  pub behind_name_same : (turns : ℕ) (n : Identifier) (p : Place) (ts : Tokens) → Same E one.cut m.formula (behind_name one turns n p ts) (behind_name two turns n p ts)
+  pub behind_name_same : (turns : ℕ) (n : Identifier) (p : Place) (ts : Tokens) → Same E one.cut m.formula (behind_name false one turns n p ts) (behind_name false two turns n p ts)
   unfolding behind_name
   behind_name_same turns n p ts =
       leaf E one.cut (eat (is_symbol Open) ts) _ _ m.formula (λ opens vs.
@@ -222,7 +222,7 @@ module _ {K T F Q L U G R : Type 0} (E : Type 0) (one : Trees K T F Q) (two : Tr
       (bind E one.cut (named_term one.terms n vs) (named_term two.terms n vs) m.kind _ _ m.formula (named_term_same n vs) (λ k ws e. kind_test_same p k ws)))
 
   -- what begins with another term
-  pub unnamed_same : (p : Place) (ts : Tokens) → Same E one.cut m.formula (unnamed one p ts) (unnamed two p ts)
+  pub unnamed_same : (p : Place) (ts : Tokens) → Same E one.cut m.formula (unnamed false one p ts) (unnamed false two p ts)
   unfolding unnamed
   unnamed_same p ts = bind E one.cut (unnamed_term one.terms ts) (unnamed_term two.terms ts) m.kind _ _ m.formula (unnamed_term_same ts) (λ k us e. kind_test_same p k us)
 
@@ -336,7 +336,7 @@ module _ {K T F Q L U G R : Type 0} (E : Type 0) (one : Trees K T F Q) (two : Tr
 
     -- a query
     pub query_same : (turns : ℕ) (ts : Tokens) → Same E one.cut m.question (query_with one behind turns ts) (query_with two beyond turns ts)
-    unfolding query_with
+    unfolding query_with query_over
     query_same turns ts =
         leaf E one.cut (expect OpenBrace ts) _ _ m.question (λ a us.
         leaf E one.cut (listed column (is_symbol Comma) (is_symbol Bar) turns us) _ _ m.question (λ cs vs.

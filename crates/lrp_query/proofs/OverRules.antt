@@ -106,7 +106,7 @@ module _ {F X Q : Type 0} (grammar : Grammar F X Q) (inner : Parser F) (behind_i
   named_as t us n p w left L e d a = started_as t us (name_token n) p w left L e d refl (rw (e, d) a)
 
   -- the same where no other name follows
-  plain_as : (t : Placed) (us : Tokens) (n : Identifier) (p : Place) (w : F) (left : Tokens) (L : Type 0) → t.token ≡ name_token n → t.place ≡ p → IsNot is_name us → Answers (behind_name (trees grammar) turns n p us) w left L → Answers (formula_over (trees grammar) behind_it inner turns (t ∷ us)) w left L
+  plain_as : (t : Placed) (us : Tokens) (n : Identifier) (p : Place) (w : F) (left : Tokens) (L : Type 0) → t.token ≡ name_token n → t.place ≡ p → IsNot is_name us → Answers (behind_name false (trees grammar) turns n p us) w left L → Answers (formula_over (trees grammar) behind_it inner turns (t ∷ us)) w left L
   plain_as t us n p w left L e d alone a = named_as t us n p w left L e d (subst (λ o. Answers o w left L) (sym (after.plain n p us alone)) a)
 
   -- a denied formula is read back
@@ -261,7 +261,7 @@ module _ {F X Q : Type 0} (grammar : Grammar F X Q) (inner : Parser F) (behind_i
       enclosed_answers p f (word_token Or) (separated (any (word_token Or)) grammar.text (g ∷ gs) ++ any (symbol_token Close) ∷ []) (grammar.roll (any_of p f g gs)) (FitsLayer grammar d (any_of p f g gs)) (word_ends Or) (λ l. l.0) ts left lt h (λ vs less k. any_of_answers p f g gs vs left less k)
 
   -- a text or an integer at its place, and what stands behind it
-  unnamed_answers : (p : Place) (item : WrittenTerm) (ps : List Part) (f : F) (L : Type 0) → (L → FitsTerm item) → ReadsBack (unnamed_term written_terms) (term_text item) item (FitsTerm item) Anything → ReadsBack (tested (trees grammar) (record { place = p; item = item })) ps f L NoShift → (ts left : Tokens) → Takes (placed_text (record { place = p; item = item }) ++ ps) ts left → NoShift left → Answers (unnamed (trees grammar) p ts) f left L
+  unnamed_answers : (p : Place) (item : WrittenTerm) (ps : List Part) (f : F) (L : Type 0) → (L → FitsTerm item) → ReadsBack (unnamed_term written_terms) (term_text item) item (FitsTerm item) Anything → ReadsBack (tested false (trees grammar) (record { place = p; item = item })) ps f L NoShift → (ts left : Tokens) → Takes (placed_text (record { place = p; item = item }) ++ ps) ts left → NoShift left → Answers (unnamed false (trees grammar) p ts) f left L
   unfolding unnamed
   unnamed_answers p item ps f L fit item_back back ts left h g =
       let l : Located WrittenTerm = record { place = p; item = item } in
@@ -270,14 +270,14 @@ module _ {F X Q : Type 0} (grammar : Grammar F X Q) (inner : Parser F) (behind_i
       answers_then (unnamed_term written_terms ts) _ item k.0 f left L (answers_as _ item k.0 (FitsTerm item) L fit (item_back.reads ts k.0 bare.0 tt)) (back.reads k.0 left k.2 g)
 
   -- an integer at its place, by its sign
-  integer_answers : (p : Place) (negative : Bool) (n : ℕ) (ps : List Part) (f : F) (L : Type 0) → (ts left : Tokens) → Takes (from p (sign negative ++ any (number_token n) ∷ []) ++ ps) ts left → Answers (unnamed (trees grammar) p ts) f left L → Answers (formula_over (trees grammar) behind_it inner turns ts) f left L
+  integer_answers : (p : Place) (negative : Bool) (n : ℕ) (ps : List Part) (f : F) (L : Type 0) → (ts left : Tokens) → Takes (from p (sign negative ++ any (number_token n) ∷ []) ++ ps) ts left → Answers (unnamed false (trees grammar) p ts) f left L → Answers (formula_over (trees grammar) behind_it inner turns ts) f left L
   integer_answers p true n ps f L [] left h a = absurd h
   integer_answers p false n ps f L [] left h a = absurd h
   integer_answers p true n ps f L (t ∷ us) left h a = started_as t us (symbol_token Minus) p f left L h.0.0 h.0.1 refl a
   integer_answers p false n ps f L (t ∷ us) left h a = started_as t us (number_token n) p f left L h.0.0 h.0.1 refl a
 
   -- a formula that begins with a term is read back
-  side_answers : (p : Place) (item : WrittenTerm) (k : Token) (ps : List Part) (f : F) (L : Type 0) → Ends k → (L → FitsTerm item) → ReadsBack (tested (trees grammar) (record { place = p; item = item })) (any k ∷ ps) f L NoShift → (ts left : Tokens) → Takes (placed_text (record { place = p; item = item }) ++ any k ∷ ps) ts left → NoShift left → Answers (formula_over (trees grammar) behind_it inner turns ts) f left L
+  side_answers : (p : Place) (item : WrittenTerm) (k : Token) (ps : List Part) (f : F) (L : Type 0) → Ends k → (L → FitsTerm item) → ReadsBack (tested false (trees grammar) (record { place = p; item = item })) (any k ∷ ps) f L NoShift → (ts left : Tokens) → Takes (placed_text (record { place = p; item = item }) ++ any k ∷ ps) ts left → NoShift left → Answers (formula_over (trees grammar) behind_it inner turns ts) f left L
   side_answers p (variable n) k ps f L e fit back [] left h g = absurd h
   side_answers p (shifted n down j) k ps f L e fit back [] left h g = absurd h
   side_answers p (text_term s) k ps f L e fit back [] left h g = absurd h

@@ -23,7 +23,7 @@ use Rattle.lrp_text.proofs.TokenTests.{symbol_told, symbol_seen, expect_seen, en
 use Rattle.lrp_text.proofs.ColumnRule.{column_back, column_sound, column_viable}
 use Rattle.lrp_text.proofs.Local.{Local}
 use Rattle.lrp_text.proofs.Refusal.{Rule, refused_at}
-use Rattle.lrp_query.specs.Rules.{BehindName, formula_with, query_with}
+use Rattle.lrp_query.specs.Rules.{BehindName, formula_with, query_with, query_over}
 use Rattle.lrp_query.proofs.Layers.{Grammar, trees, FormulaRules, BehindRules}
 use Rattle.lrp_query.proofs.LocalRules.{query_local}
 use Rattle.lrp_query.proofs.TestRules.{sym_part, symbol_sound, symbol_viable, symbol_at}
@@ -123,7 +123,7 @@ module _ {F X Q : Type 0} (grammar : Grammar F X Q) where
 
     -- a query that fewer tokens spell than the number of turns is read, or refused for another cause than syntax where it is not lawful
     pub query_answers : (turns : ℕ) (q : Q) (ts left : Tokens) → length ts < turns → Takes (query_text q) ts left → Answers (query_with (trees grammar) behind_it turns ts) q left (grammar.FitsQuery q)
-    unfolding query_with
+    unfolding query_with query_over
     query_answers turns q ts left lt h =
         let L : Type 0 = grammar.FitsQuery q in
         let open_part : List Part = any (symbol_token OpenBrace) ∷ [] in
@@ -157,7 +157,7 @@ module _ {F X Q : Type 0} (grammar : Grammar F X Q) where
 
     -- what is read as a query is lawful, and the tokens spell it
     pub query_sound : (turns : ℕ) → Sound (query_with (trees grammar) behind_it turns) query_text grammar.FitsQuery
-    unfolding query_with
+    unfolding query_with query_over
     query_sound turns ts q h =
         let a = bind_ok (expect OpenBrace ts) _ q h in
         let b = bind_ok (listed column (is_symbol Comma) (is_symbol Bar) turns a.0.1) _ q a.2 in
@@ -201,7 +201,7 @@ module _ {F X Q : Type 0} (grammar : Grammar F X Q) where
 
     -- the tokens before a fault of a query begin one
     pub query_viable : (turns : ℕ) (ts : Tokens) (e : Fault × Tokens) → length ts < turns → query_with (trees grammar) behind_it turns ts ≡ Err e → Stops (TextOf query_text grammar.FitsQuery) ts e
-    unfolding query_with
+    unfolding query_with query_over
     query_viable turns ts e lt h =
         let R : Bool → Tokens → Type 0 = TextOf query_text grammar.FitsQuery in
         let some_body : F = some_formula grammar 64 in

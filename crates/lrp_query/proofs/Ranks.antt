@@ -24,34 +24,34 @@ use Rattle.lrp_query.proofs.QueryRules.{query_text, query_answers, query_complet
 -- ---- tokens without holes
 
 -- a token among them
-clean_at : (front : Tokens) (t : Placed) (tail : Tokens) → NoHoles (front ++ t ∷ tail) → is_hole_token t.token ≡ false
+pub clean_at : (front : Tokens) (t : Placed) (tail : Tokens) → NoHoles (front ++ t ∷ tail) → is_hole_token t.token ≡ false
 clean_at [] t tail c = c.0
 clean_at (x ∷ front) t tail c = clean_at front t tail c.1
 
 -- those in front
-clean_front : (front back : Tokens) → NoHoles (front ++ back) → NoHoles front
+pub clean_front : (front back : Tokens) → NoHoles (front ++ back) → NoHoles front
 clean_front [] back c = tt
 clean_front (x ∷ front) back c = (c.0, clean_front front back c.1)
 
 -- no token is a hole and none
-both_holes : (k : Token) → is_hole_token k ≡ true → is_hole_token k ≡ false → ⊥
+pub both_holes : (k : Token) → is_hole_token k ≡ true → is_hole_token k ≡ false → ⊥
 both_holes k h n = let e : true ≡ false = sym h ∙ n in absurd cc
 
 -- a hole is one
-is_hole : (k : Token) → is_hole_token k ≡ true → k ≡ hole_token
+pub is_hole : (k : Token) → is_hole_token k ≡ true → k ≡ hole_token
 is_hole hole_token h = refl
 is_hole _ h = absurd cc
 
 -- a hole shows itself
-hole_shows : (t : Placed) → t.token ≡ hole_token → is_hole_token t.token ≡ true
+pub hole_shows : (t : Placed) → t.token ≡ hole_token → is_hole_token t.token ≡ true
 hole_shows t e = ap is_hole_token e
 
 -- equal lists have equal heads and tails
-parts : (a b : Placed) (xs ys : Tokens) → a ∷ xs ≡ b ∷ ys → (a ≡ b) × (xs ≡ ys)
+pub parts : (a b : Placed) (xs ys : Tokens) → a ∷ xs ≡ b ∷ ys → (a ≡ b) × (xs ≡ ys)
 parts a b xs ys e = (cc, cc)
 
 -- the first hole of a list stands at one place
-same_front : (f g : Tokens) (a b : Placed) (xs ys : Tokens) → NoHoles f → NoHoles g → is_hole_token a.token ≡ true → is_hole_token b.token ≡ true → f ++ a ∷ xs ≡ g ++ b ∷ ys → f ≡ g
+pub same_front : (f g : Tokens) (a b : Placed) (xs ys : Tokens) → NoHoles f → NoHoles g → is_hole_token a.token ≡ true → is_hole_token b.token ≡ true → f ++ a ∷ xs ≡ g ++ b ∷ ys → f ≡ g
 same_front [] [] a b xs ys cf cg ha hb e = refl
 same_front [] (y ∷ g) a b xs ys cf cg ha hb e =
     let h : a ≡ y = (parts a y xs (g ++ b ∷ ys) e).0 in
@@ -67,7 +67,7 @@ same_front (x ∷ f) (y ∷ g) a b xs ys cf cg ha hb e =
 -- ---- kinds
 
 -- the kinds that are told where a formula would be too deep
-abbrev IsDeepKind : Fault → Type 0
+abbrev pub IsDeepKind : Fault → Type 0
 IsDeepKind Syntax = Unit {0}
 IsDeepKind Number = Unit {0}
 IsDeepKind Deep = Unit {0}
@@ -79,7 +79,7 @@ number_kind true = tt
 number_kind false = tt
 
 -- at any token
-deep_kind : (k : Token) → IsDeepKind (too_deep k)
+pub deep_kind : (k : Token) → IsDeepKind (too_deep k)
 deep_kind (number_token n) = number_kind (nat_le n 4611686018427387904)
 deep_kind (name_token n) = tt
 deep_kind (text_token t) = tt
@@ -91,18 +91,18 @@ deep_kind (symbol_token Minus) = tt
 deep_kind _ = tt
 
 -- a number above the limit is told as one
-not_large : (k : Token) → too_deep k ≡ Deep → IsCause Number k → ⊥
+pub not_large : (k : Token) → too_deep k ≡ Deep → IsCause Number k → ⊥
 not_large (number_token n) e lt = let h : Deep ≡ Number = sym e ∙ large_at n (nat_le n 4611686018427387904) refl lt in absurd cc
 not_large _ e lt = lt
 
 -- ---- outcomes
 
 -- equal faults have equal kinds and tokens
-same_fault : {A : Type 0} (o : ParseOutcome A) (j k : Fault) (a b : Placed) (xs ys : Tokens) → o ≡ Err (j, a ∷ xs) → o ≡ Err (k, b ∷ ys) → (j ≡ k) × (a ∷ xs ≡ b ∷ ys)
+pub same_fault : {A : Type 0} (o : ParseOutcome A) (j k : Fault) (a b : Placed) (xs ys : Tokens) → o ≡ Err (j, a ∷ xs) → o ≡ Err (k, b ∷ ys) → (j ≡ k) × (a ∷ xs ≡ b ∷ ys)
 same_fault o j k a b xs ys e d = let h : ◌≡◌ {A = Fault × Tokens} (j, a ∷ xs) (k, b ∷ ys) = cc in (ap (λ p. p.0) h, ap (λ p. p.1) h)
 
 -- nothing is read and refused
-ok_or_err : {A : Type 0} (o : ParseOutcome A) (q : A × Tokens) (e : Fault × Tokens) → o ≡ Ok q → o ≡ Err e → ⊥
+pub ok_or_err : {A : Type 0} (o : ParseOutcome A) (q : A × Tokens) (e : Fault × Tokens) → o ≡ Ok q → o ≡ Err e → ⊥
 ok_or_err o q e a b = let h : ◌≡◌ {A = ParseOutcome _} (Ok q) (Err e) = sym a ∙ b in absurd cc
 
 module _ {F X Q : Type 0} (grammar : Grammar F X Q) (reader : Reader grammar) where

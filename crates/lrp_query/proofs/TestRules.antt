@@ -104,15 +104,15 @@ op_err (symbol_token Equals) k e = absurd cc
 op_err _ k e = cc
 
 -- the part of a comparison that was read
-op_told : (t : Placed) (op : Op) → op_of t.token ≡ Ok op → IsPart (op_part op) t
+pub op_told : (t : Placed) (op : Op) → op_of t.token ≡ Ok op → IsPart (op_part op) t
 op_told t op e = op_is t.token op e
 
 -- the comparison of a part
-op_seen : (op : Op) (t : Placed) → IsPart (op_part op) t → op_of t.token ≡ Ok op
+pub op_seen : (op : Op) (t : Placed) → IsPart (op_part op) t → op_of t.token ≡ Ok op
 op_seen op t h = ap op_of h ∙ op_again op
 
 -- a comparison stops for its syntax alone
-op_stops : TestStops (λ t. op_of t.token) op_part (λ op. Unit {0})
+pub op_stops : TestStops (λ t. op_of t.token) op_part (λ op. Unit {0})
 op_stops = record { token = record { token = symbol_token le_sign; place = start }; value = Le; fits = tt; is = refl; fault = λ t k e. inl (op_err t.token k e) }
 
 -- what spells a point behind `in`
@@ -209,7 +209,7 @@ through_pure (Ok q) h f = refl
 through_pure (Err e) h f = refl
 
 -- parts that begin with a token take one
-empty_leads : (ps : List Part) (us : Tokens) → Leads ps → Takes ps [] us → ⊥
+pub empty_leads : (ps : List Part) (us : Tokens) → Leads ps → Takes ps [] us → ⊥
 empty_leads [] us l h = l
 empty_leads (any k ∷ ps) us l h = h
 empty_leads (at q k ∷ ps) us l h = l
@@ -236,19 +236,19 @@ module _ {F X Q : Type 0} (grammar : Grammar F X Q) (d : ℕ) where
       (last_back (term written_terms) (λ x. grammar.roll (compared l op x)) (placed_text r) r L NoShift (back_as (FitsPlaced r) L (λ f. f.1) (term_back r)))
 
   -- behind a term, `in` and a point are read back
-  pub test_point_back : (l : Located WrittenTerm) (i : Integer) (k : ℕ) → ReadsBack (tested (trees grammar) l) (any (word_token In) ∷ point_text i k) (grammar.roll (member l i k)) (FitsLayer grammar d (member l i k)) NoShift
+  pub test_point_back : (l : Located WrittenTerm) (i : Integer) (k : ℕ) → ReadsBack (tested false (trees grammar) l) (any (word_token In) ∷ point_text i k) (grammar.roll (member l i k)) (FitsLayer grammar d (member l i k)) NoShift
   unfolding tested
   test_point_back l i k = then_back _ (eat_back (is_word In) (any (word_token In)) (FitsLayer grammar d (member l i k)) (word_seen In)) (point_back l i k)
 
   -- behind a term, a comparison and a term are read back
-  pub test_compared_back : (l : Located WrittenTerm) (op : Op) (r : Located WrittenTerm) → ReadsBack (tested (trees grammar) l) (op_part op ∷ placed_text r) (grammar.roll (compared l op r)) (FitsLayer grammar d (compared l op r)) NoShift
+  pub test_compared_back : (l : Located WrittenTerm) (op : Op) (r : Located WrittenTerm) → ReadsBack (tested false (trees grammar) l) (op_part op ∷ placed_text r) (grammar.roll (compared l op r)) (FitsLayer grammar d (compared l op r)) NoShift
   unfolding tested
   test_compared_back l op r = bind_back _ {G = NoShift} (eat_none (is_word In) (FitsLayer grammar d (compared l op r))) (comparing_back l op r) (λ ts left h g. first_is_not (is_word_token In) (symbol_token (op_symbol op)) (placed_text r) ts left refl h)
 
   -- ---- what begins with a name: complete
 
   -- behind a name, an offset or none, and what stands behind it
-  pub name_test_back : (turns : ℕ) (p : Place) (n : Identifier) (o : Offset) (k : Token) (ps : List Part) (f : F) (L : Type 0) → Ends k → (L → FitsOffset o) → ReadsBack (tested (trees grammar) (record { place = p; item = with_offset n o })) (any k ∷ ps) f L NoShift → ReadsBack (behind_name (trees grammar) turns n p) (offset_text o ++ any k ∷ ps) f L NoShift
+  pub name_test_back : (turns : ℕ) (p : Place) (n : Identifier) (o : Offset) (k : Token) (ps : List Part) (f : F) (L : Type 0) → Ends k → (L → FitsOffset o) → ReadsBack (tested false (trees grammar) (record { place = p; item = with_offset n o })) (any k ∷ ps) f L NoShift → ReadsBack (behind_name false (trees grammar) turns n p) (offset_text o ++ any k ∷ ps) f L NoShift
   unfolding behind_name named_term
   name_test_back turns p n o k ps f L ends fit back =
       bind_back _ {G = NoShift} (eat_none (is_symbol Open) L)
@@ -256,7 +256,7 @@ module _ {F X Q : Type 0} (grammar : Grammar F X Q) (d : ℕ) where
       (λ ts left h g. no_open o k ps ts left ends h)
 
   -- the terms of an atom are read back
-  atom_terms_back : (turns : ℕ) (p : Place) (n : Identifier) (ts : List (Located WrittenTerm)) → length ts ≤ turns → ReadsBack (atom_terms (trees grammar) turns n p) (separated comma placed_text ts ++ any (symbol_token Close) ∷ []) (grammar.roll (atom p n ts)) (FitsLayer grammar d (atom p n ts)) NoShift
+  atom_terms_back : (turns : ℕ) (p : Place) (n : Identifier) (ts : List (Located WrittenTerm)) → length ts ≤ turns → ReadsBack (atom_terms false (trees grammar) turns n p) (separated comma placed_text ts ++ any (symbol_token Close) ∷ []) (grammar.roll (atom p n ts)) (FitsLayer grammar d (atom p n ts)) NoShift
   unfolding atom_terms
   atom_terms_back turns p n ts few =
       let L : Type 0 = FitsLayer grammar d (atom p n ts) in
@@ -265,7 +265,7 @@ module _ {F X Q : Type 0} (grammar : Grammar F X Q) (d : ℕ) where
       (λ us left h g. closes [] us left h)
 
   -- behind a name, the terms of an atom in parentheses are read back
-  pub name_atom_back : (turns : ℕ) (p : Place) (n : Identifier) (ts : List (Located WrittenTerm)) → length ts ≤ turns → ReadsBack (behind_name (trees grammar) turns n p) (any (symbol_token Open) ∷ (separated comma placed_text ts ++ any (symbol_token Close) ∷ [])) (grammar.roll (atom p n ts)) (FitsLayer grammar d (atom p n ts)) NoShift
+  pub name_atom_back : (turns : ℕ) (p : Place) (n : Identifier) (ts : List (Located WrittenTerm)) → length ts ≤ turns → ReadsBack (behind_name false (trees grammar) turns n p) (any (symbol_token Open) ∷ (separated comma placed_text ts ++ any (symbol_token Close) ∷ [])) (grammar.roll (atom p n ts)) (FitsLayer grammar d (atom p n ts)) NoShift
   unfolding behind_name
   name_atom_back turns p n ts few = then_back _ (eat_back (is_symbol Open) (any (symbol_token Open)) (FitsLayer grammar d (atom p n ts)) (symbol_seen Open)) (atom_terms_back turns p n ts few)
 
@@ -309,14 +309,14 @@ module _ {F X Q : Type 0} (grammar : Grammar F X Q) (d : ℕ) where
   either_sound l false ts us vs q one fit eaten e = comparing_sound l ts vs q (subst (λ x. Takes (placed_text l) ts x) eaten one) fit e
 
   -- a first term and what is read behind it are spelled so, and lawful
-  pub test_sound : (l : Located WrittenTerm) (ts us : Tokens) (q : F × Tokens) → Takes (placed_text l) ts us → FitsPlaced l → tested (trees grammar) l us ≡ Ok q → IsFormula grammar (suc d) ts q
+  pub test_sound : (l : Located WrittenTerm) (ts us : Tokens) (q : F × Tokens) → Takes (placed_text l) ts us → FitsPlaced l → tested false (trees grammar) l us ≡ Ok q → IsFormula grammar (suc d) ts q
   unfolding tested
   test_sound l ts us q one fit e =
       let i = bind_ok (eat (is_word In) us) _ q e in
       either_sound l i.0.0 ts us i.0.1 q one fit (eat_sound (is_word In) (any (word_token In)) (word_told In) us i.0 i.1) i.2
 
   -- behind a name, with or without a parenthesis
-  after_name_sound : (turns : ℕ) (n : Identifier) (p : Place) (opens : Bool) (ts us vs : Tokens) (q : F × Tokens) → Takes (at p (name_token n) ∷ []) ts us → Takes (eaten_parts (any (symbol_token Open)) opens) us vs → (if opens then atom_terms (trees grammar) turns n p else (named_term written_terms n >>= (λ k. tested (trees grammar) (record { place = p; item = k })))) vs ≡ Ok q → IsFormula grammar (suc d) ts q
+  after_name_sound : (turns : ℕ) (n : Identifier) (p : Place) (opens : Bool) (ts us vs : Tokens) (q : F × Tokens) → Takes (at p (name_token n) ∷ []) ts us → Takes (eaten_parts (any (symbol_token Open)) opens) us vs → (if opens then atom_terms false (trees grammar) turns n p else (named_term written_terms n >>= (λ k. tested false (trees grammar) (record { place = p; item = k })))) vs ≡ Ok q → IsFormula grammar (suc d) ts q
   unfolding atom_terms named_term
   after_name_sound turns n p true ts us vs q one eaten e =
       let l = bind_ok (listed (term written_terms) (is_symbol Comma) (is_symbol Close) turns vs) _ q e in
@@ -335,18 +335,18 @@ module _ {F X Q : Type 0} (grammar : Grammar F X Q) (d : ℕ) where
       let read = offset_sound vs o.0 o.1 in
       let left : Located WrittenTerm = record { place = p; item = with_offset n o.0.0 } in
       let named_left : Takes (placed_text left) ts o.0.1 = subst (λ ps. Takes ps ts o.0.1) (sym (placed_offset p n o.0.0)) (takes_join (at p (name_token n) ∷ []) (offset_text o.0.0) ts vs o.0.1 (subst (λ x. Takes (at p (name_token n) ∷ []) ts x) eaten one) read.0) in
-      let R : WrittenTerm × Tokens → Type 0 = λ y. tested (trees grammar) (record { place = p; item = y.0 }) y.1 ≡ Ok q in
+      let R : WrittenTerm × Tokens → Type 0 = λ y. tested false (trees grammar) (record { place = p; item = y.0 }) y.1 ≡ Ok q in
       test_sound left ts o.0.1 q named_left (with_offset_fits n o.0.0 read.1) (subst R (sym h) k.2)
 
   -- what is read behind a name is spelled so with it, and lawful
-  pub behind_name_sound : (turns : ℕ) (n : Identifier) (p : Place) (us : Tokens) (q : F × Tokens) → behind_name (trees grammar) turns n p us ≡ Ok q → IsFormula grammar (suc d) (name_at n p ∷ us) q
+  pub behind_name_sound : (turns : ℕ) (n : Identifier) (p : Place) (us : Tokens) (q : F × Tokens) → behind_name false (trees grammar) turns n p us ≡ Ok q → IsFormula grammar (suc d) (name_at n p ∷ us) q
   unfolding behind_name
   behind_name_sound turns n p us q e =
       let o = bind_ok (eat (is_symbol Open) us) _ q e in
       after_name_sound turns n p o.0.0 (name_at n p ∷ us) us o.0.1 q ((refl, refl), refl) (eat_sound (is_symbol Open) (any (symbol_token Open)) (symbol_told Open) us o.0 o.1) o.2
 
   -- what begins with another term and is read is spelled so, and is lawful
-  pub unnamed_sound : (t : Placed) (us : Tokens) (q : F × Tokens) → unnamed (trees grammar) t.place (t ∷ us) ≡ Ok q → IsFormula grammar (suc d) (t ∷ us) q
+  pub unnamed_sound : (t : Placed) (us : Tokens) (q : F × Tokens) → unnamed false (trees grammar) t.place (t ∷ us) ≡ Ok q → IsFormula grammar (suc d) (t ∷ us) q
   unfolding unnamed
   unnamed_sound t us q e =
       let k = bind_ok (unnamed_term written_terms (t ∷ us)) _ q e in
@@ -390,7 +390,7 @@ module _ {F X Q : Type 0} (grammar : Grammar F X Q) (d : ℕ) where
       (λ r h2 ws s2 f2 d2. absurd cc))
 
   -- the tokens before a fault behind a first term begin a formula with it
-  pub test_stops : (l : Located WrittenTerm) (head us : Tokens) (e : Fault × Tokens) → Spells (placed_text l) head → FitsPlaced l → tested (trees grammar) l us ≡ Err e → Stops (λ c x. LayerTexts grammar d c (head ++ x)) us e
+  pub test_stops : (l : Located WrittenTerm) (head us : Tokens) (e : Fault × Tokens) → Spells (placed_text l) head → FitsPlaced l → tested false (trees grammar) l us ≡ Err e → Stops (λ c x. LayerTexts grammar d c (head ++ x)) us e
   unfolding tested
   test_stops l head us e one fit h =
       eat_step (is_word In) _ (λ c x. LayerTexts grammar d c (head ++ x)) us e h
@@ -398,7 +398,7 @@ module _ {F X Q : Type 0} (grammar : Grammar F X Q) (d : ℕ) where
       (λ k. comparing_stops l head us e one fit k)
 
   -- the tokens before a fault of the terms of an atom begin one
-  atom_stops : (turns : ℕ) (n : Identifier) (p : Place) (head : Tokens) (t : Placed) (us : Tokens) (e : Fault × Tokens) → Spells (at p (name_token n) ∷ []) head → IsPart (any (symbol_token Open)) t → length us < turns → atom_terms (trees grammar) turns n p us ≡ Err e → Stops (λ c x. LayerTexts grammar d c (head ++ t ∷ x)) us e
+  atom_stops : (turns : ℕ) (n : Identifier) (p : Place) (head : Tokens) (t : Placed) (us : Tokens) (e : Fault × Tokens) → Spells (at p (name_token n) ∷ []) head → IsPart (any (symbol_token Open)) t → length us < turns → atom_terms false (trees grammar) turns n p us ≡ Err e → Stops (λ c x. LayerTexts grammar d c (head ++ t ∷ x)) us e
   unfolding atom_terms
   atom_stops turns n p head t us e one is lt h =
       let R : Bool → Tokens → Type 0 = λ c x. LayerTexts grammar d c (head ++ t ∷ x) in
@@ -410,7 +410,7 @@ module _ {F X Q : Type 0} (grammar : Grammar F X Q) (d : ℕ) where
       (λ u h2 ws s2 f2 d2. absurd cc))
 
   -- the tokens before a fault behind a name begin a formula with it
-  pub behind_name_stops : (turns : ℕ) (n : Identifier) (p : Place) (us : Tokens) (e : Fault × Tokens) → length us < turns → behind_name (trees grammar) turns n p us ≡ Err e → Stops (λ c x. LayerTexts grammar d c (name_at n p ∷ x)) us e
+  pub behind_name_stops : (turns : ℕ) (n : Identifier) (p : Place) (us : Tokens) (e : Fault × Tokens) → length us < turns → behind_name false (trees grammar) turns n p us ≡ Err e → Stops (λ c x. LayerTexts grammar d c (name_at n p ∷ x)) us e
   unfolding behind_name named_term
   behind_name_stops turns n p us e lt h =
       let head : Tokens = name_at n p ∷ [] in
@@ -418,7 +418,7 @@ module _ {F X Q : Type 0} (grammar : Grammar F X Q) (d : ℕ) where
       let named : Spells (at p (name_token n) ∷ []) head = ((refl, refl), refl) in
       eat_short (is_symbol Open) _ R us e h
       (λ t vs told less d2. atom_stops turns n p head t vs e named (symbol_told Open t told) (omega arith) d2)
-      (λ d2. sub_step offset _ offset_text FitsOffset R us e offset_sound offset_viable (sym (through_pure (offset us) (λ o. with_offset n o) (λ k. tested (trees grammar) (record { place = p; item = k }))) ∙ d2)
+      (λ d2. sub_step offset _ offset_text FitsOffset R us e offset_sound offset_viable (sym (through_pure (offset us) (λ o. with_offset n o) (λ k. tested false (trees grammar) (record { place = p; item = k }))) ∙ d2)
       (λ c o x spelled fits. (
         symbol_at Equals ∷ zero_tokens,
         (
@@ -440,7 +440,7 @@ module _ {F X Q : Type 0} (grammar : Grammar F X Q) (d : ℕ) where
       (symbol_at Equals ∷ zero_tokens, (compared l Eq zero_term, fits_as (FitsTerm k) (FitsLayer grammar d (compared l Eq zero_term)) c (λ f. (f, omega arith)) fit, spells_join (placed_text l) (op_part Eq ∷ placed_text zero_term) (t ∷ x) (symbol_at Equals ∷ zero_tokens) placed (refl, ((refl, refl), refl))))
 
   -- the tokens before a fault of what begins with another term begin one
-  pub unnamed_stops : (t : Placed) (us : Tokens) (e : Fault × Tokens) → unnamed (trees grammar) t.place (t ∷ us) ≡ Err e → Stops (LayerTexts grammar d) (t ∷ us) e
+  pub unnamed_stops : (t : Placed) (us : Tokens) (e : Fault × Tokens) → unnamed false (trees grammar) t.place (t ∷ us) ≡ Err e → Stops (LayerTexts grammar d) (t ∷ us) e
   unfolding unnamed
   unnamed_stops t us e h = elim (bind_err (unnamed_term written_terms (t ∷ us)) _ e h) [
     | inl f ↦ before (TextOf term_text FitsTerm) (LayerTexts grammar d) (t ∷ us) e (λ c x r. term_goes_on c x r.0 r.1 r.2) (unnamed_term_viable (t ∷ us) e f)

@@ -1,5 +1,5 @@
 -- The query of a text of a grammar, and the fault of one that is none.
-use Rattle.std.proofs.Common.{◌≡◌, ◌<◌, inl, inr, ℕ, suc, List, [], ◌∷◌, refl, ap, ◌∙◌, sym, subst, Ok, Err, Result, IfOk, IfErr, length, arith}
+use Rattle.std.proofs.Common.{◌≡◌, ◌<◌, inl, inr, ℕ, suc, false, List, [], ◌∷◌, refl, ap, ◌∙◌, sym, subst, Ok, Err, Result, IfOk, IfErr, length, arith}
 use Rattle.std.specs.Str.{IsUtf8}
 use Rattle.lrp_model.specs.declared.tokens.Place.{Place}
 use Rattle.lrp_model.specs.declared.tokens.Fault.{Fault as TokenFault}
@@ -8,7 +8,7 @@ use Rattle.lrp_model.specs.declared.faults.QueryFault.{QueryFault}
 use Rattle.lrp_model.specs.declared.faults.QueryRead.{QueryRead}
 use Rattle.lrp_model.specs.declared.faults.QueryRead.TheVariants.{Fault, Memory}
 use Rattle.lrp_model.specs.declared.faults.QueryKind.{QueryKind}
-use Rattle.lrp_model.specs.declared.faults.QueryKind.TheVariants.{Utf8, Syntax, Number, Period, Deep, UnknownRelation, Arity, Sort, Unbound, Rebound, Wide, TextTooLong, UnknownSort}
+use Rattle.lrp_model.specs.declared.faults.QueryKind.TheVariants.{Utf8, Syntax, Number, Period, Deep, UnknownRelation, Arity, Sort, Unbound, Rebound, Wide, TextTooLong, UnknownSort, Defined}
 use Rattle.lrp_model.specs.Tokens.{Placed, Tokens}
 use Rattle.lrp_model.specs.Lexing.{tokens}
 use Rattle.lrp_model.specs.Refused.{TextOf, IsLawfulText, IsTextSaying}
@@ -73,6 +73,7 @@ module _ {F X Q : Type 0} (grammar : Grammar F X Q) where
   no_fault bytes tree Rebound f t r = r
   no_fault bytes tree Wide f t r = r
   no_fault bytes tree UnknownSort f t r = r
+  no_fault bytes tree Defined f t r = r
 
   -- a reader that gives what the trees mean
   module _ (reader : Reader grammar) {R : Type 0} (h : Q → R) (read : ℕ → Parser R) (meant : (n : ℕ) (ts : Tokens) → read n ts ≡ mapped h (query_with (trees grammar) reader.behind n ts)) where
@@ -81,7 +82,7 @@ module _ {F X Q : Type 0} (grammar : Grammar F X Q) where
     Says = IsTextSaying (query_text grammar) grammar.FitsQuery h
 
     -- what was read is what the text says
-    query_read : (bytes : List ℕ) (r : R) → IsTextRead read bytes r → Says bytes r
+    query_read : (bytes : List ℕ) (r : R) → IsTextRead false read bytes r → Says bytes r
     query_read bytes r t =
         let ts = tokens bytes in
         let n = suc (length ts) in
@@ -106,7 +107,7 @@ module _ {F X Q : Type 0} (grammar : Grammar F X Q) where
         let refused = query_refused grammar reader.behind reader.rules reader.local ts k bad s.left written_reads in
         record {
           refusal = record { utf8 = utf8; bad = bad; tail = s.left; refused = refused; place_is = refl };
-          ranked = ranked grammar reader ts refused.front k bad s.left refused.more (tokens_clean bytes) refused.whole refused.begins refused.cause written_reads;
+          ranked = ranked grammar reader ts refused.front k bad s.left refused.more (tokens_clean false bytes) refused.whole refused.begins refused.cause written_reads;
         }
 
     -- what was met while a text was read is its fault
@@ -119,17 +120,17 @@ module _ {F X Q : Type 0} (grammar : Grammar F X Q) where
     refused_as bytes us deep l slice place utf8 s reads = refused_there bytes us deep l slice place utf8 s reads
 
     -- and why nothing was read is its fault
-    text_unread : (bytes : List ℕ) (r : QueryRead) → IsTextUnread read bytes r → IsUnreadOf Texts bytes r
+    text_unread : (bytes : List ℕ) (r : QueryRead) → IsTextUnread false read bytes r → IsUnreadOf Texts bytes r
     text_unread bytes Memory u = tt
     text_unread bytes (Fault f) (inl u) = subst (λ k. IsTextFaultOf Texts bytes k f) (sym u.0) u.1
     text_unread bytes (Fault f) (inr (k, e, s)) = subst (IsUnreadOf Texts bytes) e (refused_as bytes s.left k s.lexeme s.slice f.place s.utf8 s.stands s.stops)
 
     -- what was read is what the text says, each text is read, and each other one is refused for its one fault
-    pub answered : {V : Type 0} (seen : V → R) (bytes : List ℕ) (r : Result V QueryRead) → IfOk r (λ v. IsTextRead read bytes (seen v)) → IfErr r (IsTextUnread read bytes) → IsReaderAnswer Texts bytes (Says bytes) seen r
+    pub answered : {V : Type 0} (seen : V → R) (bytes : List ℕ) (r : Result V QueryRead) → IfOk r (λ v. IsTextRead false read bytes (seen v)) → IfErr r (IsTextUnread false read bytes) → IsReaderAnswer Texts bytes (Says bytes) seen r
     answered seen bytes (Ok v) ok err =
         let said = query_read bytes (seen v) ok in
         record { query = said; refused = err; every_query = λ q t. one_said bytes (seen v) q said t; every_fault = λ f t. none_said bytes (seen v) f said t }
     answered seen bytes (Err Memory) ok err = record { query = ok; refused = tt; every_query = λ q t. tt; every_fault = λ f t. tt }
     answered seen bytes (Err (Fault g)) ok err =
         let unread = text_unread bytes (Fault g) err in
-        record { query = ok; refused = unread; every_query = λ q t. none_said bytes q g t unread; every_fault = λ f t. fault_once Texts bytes g f unread t }
+        record { query = ok; refused = unread; every_query = λ q t. none_said bytes q g t unread; every_fault = λ f t. fault_once false Texts bytes g f unread t }

@@ -9,8 +9,8 @@ use Rattle.lrp_model.specs.Tokens.Token.{symbol_token, word_token, end_token}
 use Rattle.lrp_model.specs.Tokens.Part.{at, any}
 use Rattle.lrp_model.specs.Columns.{column_text}
 use Rattle.lrp_model.specs.Databases.{comma}
-use Rattle.lrp_model.specs.Queries.{Language, WrittenFormula, FurtherMembers, WrittenQuery, formula_text, members_text, interval_text, query_text}
-use Rattle.lrp_model.specs.Queries.WrittenFormula.{atom_formula, compared, member, denied, all_of, any_of, implied, group, some, every, ranged, paired, hole}
+use Rattle.lrp_model.specs.Queries.{Language, WrittenFormula, FurtherMembers, WrittenQuery, formula_text, members_text, interval_text, names_text, query_text}
+use Rattle.lrp_model.specs.Queries.WrittenFormula.{atom_formula, compared, member, denied, all_of, any_of, implied, group, some, every, ranged, paired, differing, several, bare_all, bare_any, bare_chain, chain, hole}
 use Rattle.lrp_model.specs.Queries.FurtherMembers.{last, more}
 use Rattle.lrp_text.proofs.NameTokens.{all_front, all_behind}
 use Rattle.lrp_query.specs.Rules.{is_hole_token}
@@ -31,6 +31,12 @@ abbrev mutual
   Whole (every p c f) = Whole f
   Whole (ranged t word o a b f) = Whole f
   Whole (paired t word o f g) = Whole f × Whole g
+  Whole (differing t l r) = Unit {0}
+  Whole (several t q p ns c f) = Whole f
+  Whole (bare_all t f fs) = Whole f × Wholes fs
+  Whole (bare_any t f fs) = Whole f × Wholes fs
+  Whole (bare_chain t f fs) = Whole f × Wholes fs
+  Whole (chain t p f g fs) = Whole f × Whole g × Wholes fs
   Whole (hole p) = ⊥
 
   pub Wholes : {l : Language} → FurtherMembers l → Type 0
@@ -78,6 +84,16 @@ mutual
   whole (paired t word o f g) c =
       let rest : List Part = any (symbol_token Comma) ∷ (formula_text g ++ closing) in
       (whole f (front_of CleanPart (formula_text f) rest c.1.1.1), whole g (front_of CleanPart (formula_text g) closing (back_of CleanPart (formula_text f) rest c.1.1.1).1))
+  whole (differing t l r) c = tt
+  whole (several t q p ns b f) c = whole f (back_of CleanPart (column_text b) (formula_text f) (back_of CleanPart (names_text (ns.first ∷ ns.others)) (column_text b ++ formula_text f) c.1))
+  whole (bare_all t f fs) c = (whole f (front_of CleanPart (formula_text f) (members_text And fs) c), wholes And fs (back_of CleanPart (formula_text f) (members_text And fs) c))
+  whole (bare_any t f fs) c = (whole f (front_of CleanPart (formula_text f) (members_text Or fs) c), wholes Or fs (back_of CleanPart (formula_text f) (members_text Or fs) c))
+  whole (bare_chain t f fs) c = (whole f (front_of CleanPart (formula_text f) (members_text Implies fs) c), wholes Implies fs (back_of CleanPart (formula_text f) (members_text Implies fs) c))
+  whole (chain t p f g fs) c =
+      let further : List Part = members_text Implies fs ++ closing in
+      let rest : List Part = any (word_token Implies) ∷ (formula_text g ++ further) in
+      let behind = (back_of CleanPart (formula_text f) rest c.1).1 in
+      (whole f (front_of CleanPart (formula_text f) rest c.1), whole g (front_of CleanPart (formula_text g) further behind), wholes Implies fs (front_of CleanPart (members_text Implies fs) closing (back_of CleanPart (formula_text g) further behind)))
   whole (hole p) c = cc
 
   pub wholes : {l : Language} (w : Word) (fs : FurtherMembers l) → AllByRecursion CleanPart (members_text w fs) → Wholes fs

@@ -1,5 +1,5 @@
 -- Operators over formulas that a name begins where another name follows: how they are read, in each grammar that has some.
-use Rattle.std.specs.Prelude.{false, Option, Some, None, if◌then◌else◌}
+use Rattle.std.specs.Prelude.{false, true, Option, Some, None, if◌then◌else◌}
 use Rattle.lrp_model.specs.Texts.{Identifier}
 use Rattle.lrp_model.specs.declared.tokens.Symbol.{Symbol}
 use Rattle.lrp_model.specs.declared.tokens.Symbol.TheVariants.{Open, Close, Comma}
@@ -60,11 +60,23 @@ operator make inner p (Some (OfRange word)) = ranged make inner word p
 operator make inner p (Some (OfPair word)) = paired make inner word p
 operator make inner p None = fail Syntax
 
+-- the same where the parts of an operator over two formulas are read by another parser
+abbrev pub wide_operator : {R P N F : Type 0} → OperatorTrees R P N F → Parser F → Parser F → Place → Option (Leading R P) → Parser F
+wide_operator make inner outer p (Some (OfRange word)) = ranged make inner word p
+wide_operator make inner outer p (Some (OfPair word)) = paired make outer word p
+wide_operator make inner outer p None = fail Syntax
+
 -- behind a name that begins a formula: an operator where another name follows, and else what stands there without operators
 unfoldable pub with_operators : {K T F Q R P N : Type 0} → Trees K T F Q → OperatorTrees R P N F → BehindName F
 with_operators make operators inner turns n p = do
   again ← look false is_name
-  if again then operator operators inner p (operators.word_of n) else behind_name make turns n p
+  if again then operator operators inner p (operators.word_of n) else behind_name false make turns n p
+
+-- the same in the wide language, where `inner` reads what `once` and `always` take, and `outer` what `since` and `until` take
+unfoldable pub with_wide_operators : {K T F Q R P N : Type 0} → Trees K T F Q → OperatorTrees R P N F → Parser F → BehindName F
+with_wide_operators make operators inner outer turns n p = do
+  again ← look false is_name
+  if again then wide_operator operators inner outer p (operators.word_of n) else behind_name true make turns n p
 
 -- ---- the same part by part, as it is read
 

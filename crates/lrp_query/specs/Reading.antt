@@ -1,5 +1,5 @@
 -- What the readers of queries ensure.
-use Rattle.std.specs.Prelude.{◌≡◌, ℕ, List, map, Result, Ok, Err, Vec}
+use Rattle.std.specs.Prelude.{◌≡◌, ℕ, List, [], map, Result, Ok, Err, Vec}
 use Rattle.std.specs.Global.{Global}
 use Rattle.lrp_model.specs.declared.tokens.Fault.{Fault as TokenFault}
 use Rattle.lrp_model.specs.declared.tokens.Fault.TheVariants.{Syntax as syntax, Number as number, TextTooLong as text_too_long, Period as period, Deep as deep, Memory as memory}
@@ -15,7 +15,8 @@ use Rattle.lrp_model.specs.declared.formulas.Op.{Op}
 use Rattle.lrp_model.specs.declared.formulas.Op.TheVariants.{Le, Lt, Ge, Gt, Eq}
 use Rattle.lrp_model.specs.Tokens.{Tokens}
 use Rattle.lrp_model.specs.TextFaults.{Grammatical, IsTextFault}
-use Rattle.lrp_model.specs.QueryReading.{Texts}
+use Rattle.lrp_model.specs.QueryReading.{Texts, IsFileFault}
+use Rattle.lrp_model.specs.RawQueries.{RawQuestion, RawFileView}
 use Rattle.lrp_text.specs.Parsers.{ParseOutcome, Reads}
 use Rattle.lrp_text.specs.declared.lexemes.Lexeme.{Lexeme}
 use Rattle.lrp_text.specs.declared.lexemes.Lexeme.TheVariants.{Name as name_seen, Word as word_seen, Number as number_seen, LargeNumber as large_seen, Text as text_seen, LongText as long_seen, Symbol as symbol_seen, End as end_seen, Bad as bad_seen}
@@ -98,6 +99,15 @@ IsUnreadOf Grammar bytes Memory = Unit {0}
 -- why there is no query
 abbrev pub IsUnread : List ℕ → QueryRead → Type 0
 IsUnread = IsUnreadOf Texts
+
+-- a query as a file without definitions
+abbrev pub query_alone : RawQuestion → RawFileView
+query_alone q = record { definitions = []; query = q }
+
+-- why there is no file
+abbrev pub IsFileUnread : List ℕ → QueryRead → Type 0
+IsFileUnread bytes (Fault f) = IsFileFault bytes f
+IsFileUnread bytes Memory = Unit {0}
 
 -- the fault of a text, from the kind that was met at a place
 abbrev pub refusal_of : TokenFault → Place → QueryRead

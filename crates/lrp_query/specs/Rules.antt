@@ -1,7 +1,7 @@
 -- The grammar of queries, as parsers.
-use Rattle.std.specs.Prelude.{ℕ, zero, suc, pos, nat_le, Bool, true, false, List, [], ◌∷◌, Result, Ok, Err, if◌then◌else◌}
+use Rattle.std.specs.Prelude.{ℕ, zero, suc, pos, nat_le, ◌==◌, Bool, true, false, ◌-◌, length, map, List, [], ◌∷◌, ◌++◌, Result, Ok, Err, if◌then◌else◌}
 use Rattle.lrp_model.specs.Texts.{Identifier}
-use Rattle.lrp_model.specs.declared.tokens.Symbol.TheVariants.{Open, Close, OpenBrace, CloseBrace, Comma, Bar, Plus, Minus, Le as le_sign, Ge as ge_sign, Lt as lt_sign, Gt as gt_sign, Equals}
+use Rattle.lrp_model.specs.declared.tokens.Symbol.TheVariants.{Open, Close, OpenBrace, CloseBrace, Comma, Colon, Semicolon, Bar, Plus, Minus, Le as le_sign, Ge as ge_sign, Lt as lt_sign, Gt as gt_sign, Equals, Star, Differs}
 use Rattle.lrp_model.specs.declared.tokens.Word.TheVariants.{Letter, Exists, Forall, Not, And, Or, Implies, In}
 use Rattle.lrp_model.specs.declared.tokens.Place.{Place}
 use Rattle.lrp_model.specs.declared.tokens.Fault.{Fault}
@@ -16,13 +16,14 @@ use Rattle.lrp_model.specs.declared.raw.RawTermKind.{RawTermKind}
 use Rattle.lrp_model.specs.Tokens.{Token, Placed}
 use Rattle.lrp_model.specs.Tokens.Token.{name_token, word_token, number_token, text_token, symbol_token, hole_token}
 use Rattle.lrp_model.specs.DatabaseMeaning.{integer_of}
-use Rattle.lrp_model.specs.Queries.{WrittenTerm}
+use Rattle.lrp_model.specs.Queries.{WrittenTerm, define_word, as_word}
+use Rattle.lrp_model.specs.declared.relations.Sort.{Sort}
 use Rattle.lrp_model.specs.Queries.WrittenTerm.{integer as integer_term, text_term, variable, shifted}
-use Rattle.lrp_model.specs.QueryMeaning.{term_kind}
-use Rattle.lrp_model.specs.RawQueries.{RawForm, RawForms, raw_atom, raw_compare, raw_member, raw_not, raw_and, raw_or, raw_implies, raw_group, raw_exists, raw_forall, no_raws, raw}
+use Rattle.lrp_model.specs.QueryMeaning.{term_kind, star_name}
+use Rattle.lrp_model.specs.RawQueries.{RawForm, RawForms, raw_atom, raw_compare, raw_member, raw_not, raw_and, raw_or, raw_implies, raw_group, raw_exists, raw_forall, no_raws, raw, place_of, raw_at}
 use Rattle.lrp_text.specs.Parsers.{Parser, ◌>>=◌, ◌>>◌, pure, fail, accept, look, eat, listed, separated_from}
-use Rattle.lrp_text.specs.Taking.{is_symbol, is_word, is_text, is_name, expect, expect_word, expect_end, name, number, period, text, here}
-use Rattle.lrp_text.specs.ColumnRule.{column}
+use Rattle.lrp_text.specs.Taking.{is_symbol, is_word, is_text, is_name, is_named, expect, expect_named, expect_word, expect_end, name, number, period, text, here}
+use Rattle.lrp_text.specs.ColumnRule.{column, sort}
 use Rattle.lrp_text.specs.IntegerRule.{integer}
 use Rattle.lrp_text.specs.OffsetRule.{Offset, unmoved, moved_by, offset}
 use Rattle.lrp_query.specs.declared.starts.Start.{Start}
@@ -39,6 +40,7 @@ pub record TermTrees (K T : Type 0) : Type 0 where
 pub record FormulaTrees (T F : Type 0) : Type 0 where
   pub atom_of : Place → Identifier → List T → F
   pub comparison : T → Op → T → F
+  pub difference : T → T → F
   pub membership : T → Integer → ℕ → F
   pub negation : Place → F → F
   pub conjunction : Place → List F → F
@@ -47,6 +49,16 @@ pub record FormulaTrees (T F : Type 0) : Type 0 where
   pub parenthesis : Place → F → F
   pub existential : Place → RawColumn → F → F
   pub universal : Place → RawColumn → F → F
+  -- the place of a formula's first token, and the same formula at another place
+  pub place_of : F → Place
+  pub at_place : Place → F → F
+
+-- a definition that is read
+pub record Definition (F : Type 0) : Type 0 where
+  pub name : Identifier
+  pub place : Place
+  pub columns : List RawColumn
+  pub body : F
 
 -- how what is read is put together, from the terms to the query; `cut` says what a token gives where a formula would be too deep
 pub record Trees (K T F Q : Type 0) : Type 0 where
@@ -77,7 +89,7 @@ abbrev pub cut_at : {F : Type 0} → F → Token → Result F Fault
 cut_at f hole_token = Ok f
 cut_at f t = Err (too_deep t)
 
--- raw terms
+-- raw terms, and what atoms have in place of one
 abbrev pub raw_terms : TermTrees RawTermKind RawTerm
 raw_terms = record { kind_of = term_kind; term_at = λ p k. record { kind = k; place = p } }
 
@@ -95,6 +107,7 @@ abbrev pub raw_formulas : FormulaTrees RawTerm RawForm
 raw_formulas = record {
   atom_of = raw_atom;
   comparison = λ l op r. raw_compare l.place l op r;
+  difference = λ l r. raw_not l.place (raw_compare l.place l Eq r);
   membership = λ t i k. raw_member t.place t (point_of i k);
   negation = raw_not;
   conjunction = λ p fs. raw_and p (raws fs);
@@ -103,6 +116,8 @@ raw_formulas = record {
   parenthesis = raw_group;
   existential = raw_exists;
   universal = raw_forall;
+  place_of = place_of;
+  at_place = raw_at;
 }
 
 -- ---- terms
@@ -143,6 +158,18 @@ term make = do
   k ← bare_term make
   pure (make.term_at p k)
 
+-- a `*`, which is a term by its own name, or a term
+unfoldable pub star_or_term : {K T : Type 0} → TermTrees K T → Parser T
+star_or_term make = do
+  p ← here
+  star ← eat (is_symbol Star)
+  if star then pure (make.term_at p (make.kind_of (variable star_name))) else term make
+
+-- what an atom has for a column: where the flag is set a `*` too
+abbrev pub argument : {K T : Type 0} → Bool → TermTrees K T → Parser T
+argument false make = term make
+argument true make = star_or_term make
+
 -- ---- formulas without others inside
 
 -- the comparison that a symbol stands for
@@ -170,26 +197,37 @@ comparing make left = do
   right ← term make.terms
   pure (make.formulas.comparison left op right)
 
--- what stands behind the first term of a comparison or an `in`
-unfoldable pub tested : {K T F Q : Type 0} → Trees K T F Q → T → Parser F
-tested make left = do
+-- a `!=` and its right side, behind a term: a comparison that is denied at the term's place
+unfoldable pub differing : {K T F Q : Type 0} → Trees K T F Q → T → Parser F
+differing make left = do
+  right ← term make.terms
+  pure (make.formulas.difference left right)
+
+-- what stands behind the first term of a comparison or an `in`; where the flag is set a `!=` too
+unfoldable pub tested : {K T F Q : Type 0} → Bool → Trees K T F Q → T → Parser F
+tested false make left = do
   inside ← eat (is_word In)
   if inside then point make left else comparing make left
+tested true make left = do
+  inside ← eat (is_word In)
+  if inside then point make left else (do
+    differs ← eat (is_symbol Differs)
+    if differs then differing make left else comparing make left)
 
 -- the terms of an atom, behind its name and its parenthesis
-unfoldable pub atom_terms : {K T F Q : Type 0} → Trees K T F Q → ℕ → Identifier → Place → Parser F
-atom_terms make turns n p = do
-  ts ← listed (term make.terms) (is_symbol Comma) (is_symbol Close) turns
+unfoldable pub atom_terms : {K T F Q : Type 0} → Bool → Trees K T F Q → ℕ → Identifier → Place → Parser F
+atom_terms wide make turns n p = do
+  ts ← listed (argument wide make.terms) (is_symbol Comma) (is_symbol Close) turns
   expect Close
   pure (make.formulas.atom_of p n ts)
 
 -- behind a name that begins a formula: an atom where a parenthesis follows, and else a term
-unfoldable pub behind_name : {K T F Q : Type 0} → Trees K T F Q → ℕ → Identifier → Place → Parser F
-behind_name make turns n p = do
+unfoldable pub behind_name : {K T F Q : Type 0} → Bool → Trees K T F Q → ℕ → Identifier → Place → Parser F
+behind_name wide make turns n p = do
   opens ← eat (is_symbol Open)
-  if opens then atom_terms make turns n p else (do
+  if opens then atom_terms wide make turns n p else (do
     k ← named_term make.terms n
-    tested make (make.terms.term_at p k))
+    tested wide make (make.terms.term_at p k))
 
 -- a formula that begins with a name, and what stands behind it
 unfoldable pub named : {F : Type 0} → (Identifier → Place → Parser F) → Parser F
@@ -198,10 +236,10 @@ named behind = do
   behind n.0 n.1
 
 -- a formula that begins with a term other than a name, at its place
-unfoldable pub unnamed : {K T F Q : Type 0} → Trees K T F Q → Place → Parser F
-unnamed make p = do
+unfoldable pub unnamed : {K T F Q : Type 0} → Bool → Trees K T F Q → Place → Parser F
+unnamed wide make p = do
   k ← unnamed_term make.terms
-  tested make (make.terms.term_at p k)
+  tested wide make (make.terms.term_at p k)
 
 -- ---- formulas over others
 
@@ -272,6 +310,113 @@ enclosed make inner turns p = do
   f ← inner
   behind_first make inner turns p f
 
+-- ---- formulas without parentheses
+
+-- a formula, and whether it is an `and`, `or` or `implies` that has no parentheses of its own
+pub record Joined (F : Type 0) : Type 0 where
+  pub formula : F
+  pub bare : Bool
+
+-- the members of a list without parentheses, at the first token
+abbrev pub bare_list : {K T F Q : Type 0} → Trees K T F Q → (Place → List F → F) → F → List F → Joined F
+bare_list make list f fs = record { formula = list (make.formulas.place_of f) fs; bare = true }
+
+-- one formula, or several with `and` between
+unfoldable pub both : {K T F Q : Type 0} → Trees K T F Q → Parser F → ℕ → Parser (Joined F)
+both make inner turns = do
+  f ← inner
+  ands ← eat (is_word And)
+  if ands then (do
+    fs ← separated_from inner (is_word And) turns (f ∷ [])
+    pure (bare_list make make.formulas.conjunction f fs)) else pure (record { formula = f; bare = false })
+
+-- a member of an `or`, which has no place of its own
+abbrev pub member_of : {F : Type 0} → Parser (Joined F) → Parser F
+member_of p = do
+  j ← p
+  pure j.formula
+
+-- one of these, or several with `or` between
+unfoldable pub either : {K T F Q : Type 0} → Trees K T F Q → Parser F → ℕ → Parser (Joined F)
+either make inner turns = do
+  j ← both make inner turns
+  ors ← eat (is_word Or)
+  if ors then (do
+    fs ← separated_from (member_of (both make inner turns)) (is_word Or) turns (j.formula ∷ [])
+    pure (bare_list make make.formulas.disjunction j.formula fs)) else pure j
+
+-- the last formula of a chain, behind which no other one may stand, since it would be too deep
+unfoldable pub last_link : {K T F Q : Type 0} → Trees K T F Q → F → Joined F → Parser F
+last_link make f j = do
+  further ← look false (is_word Implies)
+  if further then fail Deep else pure (make.formulas.implication (make.formulas.place_of f) f j.formula)
+
+-- what a formula implies in turn, behind an `implies`; `inner` is the parser of the formulas of each depth
+unfoldable pub chained : {K T F Q : Type 0} → Trees K T F Q → (ℕ → Parser F) → ℕ → ℕ → F → Parser F
+chained make inner depth zero f = fail Syntax
+chained make inner depth (suc turns) f = do
+  j ← either make (inner depth) turns
+  if depth == 0 then last_link make f j else (do
+    further ← eat (is_word Implies)
+    if further then (do
+      g ← chained make inner (depth - 1) turns j.formula
+      pure (make.formulas.implication (make.formulas.place_of f) f g)) else pure (make.formulas.implication (make.formulas.place_of f) f j.formula))
+
+-- one of these, or what it implies behind it
+unfoldable pub whole : {K T F Q : Type 0} → Trees K T F Q → (ℕ → Parser F) → ℕ → ℕ → Parser (Joined F)
+whole make inner depth turns = do
+  j ← either make (inner depth) turns
+  implies ← eat (is_word Implies)
+  if implies then (do
+    f ← chained make inner depth turns j.formula
+    pure (record { formula = f; bare = true })) else pure j
+
+-- in parentheses: a list or an implication has their place, and one formula alone is a group
+abbrev pub closed : {K T F Q : Type 0} → Trees K T F Q → Place → Joined F → F
+closed make p j = if j.bare then make.formulas.at_place p j.formula else make.formulas.parenthesis p j.formula
+
+-- behind the parenthesis
+unfoldable pub closed_whole : {K T F Q : Type 0} → Trees K T F Q → Parser (Joined F) → Place → Parser F
+closed_whole make inner p = do
+  j ← inner
+  expect Close
+  pure (closed make p j)
+
+unfoldable pub enclosed_whole : {K T F Q : Type 0} → Trees K T F Q → (ℕ → Parser F) → ℕ → ℕ → Place → Parser F
+enclosed_whole make inner depth turns p = do
+  expect Open
+  closed_whole make (whole make inner depth turns) p
+
+-- ---- quantifiers of several names
+
+-- the names of a quantifier, behind those found
+abbrev pub names_from : ℕ → List (Identifier × Place) → Parser (List (Identifier × Place))
+names_from turns found = separated_from name (is_symbol Comma) turns found
+
+-- a name of a quantifier, with the sort that all of its names have
+abbrev pub column_at : Sort × Place → Identifier × Place → RawColumn
+column_at s n = record { name = n.0; place = n.1; sort = s.0; sort_place = s.1 }
+
+-- quantifiers of these names over a formula, the first outermost
+abbrev pub each_bound : {F : Type 0} → (Place → RawColumn → F → F) → Place → List RawColumn → F → F
+each_bound bind p [] f = f
+each_bound bind p (c ∷ cs) f = bind p c (each_bound bind p cs f)
+
+-- the binders of a quantifier, behind its word
+unfoldable pub binders_rule : ℕ → Parser (List RawColumn)
+binders_rule turns = do
+  ns ← names_from turns []
+  expect Colon
+  s ← sort
+  pure (map (column_at s) ns)
+
+-- a quantifier behind its word; each of its names counts for the depth, one of them already
+unfoldable pub quantified : {F : Type 0} → (Place → RawColumn → F → F) → (ℕ → Parser F) → ℕ → ℕ → Place → Parser F
+quantified bind inner depth turns p = do
+  cs ← binders_rule turns
+  f ← inner (depth - (length cs - 1))
+  pure (each_bound bind p cs f)
+
 -- ---- formulas
 
 -- how a formula begins
@@ -295,7 +440,7 @@ started make behind inner turns p by_exists = existing make inner p
 started make behind inner turns p by_forall = holding make inner p
 started make behind inner turns p by_open = enclosed make inner turns p
 started make behind inner turns p by_name = named behind
-started make behind inner turns p by_term = unnamed make p
+started make behind inner turns p by_term = unnamed false make p
 
 -- the same by its first token; a hole stands for none
 unfoldable pub formula_over : {K T F Q : Type 0} → Trees K T F Q → (Identifier → Place → Parser F) → Parser F → ℕ → Parser F
@@ -306,6 +451,23 @@ formula_over make behind inner turns = do
     s ← look by_term (λ t. start_of t.token)
     started make behind inner turns p s)
 
+-- the same of the wide language, where `inner` reads the formulas of each depth, and the number is the depth of those inside
+abbrev pub started_wide : {K T F Q : Type 0} → Trees K T F Q → (Identifier → Place → Parser F) → (ℕ → Parser F) → ℕ → ℕ → Place → Start → Parser F
+started_wide make behind inner depth turns p by_not = negated make (inner depth) p
+started_wide make behind inner depth turns p by_exists = expect_word Exists >> quantified make.formulas.existential inner depth turns p
+started_wide make behind inner depth turns p by_forall = expect_word Forall >> quantified make.formulas.universal inner depth turns p
+started_wide make behind inner depth turns p by_open = enclosed_whole make inner depth turns p
+started_wide make behind inner depth turns p by_name = named behind
+started_wide make behind inner depth turns p by_term = unnamed true make p
+
+unfoldable pub wide_formula_over : {K T F Q : Type 0} → Trees K T F Q → (Identifier → Place → Parser F) → (ℕ → Parser F) → ℕ → ℕ → Parser F
+wide_formula_over make behind inner depth turns = do
+  is_hole ← look false (λ t. is_hole_token t.token)
+  if is_hole then fail Deep else (do
+    p ← here
+    s ← look by_term (λ t. start_of t.token)
+    started_wide make behind inner depth turns p s)
+
 -- what a grammar has behind a name that begins a formula, from the parser of the formulas inside and a bound on the turns of each list
 abbrev pub BehindName : Type 0 → Type 0
 BehindName F = Parser F → ℕ → Identifier → Place → Parser F
@@ -315,17 +477,75 @@ unfoldable pub formula_with : {K T F Q : Type 0} → Trees K T F Q → BehindNam
 formula_with make behind zero turns = accept make.cut
 formula_with make behind (suc depth) turns = formula_over make (behind (formula_with make behind depth turns) turns) (formula_with make behind depth turns) turns
 
--- a query of such formulas, and then the end
-unfoldable pub query_with : {K T F Q : Type 0} → Trees K T F Q → BehindName F → ℕ → Parser Q
-query_with make behind turns = do
+-- a query whose formula is read so, and then the end
+unfoldable pub query_over : {K T F Q : Type 0} → Trees K T F Q → Parser F → ℕ → Parser Q
+query_over make inner turns = do
   expect OpenBrace
   cs ← listed column (is_symbol Comma) (is_symbol Bar) turns
   expect Bar
-  f ← formula_with make behind 64 turns
+  f ← inner
   expect CloseBrace
   expect_end
   pure (make.question cs f)
 
+-- a query of such formulas
+unfoldable pub query_with : {K T F Q : Type 0} → Trees K T F Q → BehindName F → ℕ → Parser Q
+query_with make behind turns = query_over make (formula_with make behind 64 turns) turns
+
 -- behind a name nothing stands but an atom or a term
 abbrev pub plainly : {K T F Q : Type 0} → Trees K T F Q → BehindName F
-plainly make inner turns = behind_name make turns
+plainly make inner turns = behind_name false make turns
+
+-- ---- the wide language
+
+-- the same of the wide language, from the parsers of a formula that stands alone and of any formula
+abbrev pub WideBehindName : Type 0 → Type 0
+WideBehindName F = Parser F → Parser F → ℕ → Identifier → Place → Parser F
+
+-- the parsers of formulas of each depth up to one: those of smaller depths are its parts, by more than one level where a chain or a quantifier goes down
+unfoldable pub wide_up_to : {K T F Q : Type 0} → Trees K T F Q → WideBehindName F → ℕ → ℕ → ℕ → Parser F
+wide_up_to make behind turns zero depth = accept make.cut
+wide_up_to make behind turns (suc most) depth =
+    let inner = wide_up_to make behind turns most in
+    if depth == suc most then wide_formula_over make (behind (inner most) (member_of (whole make inner most turns)) turns) inner most turns else inner depth
+
+-- a formula that stands alone, of at most this depth; the second number bounds the turns of each list
+abbrev pub wide_formula_with : {K T F Q : Type 0} → Trees K T F Q → WideBehindName F → ℕ → ℕ → Parser F
+wide_formula_with make behind depth turns = wide_up_to make behind turns depth depth
+
+-- any formula, as the body of a query or a definition
+abbrev pub wide_whole_with : {K T F Q : Type 0} → Trees K T F Q → WideBehindName F → ℕ → Parser F
+wide_whole_with make behind turns = member_of (whole make (λ depth. wide_formula_with make behind depth turns) 64 turns)
+
+-- a query
+abbrev pub wide_query_with : {K T F Q : Type 0} → Trees K T F Q → WideBehindName F → ℕ → Parser Q
+wide_query_with make behind turns = query_over make (wide_whole_with make behind turns) turns
+
+-- a definition
+unfoldable pub definition_with : {K T F Q : Type 0} → Trees K T F Q → WideBehindName F → ℕ → Parser (Definition F)
+definition_with make behind turns = do
+  expect_named define_word
+  n ← name
+  expect Open
+  cs ← listed column (is_symbol Comma) (is_symbol Close) turns
+  expect Close
+  expect_named as_word
+  f ← wide_whole_with make behind turns
+  expect Semicolon
+  pure (record { name = n.0; place = n.1; columns = cs; body = f })
+
+-- those that come first, behind those found
+unfoldable pub definitions_from : {K T F Q : Type 0} → Trees K T F Q → WideBehindName F → ℕ → ℕ → List (Definition F) → Parser (List (Definition F))
+definitions_from make behind zero turns found = fail Syntax
+definitions_from make behind (suc n) turns found = do
+  defines ← look false (is_named define_word)
+  if defines then (do
+    d ← definition_with make behind turns
+    definitions_from make behind n turns (found ++ d ∷ [])) else pure found
+
+-- the definitions and the query of a file
+unfoldable pub file_with : {K T F Q : Type 0} → Trees K T F Q → WideBehindName F → ℕ → Parser (List (Definition F) × Q)
+file_with make behind turns = do
+  ds ← definitions_from make behind turns turns []
+  q ← wide_query_with make behind turns
+  pure (ds, q)

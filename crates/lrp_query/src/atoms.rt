@@ -2,7 +2,7 @@
 ghost use Rattle.std.specs.Prelude.{◌≡◌, ◌≤◌, ◌<◌, ℕ, length, IfOk};
 ghost use Rattle.lrp_text.specs.Parsers.{Reads, accept};
 ghost use Rattle.lrp_query.specs.Reading.{ReadsAs, shown_op};
-ghost use Rattle.lrp_query.specs.Rules.{op_of as op_rule, point, comparing, tested, atom_terms, behind_name, unnamed};
+ghost use Rattle.lrp_query.specs.Rules.{op_of as op_rule, point, comparing, differing, tested, atom_terms, behind_name, unnamed};
 ghost use Rattle.lrp_query.specs.Grammars.{meant};
 ghost use Rattle.lrp_model.specs.RawQueries.{raw_form_of};
 
@@ -69,22 +69,40 @@ fn read_comparison(
     Ok(trees::comparison(left, op, right))
 }
 
-// What stands behind the first term of a comparison or of an `in`.
-#[tactic(auto, unfolding(crate::specs::Rules::tested))]
-fn read_test(
+// The `!=` behind a term, of which the sign is read.
+#[tactic(auto, unfolding(crate::specs::Rules::differing))]
+fn read_difference(
     alloc: Global,
     tokens: &mut TokenCursor<'_>,
     left: RawTerm,
 ) -> Result<RawFormula, Fault>
-    ensures value { ReadsAs raw_form_of (tested meant left tokens.old) result
+    ensures value { ReadsAs raw_form_of (differing meant left tokens.old) result
+        tokens.new }
+    ensures fewer { IfOk result (λ _. length tokens.new < length tokens.old) }
+{
+    let right = read_term(alloc, tokens)?;
+    Ok(trees::difference(alloc, left, right)?)
+}
+
+// What stands behind the first term of a comparison or of an `in`; where the flag is set, a `!=` may.
+#[tactic(auto, unfolding(crate::specs::Rules::tested))]
+fn read_test(
+    alloc: Global,
+    tokens: &mut TokenCursor<'_>,
+    wide: bool,
+    left: RawTerm,
+) -> Result<RawFormula, Fault>
+    ensures value { ReadsAs raw_form_of (tested wide meant left tokens.old) result
         tokens.new }
     ensures fewer { IfOk result (λ _. length tokens.new < length tokens.old) }
 {
     if tokens.eat_word(Word::In) {
-        read_point(tokens, left)
-    } else {
-        read_comparison(alloc, tokens, left)
+        return read_point(tokens, left);
     }
+    if wide && tokens.eat(Symbol::Differs) {
+        return read_difference(alloc, tokens, left);
+    }
+    read_comparison(alloc, tokens, left)
 }
 
 // The terms of an atom and its parenthesis, behind its name and the first parenthesis.
@@ -92,15 +110,16 @@ fn read_test(
 fn read_atom(
     alloc: Global,
     tokens: &mut TokenCursor<'_>,
+    wide: bool,
     relation: Name,
     place: Place,
 ) -> Result<RawFormula, Fault>
     ensures value { (n : ℕ) → length tokens.old < n
-        → ReadsAs raw_form_of (atom_terms meant n relation place tokens.old) result
+        → ReadsAs raw_form_of (atom_terms wide meant n relation place tokens.old) result
         tokens.new }
     ensures fewer { IfOk result (λ _. length tokens.new < length tokens.old) }
 {
-    let terms = read_terms(alloc, tokens)?;
+    let terms = read_terms(alloc, tokens, wide)?;
     tokens.expect(Symbol::Close)?;
     Ok(trees::atom(place, relation, terms))
 }
@@ -110,19 +129,20 @@ fn read_atom(
 pub fn read_behind_name(
     alloc: Global,
     tokens: &mut TokenCursor<'_>,
+    wide: bool,
     name: Name,
     place: Place,
 ) -> Result<RawFormula, Fault>
     ensures value { (n : ℕ) → length tokens.old < n
-        → ReadsAs raw_form_of (behind_name meant n name place tokens.old) result
+        → ReadsAs raw_form_of (behind_name wide meant n name place tokens.old) result
         tokens.new }
     ensures shorter { IfOk result (λ _. length tokens.new ≤ length tokens.old) }
 {
     if tokens.eat(Symbol::Open) {
-        return read_atom(alloc, tokens, name, place);
+        return read_atom(alloc, tokens, wide, name, place);
     }
     let kind = read_named_term(name, tokens)?;
-    read_test(alloc, tokens, RawTerm { kind, place })
+    read_test(alloc, tokens, wide, RawTerm { kind, place })
 }
 
 /// Reads a comparison or an `in` that begins with a text or an integer, at its place.
@@ -130,12 +150,13 @@ pub fn read_behind_name(
 pub fn read_unnamed(
     alloc: Global,
     tokens: &mut TokenCursor<'_>,
+    wide: bool,
     place: Place,
 ) -> Result<RawFormula, Fault>
-    ensures value { ReadsAs raw_form_of (unnamed meant place tokens.old) result
+    ensures value { ReadsAs raw_form_of (unnamed wide meant place tokens.old) result
         tokens.new }
     ensures fewer { IfOk result (λ _. length tokens.new < length tokens.old) }
 {
     let kind = read_unnamed_term(alloc, tokens)?;
-    read_test(alloc, tokens, RawTerm { kind, place })
+    read_test(alloc, tokens, wide, RawTerm { kind, place })
 }

@@ -1,22 +1,44 @@
 // Formulas, read from their tokens.
-ghost use Rattle.std.specs.Prelude.{◌≡◌, ◌<◌, ◌≤◌, ℕ, [], ◌∷◌, ◌++◌, map, length, IfOk};
+ghost use Rattle.std.specs.Prelude.{◌≡◌, ◌<◌, ◌≤◌, ℕ, [], ◌∷◌, ◌++◌, true, false, map, length, IfOk};
 ghost use Rattle.lrp_text.specs.Parsers.{separated_from};
 ghost use Rattle.lrp_text.specs.Taking.{is_word};
 ghost use Rattle.lrp_query.specs.Reading.{ReadsAs, ReadsEach};
-ghost use Rattle.lrp_query.specs.Rules.{named, negated, existing, holding, enclosed, behind_first, alone, implying, conjoined, disjoined};
+ghost use Rattle.lrp_query.specs.Rules.{named, negated, behind_first, alone, implying, conjoined, disjoined};
 ghost use Rattle.lrp_query.specs.OperatorRules.{closed_by, ranged_parts, paired_parts};
-ghost use Rattle.lrp_query.specs.Grammars.{meant, operators_in, behind_in, formula_in};
+ghost use Rattle.lrp_query.specs.Grammars.{meant, operators_in, behind_at, existing_at, holding_at, enclosed_at, formula_in, formulas_in, part_in, whole_in, joined_of, bound_by};
+ghost use Rattle.lrp_query.specs.Rules.{both, either, chained, member_of, quantified, closed_whole};
 ghost use Rattle.lrp_model.specs.RawQueries.{raw_form_of};
 
 use crate::atoms::{read_behind_name, read_unnamed};
+use crate::binders::{deeper, read_binders};
 use crate::grammar::Grammar;
 use crate::operators::{read_ends, read_variable};
 use crate::starts::{Start, start_of, too_deep};
-use crate::trees;
+use crate::trees::{self, Quantifier};
 use crate::words::{Leading, Opening};
 use lrp_model::{Fault, Memory, Name, Paired, Place, Ranged, RawFormula, Symbol, Word};
 use lrp_text::{TokenCursor, column};
 use std::alloc::Global;
+
+// One formula that stands alone.
+fn alone(formula: RawFormula) -> Joined
+    ensures { joined_of result ≡ record { formula = raw_form_of formula; bare = false } }
+{
+    Joined {
+        formula,
+        bare: false,
+    }
+}
+
+// Several, without parentheses of their own.
+fn bare(formula: RawFormula) -> Joined
+    ensures { joined_of result ≡ record { formula = raw_form_of formula; bare = true } }
+{
+    Joined {
+        formula,
+        bare: true,
+    }
+}
 
 // A formula alone in parentheses, of which the last one is read.
 fn read_group(
@@ -81,7 +103,7 @@ pub fn read_formula<G: Grammar>(
         Start::Forall => read_universal::<G>(alloc, tokens, inner, place),
         Start::Open => read_enclosed::<G>(alloc, tokens, inner, place),
         Start::Name => read_named::<G>(alloc, tokens, inner),
-        Start::Term => read_unnamed(alloc, tokens, place),
+        Start::Term => read_unnamed(alloc, tokens, G::is_wide(), place),
     }
 }
 
@@ -112,11 +134,14 @@ fn read_existential<G: Grammar>(
     place: Place,
 ) -> Result<RawFormula, Fault>
     ensures value { (turns : ℕ) → length tokens.old < turns
-        → ReadsAs raw_form_of (existing meant (formula_in G.language depth turns) place
-        tokens.old) result tokens.new }
+        → ReadsAs raw_form_of (existing_at G.language depth turns place tokens.old) result
+        tokens.new }
     ensures fewer { IfOk result (λ _. length tokens.new < length tokens.old) }
 {
     tokens.expect_word(Word::Exists)?;
+    if G::is_wide() {
+        return read_quantified::<G>(alloc, tokens, depth, Quantifier::Existential, place);
+    }
     let binder = column(alloc, tokens)?;
     let of = read_formula::<G>(alloc, tokens, depth)?;
     Ok(trees::some(alloc, place, binder, of)?)
@@ -131,11 +156,14 @@ fn read_universal<G: Grammar>(
     place: Place,
 ) -> Result<RawFormula, Fault>
     ensures value { (turns : ℕ) → length tokens.old < turns
-        → ReadsAs raw_form_of (holding meant (formula_in G.language depth turns) place
-        tokens.old) result tokens.new }
+        → ReadsAs raw_form_of (holding_at G.language depth turns place tokens.old) result
+        tokens.new }
     ensures fewer { IfOk result (λ _. length tokens.new < length tokens.old) }
 {
     tokens.expect_word(Word::Forall)?;
+    if G::is_wide() {
+        return read_quantified::<G>(alloc, tokens, depth, Quantifier::Universal, place);
+    }
     let binder = column(alloc, tokens)?;
     let of = read_formula::<G>(alloc, tokens, depth)?;
     Ok(trees::every(alloc, place, binder, of)?)
@@ -150,11 +178,14 @@ fn read_enclosed<G: Grammar>(
     place: Place,
 ) -> Result<RawFormula, Fault>
     ensures value { (turns : ℕ) → length tokens.old < turns
-        → ReadsAs raw_form_of (enclosed meant (formula_in G.language depth turns) turns
-        place tokens.old) result tokens.new }
+        → ReadsAs raw_form_of (enclosed_at G.language depth turns place tokens.old) result
+        tokens.new }
     ensures fewer { IfOk result (λ _. length tokens.new < length tokens.old) }
 {
     tokens.expect(Symbol::Open)?;
+    if G::is_wide() {
+        return read_closed_whole::<G>(alloc, tokens, depth, place);
+    }
     let first = read_formula::<G>(alloc, tokens, depth)?;
     read_behind_first::<G>(alloc, tokens, depth, place, first)
 }
@@ -252,9 +283,9 @@ fn read_members<G: Grammar>(
     word: Word,
     first: RawFormula,
 ) -> Result<Vec<RawFormula>, Fault>
-    ensures value { (turns : ℕ) → length tokens.old < turns
+    ensures value { (turns more : ℕ) → length tokens.old < turns → length tokens.old < more
         → ReadsEach raw_form_of (separated_from (formula_in G.language depth turns) (is_word word)
-        turns (raw_form_of first ∷ []) tokens.old) result tokens.new }
+        more (raw_form_of first ∷ []) tokens.old) result tokens.new }
     ensures shorter { IfOk result (λ _. length tokens.new ≤ length tokens.old) }
 {
     let mut found = members_from(alloc, first)?;
@@ -276,8 +307,8 @@ fn read_named<G: Grammar>(
     depth: u32,
 ) -> Result<RawFormula, Fault>
     ensures value { (turns : ℕ) → length tokens.old < turns
-        → ReadsAs raw_form_of (named (behind_in G.language (formula_in G.language depth turns) turns)
-        tokens.old) result tokens.new }
+        → ReadsAs raw_form_of (named (behind_at G.language depth turns) tokens.old) result
+        tokens.new }
     ensures fewer { IfOk result (λ _. length tokens.new < length tokens.old) }
 {
     let (name, place) = tokens.name(alloc)?;
@@ -294,12 +325,12 @@ fn read_behind<G: Grammar>(
     place: Place,
 ) -> Result<RawFormula, Fault>
     ensures value { (turns : ℕ) → length tokens.old < turns
-        → ReadsAs raw_form_of (behind_in G.language (formula_in G.language depth turns) turns name place
-        tokens.old) result tokens.new }
+        → ReadsAs raw_form_of (behind_at G.language depth turns name place tokens.old) result
+        tokens.new }
     ensures shorter { IfOk result (λ _. length tokens.new ≤ length tokens.old) }
 {
     if !tokens.sees_name() {
-        return read_behind_name(alloc, tokens, name, place);
+        return read_behind_name(alloc, tokens, G::is_wide(), name, place);
     }
     match G::word_of(&name) {
         Some(Leading::OfRange(word)) => read_ranged::<G>(alloc, tokens, depth, word, place),
@@ -346,7 +377,7 @@ fn read_paired<G: Grammar>(
 ) -> Result<RawFormula, Fault>
     ensures value { (turns : ℕ) → length tokens.old < turns
         → ReadsAs raw_form_of (paired_parts (operators_in G.language)
-        (formula_in G.language depth turns) word place tokens.old) result tokens.new }
+        (part_in G.language depth turns) word place tokens.old) result tokens.new }
     ensures fewer { IfOk result (λ _. length tokens.new < length tokens.old) }
 {
     let (name, name_place) = read_variable(alloc, tokens)?;
@@ -370,11 +401,194 @@ fn read_closed<G: Grammar>(
     behind: Symbol,
 ) -> Result<RawFormula, Fault>
     ensures value { (turns : ℕ) → length tokens.old < turns
-        → ReadsAs raw_form_of (closed_by (formula_in G.language depth turns) behind tokens.old) result
+        → ReadsAs raw_form_of (closed_by (part_in G.language depth turns) behind tokens.old) result
         tokens.new }
     ensures fewer { IfOk result (λ _. length tokens.new < length tokens.old) }
 {
-    let of = read_formula::<G>(alloc, tokens, depth)?;
+    let of = read_part::<G>(alloc, tokens, depth)?;
     tokens.expect(behind)?;
     Ok(of)
+}
+
+/// Reads any formula, whose parts are at most so deep: in the wide language it may go on without parentheses.
+#[cycle(reading)]
+pub fn read_part<G: Grammar>(
+    alloc: Global,
+    tokens: &mut TokenCursor<'_>,
+    depth: u32,
+) -> Result<RawFormula, Fault>
+    ensures value { (turns : ℕ) → length tokens.old < turns
+        → ReadsAs raw_form_of (part_in G.language depth turns tokens.old) result tokens.new }
+    ensures fewer { IfOk result (λ _. length tokens.new < length tokens.old) }
+{
+    if !G::is_wide() {
+        return read_formula::<G>(alloc, tokens, depth);
+    }
+    let Joined { formula, .. } = read_whole::<G>(alloc, tokens, depth)?;
+    Ok(formula)
+}
+
+// A formula behind a parenthesis, and the one that ends it: a list or an implication has their place.
+#[cycle(reading)]
+#[tactic(auto, unfolding(crate::specs::Rules::enclosed_whole))]
+fn read_closed_whole<G: Grammar>(
+    alloc: Global,
+    tokens: &mut TokenCursor<'_>,
+    depth: u32,
+    place: Place,
+) -> Result<RawFormula, Fault>
+    ensures value { (turns : ℕ) → length tokens.old < turns
+        → ReadsAs raw_form_of (closed_whole meant (whole_in G.language depth turns) place
+        tokens.old) result tokens.new }
+    ensures fewer { IfOk result (λ _. length tokens.new < length tokens.old) }
+{
+    let Joined { formula, bare } = read_whole::<G>(alloc, tokens, depth)?;
+    tokens.expect(Symbol::Close)?;
+    if bare {
+        return Ok(trees::moved(place, formula));
+    }
+    Ok(trees::grouped(alloc, place, formula)?)
+}
+
+// A formula, and whether it is an `and`, `or` or `implies` that has no parentheses of its own.
+#[derive(Drop)]
+pub struct Joined {
+    pub formula: RawFormula,
+    pub bare: bool,
+}
+
+// One formula that stands alone, or several with `and` between.
+#[cycle(reading)]
+#[tactic(auto, unfolding(crate::specs::Rules::both))]
+fn read_both<G: Grammar>(
+    alloc: Global,
+    tokens: &mut TokenCursor<'_>,
+    depth: u32,
+) -> Result<Joined, Fault>
+    ensures value { (turns more : ℕ) → length tokens.old < turns → length tokens.old ≤ more
+        → ReadsAs joined_of (both meant (formula_in G.language depth turns) more tokens.old)
+        result tokens.new }
+    ensures fewer { IfOk result (λ _. length tokens.new < length tokens.old) }
+{
+    let first = read_formula::<G>(alloc, tokens, depth)?;
+    if !tokens.eat_word(Word::And) {
+        return Ok(alone(first));
+    }
+    let place = first.place;
+    let of = read_members::<G>(alloc, tokens, depth, Word::And, first)?;
+    Ok(bare(trees::conjunction(place, of)))
+}
+
+// One of these, or several with `or` between.
+#[cycle(reading)]
+#[tactic(auto, unfolding(crate::specs::Rules::either))]
+fn read_either<G: Grammar>(
+    alloc: Global,
+    tokens: &mut TokenCursor<'_>,
+    depth: u32,
+) -> Result<Joined, Fault>
+    ensures value { (turns more : ℕ) → length tokens.old < turns → length tokens.old ≤ more
+        → ReadsAs joined_of (either meant (formula_in G.language depth turns) more tokens.old)
+        result tokens.new }
+    ensures fewer { IfOk result (λ _. length tokens.new < length tokens.old) }
+{
+    let first = read_both::<G>(alloc, tokens, depth)?;
+    if !tokens.eat_word(Word::Or) {
+        return Ok(first);
+    }
+    let place = first.formula.place;
+    let of = read_alternatives::<G>(alloc, tokens, depth, first)?;
+    Ok(bare(trees::disjunction(place, of)))
+}
+
+// The members behind the first `or`, and the first one before these.
+#[cycle(reading)]
+fn read_alternatives<G: Grammar>(
+    alloc: Global,
+    tokens: &mut TokenCursor<'_>,
+    depth: u32,
+    first: Joined,
+) -> Result<Vec<RawFormula>, Fault>
+    ensures value { (turns more : ℕ) → length tokens.old < turns → length tokens.old < more
+        → ReadsEach raw_form_of (separated_from
+        (member_of (both meant (formula_in G.language depth turns) more)) (is_word Word.Or) more
+        (raw_form_of first.formula ∷ []) tokens.old) result tokens.new }
+    ensures shorter { IfOk result (λ _. length tokens.new ≤ length tokens.old) }
+{
+    let Joined { formula, .. } = first;
+    let mut found = members_from(alloc, formula)?;
+    loop {
+        let Joined { formula, .. } = read_both::<G>(alloc, tokens, depth)?;
+        add(&mut found, formula)?;
+        if !tokens.eat_word(Word::Or) {
+            return Ok(exact(found));
+        }
+    }
+}
+
+// One of these, or what it implies behind it.
+#[cycle(reading)]
+#[tactic(auto, unfolding(crate::specs::Rules::whole))]
+fn read_whole<G: Grammar>(
+    alloc: Global,
+    tokens: &mut TokenCursor<'_>,
+    depth: u32,
+) -> Result<Joined, Fault>
+    ensures value { (turns : ℕ) → length tokens.old < turns
+        → ReadsAs joined_of (whole_in G.language depth turns tokens.old) result tokens.new }
+    ensures fewer { IfOk result (λ _. length tokens.new < length tokens.old) }
+{
+    let first = read_either::<G>(alloc, tokens, depth)?;
+    if !tokens.eat_word(Word::Implies) {
+        return Ok(first);
+    }
+    let Joined { formula, .. } = first;
+    Ok(bare(read_chain::<G>(alloc, tokens, depth, formula)?))
+}
+
+// What a formula implies in turn, behind an `implies`; behind each further one the depth is one more.
+#[cycle(reading)]
+#[tactic(auto, unfolding(crate::specs::Rules::chained))]
+fn read_chain<G: Grammar>(
+    alloc: Global,
+    tokens: &mut TokenCursor<'_>,
+    depth: u32,
+    left: RawFormula,
+) -> Result<RawFormula, Fault>
+    ensures value { (turns more : ℕ) → length tokens.old < turns → length tokens.old < more
+        → ReadsAs raw_form_of (chained meant (formulas_in G.language turns) depth more
+        (raw_form_of left) tokens.old) result tokens.new }
+    ensures fewer { IfOk result (λ _. length tokens.new < length tokens.old) }
+{
+    if depth == 0 {
+        return Err(too_deep(tokens));
+    }
+    let place = left.place;
+    let Joined { formula: next, .. } = read_either::<G>(alloc, tokens, depth)?;
+    if !tokens.eat_word(Word::Implies) {
+        return Ok(trees::implied(alloc, place, left, next)?);
+    }
+    let right = read_chain::<G>(alloc, tokens, depth - 1, next)?;
+    Ok(trees::implied(alloc, place, left, right)?)
+}
+
+// A quantifier behind its word: its names, their sort, and its formula. Each name counts for the depth, one of them already.
+#[cycle(reading)]
+#[tactic(auto, unfolding(crate::specs::Rules::quantified))]
+fn read_quantified<G: Grammar>(
+    alloc: Global,
+    tokens: &mut TokenCursor<'_>,
+    depth: u32,
+    quantifier: Quantifier,
+    place: Place,
+) -> Result<RawFormula, Fault>
+    ensures value { (turns : ℕ) → length tokens.old < turns
+        → ReadsAs raw_form_of (quantified (bound_by quantifier) (formulas_in G.language turns)
+        depth turns place tokens.old) result tokens.new }
+    ensures fewer { IfOk result (λ _. length tokens.new < length tokens.old) }
+{
+    let binders = read_binders(alloc, tokens)?;
+    let inner = deeper(depth, binders.len() - 1);
+    let of = read_formula::<G>(alloc, tokens, inner)?;
+    Ok(trees::bound(alloc, place, quantifier, binders, of)?)
 }

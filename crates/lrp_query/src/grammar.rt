@@ -5,7 +5,7 @@ use lrp_model::{Name, Paired, Ranged};
 /// A language of queries.
 pub trait Grammar {
     ghost use Rattle.std.specs.Prelude.{◌≡◌};
-    ghost use Rattle.lrp_model.specs.Queries.{Language};
+    ghost use Rattle.lrp_model.specs.Queries.{Language, is_wide};
     ghost use Rattle.lrp_query.specs.Grammars.{word_in};
 
     /// Which one it is.
@@ -14,6 +14,10 @@ pub trait Grammar {
     /// The operator that a name begins where another name follows it.
     fn word_of(name: &Name) -> Option<Leading<Ranged, Paired>>
         ensures { result ≡ word_in language name.now };
+
+    /// Whether formulas go on without parentheses, and `*`, `!=` and several names of one quantifier are taken.
+    fn is_wide() -> bool
+        ensures { result ≡ is_wide language };
 }
 
 /// Formulas of first-order logic alone.
@@ -27,6 +31,10 @@ impl Grammar for Plain {
     fn word_of(_name: &Name) -> Option<Leading<Ranged, Paired>> {
         None
     }
+
+    fn is_wide() -> bool {
+        false
+    }
 }
 
 /// These, and temporal operators.
@@ -39,5 +47,26 @@ impl Grammar for Temporal {
 
     fn word_of(name: &Name) -> Option<Leading<Ranged, Paired>> {
         word_of(name)
+    }
+
+    fn is_wide() -> bool {
+        false
+    }
+}
+
+/// These, and formulas as people write them: without parentheses where precedence tells their parts, with `*` and `!=`.
+pub struct Wide;
+
+impl Grammar for Wide {
+    ghost use Rattle.lrp_model.specs.Queries.Language.{wide};
+
+    ghost language = { wide };
+
+    fn word_of(name: &Name) -> Option<Leading<Ranged, Paired>> {
+        word_of(name)
+    }
+
+    fn is_wide() -> bool {
+        true
     }
 }

@@ -4,7 +4,7 @@ ghost use Rattle.lrp_model.specs.Limits.{greatest_number};
 ghost use Rattle.lrp_model.specs.DatabaseMeaning.{signed as signed_number};
 ghost use Rattle.lrp_text.specs.Parsers.{Reads, separated_from, listed};
 ghost use Rattle.lrp_text.specs.Taking.{is_symbol};
-ghost use Rattle.lrp_query.specs.Rules.{raw_terms, named_term, unnamed_term, bare_term, term};
+ghost use Rattle.lrp_query.specs.Rules.{raw_terms, named_term, unnamed_term, bare_term, term, argument};
 
 use lrp_model::{Fault, List, Memory, Name, RawTerm, RawTermKind, Symbol};
 use lrp_text::{TokenCursor, integer};
@@ -75,6 +75,24 @@ pub fn read_term(alloc: Global, tokens: &mut TokenCursor<'_>) -> Result<RawTerm,
     Ok(RawTerm { kind, place })
 }
 
+/// The name of a `*`, which no text spells.
+pub const STAR: &str = "*";
+
+// What an atom has for a column: a term, or where the flag is set a `*`.
+#[tactic(auto, unfolding(crate::specs::Rules::star_or_term))]
+fn read_argument(alloc: Global, tokens: &mut TokenCursor<'_>, wide: bool) -> Result<RawTerm, Fault>
+    ensures value { Reads (argument wide raw_terms tokens.old) result tokens.new }
+    ensures fewer { IfOk result (λ _. length tokens.new < length tokens.old) }
+{
+    let place = tokens.place();
+    if wide && tokens.eat(Symbol::Star) {
+        let name = Name::new(alloc, STAR)?;
+        let kind = RawTermKind::Var { name };
+        return Ok(RawTerm { kind, place });
+    }
+    read_term(alloc, tokens)
+}
+
 // These terms, with no room for more.
 fn exact(terms: List<RawTerm>) -> List<RawTerm>
     ensures { result ≡ terms }
@@ -97,16 +115,17 @@ fn terms_from(alloc: Global, first: RawTerm, room: usize) -> Result<List<RawTerm
 fn read_more_terms(
     alloc: Global,
     tokens: &mut TokenCursor<'_>,
+    wide: bool,
     first: RawTerm,
 ) -> Result<List<RawTerm>, Fault>
     ensures value { (n : ℕ) → length tokens.old < n
-        → Reads (separated_from (term raw_terms) (is_symbol Symbol.Comma) n
+        → Reads (separated_from (argument wide raw_terms) (is_symbol Symbol.Comma) n
         (first ∷ []) tokens.old) result tokens.new }
     ensures shorter { IfOk result (λ _. length tokens.new ≤ length tokens.old) }
 {
     let mut found = terms_from(alloc, first, 2)?;
     loop {
-        let term = read_term(alloc, tokens)?;
+        let term = read_argument(alloc, tokens, wide)?;
         found.push(term)?;
         if !tokens.eat(Symbol::Comma) {
             return Ok(exact(found));
@@ -115,29 +134,37 @@ fn read_more_terms(
 }
 
 // One term or more, with commas between. A term alone takes room for one: to give room back costs more than the atom.
-fn read_some_terms(alloc: Global, tokens: &mut TokenCursor<'_>) -> Result<List<RawTerm>, Fault>
+fn read_some_terms(
+    alloc: Global,
+    tokens: &mut TokenCursor<'_>,
+    wide: bool,
+) -> Result<List<RawTerm>, Fault>
     ensures value { (n : ℕ) → length tokens.old < n
-        → Reads (separated_from (term raw_terms) (is_symbol Symbol.Comma) n [] tokens.old) result
+        → Reads (separated_from (argument wide raw_terms) (is_symbol Symbol.Comma) n [] tokens.old) result
         tokens.new }
     ensures shorter { IfOk result (λ _. length tokens.new ≤ length tokens.old) }
 {
-    let first = read_term(alloc, tokens)?;
+    let first = read_argument(alloc, tokens, wide)?;
     if tokens.eat(Symbol::Comma) {
-        return read_more_terms(alloc, tokens, first);
+        return read_more_terms(alloc, tokens, wide, first);
     }
     Ok(terms_from(alloc, first, 1)?)
 }
 
-/// The terms of an atom, up to the parenthesis that ends them.
+/// The terms of an atom, up to the parenthesis that ends them; where the flag is set, a `*` may stand for one.
 #[tactic(auto, unfolding(lrp_text::specs::Parsers::listed))]
-pub fn read_terms(alloc: Global, tokens: &mut TokenCursor<'_>) -> Result<List<RawTerm>, Fault>
+pub fn read_terms(
+    alloc: Global,
+    tokens: &mut TokenCursor<'_>,
+    wide: bool,
+) -> Result<List<RawTerm>, Fault>
     ensures value { (n : ℕ) → length tokens.old < n
-        → Reads (listed (term raw_terms) (is_symbol Symbol.Comma)
+        → Reads (listed (argument wide raw_terms) (is_symbol Symbol.Comma)
         (is_symbol Symbol.Close) n tokens.old) result tokens.new }
     ensures shorter { IfOk result (λ _. length tokens.new ≤ length tokens.old) }
 {
     if tokens.sees(Symbol::Close) {
         return Ok(List::new(alloc));
     }
-    read_some_terms(alloc, tokens)
+    read_some_terms(alloc, tokens, wide)
 }

@@ -2,8 +2,8 @@
 ghost use Rattle.std.specs.Prelude.{◌≡◌, ℕ, map, IfOk};
 ghost use Rattle.lrp_model.specs.declared.written.Integer.{Integer};
 ghost use Rattle.lrp_model.specs.RawQueries.{raw_form_of, raw_ranged, raw_paired};
-ghost use Rattle.lrp_query.specs.Grammars.{meant, opened_operator};
-ghost use Rattle.lrp_query.specs.Rules.{point_of};
+ghost use Rattle.lrp_query.specs.Grammars.{meant, opened_operator, bound_by};
+ghost use Rattle.lrp_query.specs.Rules.{point_of, each_bound};
 
 use crate::words::Opening;
 use lrp_model::{
@@ -31,6 +31,22 @@ pub fn comparison(left: RawTerm, op: Op, right: RawTerm) -> RawFormula
         kind: RawKind::Compare { left, op, right },
         place,
     }
+}
+
+/// Two terms that differ: a comparison that is denied, both at the place of the left one.
+pub fn difference(alloc: Global, left: RawTerm, right: RawTerm) -> Result<RawFormula, Memory>
+    ensures { IfOk result (λ made. raw_form_of made ≡ meant.formulas.difference left right) }
+{
+    let place = left.place;
+    denied(alloc, place, comparison(left, Op::Eq, right))
+}
+
+/// The same formula at another place.
+pub fn moved(place: Place, of: RawFormula) -> RawFormula
+    ensures { raw_form_of result ≡ meant.formulas.at_place place (raw_form_of of) }
+{
+    let (kind, _) = of.into_parts();
+    RawFormula { kind, place }
 }
 
 /// An `in`, at the place of its term.
@@ -119,6 +135,49 @@ pub fn every(
         kind: RawKind::Forall { binder, of },
         place,
     })
+}
+
+/// Which quantifier.
+#[derive(Clone, Copy)]
+pub enum Quantifier {
+    Existential,
+    Universal,
+}
+
+// A formula under one quantifier.
+fn bound_once(
+    alloc: Global,
+    place: Place,
+    quantifier: Quantifier,
+    binder: RawColumn,
+    of: RawFormula,
+) -> Result<RawFormula, Memory>
+    ensures { IfOk result (λ made. raw_form_of made
+        ≡ bound_by quantifier place binder (raw_form_of of)) }
+{
+    match quantifier {
+        Quantifier::Existential => some(alloc, place, binder, of),
+        Quantifier::Universal => every(alloc, place, binder, of),
+    }
+}
+
+/// A formula under quantifiers of these columns, the first outermost, all at one place.
+pub fn bound(
+    alloc: Global,
+    place: Place,
+    quantifier: Quantifier,
+    binders: List<RawColumn>,
+    of: RawFormula,
+) -> Result<RawFormula, Memory>
+    ensures { IfOk result (λ made. raw_form_of made
+        ≡ each_bound (bound_by quantifier) place binders (raw_form_of of)) }
+{
+    let mut left = binders.into_vec();
+    let mut made = of;
+    while let Some(binder) = left.pop() {
+        made = bound_once(alloc, place, quantifier, binder, made)?;
+    }
+    Ok(made)
 }
 
 /// An `and` of these members.
