@@ -17,3 +17,5 @@ pub mod Surveys
 pub mod Nested
 pub mod Carries
 pub mod SeenTerms
+pub mod Firsts
+pub mod Numbered

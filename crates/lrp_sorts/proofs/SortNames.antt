@@ -1,12 +1,12 @@
 -- The set of the names of named sorts, name by name.
-use Rattle.std.proofs.Common.{◌≡◌, ℕ, ◌+◌, ◌<◌, Bool, true, false, cond, ◌||◌, List, refl, ap, sym, ◌∙◌, length, take, get_or, Bor, Some, slice_get}
+use Rattle.std.proofs.Common.{◌≡◌, ℕ, ◌+◌, ◌<◌, Bool, true, false, cond, ◌||◌, List, [], ◌∷◌, ◌++◌, refl, ap, sym, ◌∙◌, length, take, get_or, Bor, Some, slice_get}
 use Rattle.std.proofs.lemmas.Option.{get_or_from_slice_get}
 use Rattle.lrp_model.specs.Sorting.{has_sort}
 use Rattle.lrp_model.specs.declared.relations.Relation.{Relation}
 use Rattle.std.specs.List.{list_any}
 use Rattle.std.specs.Str.{bytes_eq}
 use Rattle.std.specs.HashSet.{HashSet, UpdatesBy}
-use Rattle.std.proofs.lemmas.List.Folds.{list_any_more}
+use Rattle.std.proofs.lemmas.List.Folds.{list_any-append, list_any_more}
 use Rattle.lrp_model.specs.Texts.{Identifier}
 use Rattle.lrp_model.specs.Sorts.{same_sort}
 use Rattle.lrp_model.specs.declared.relations.Sort.{Sort}
@@ -53,3 +53,11 @@ one_relation db i r s new old lt at n o =
     n ∙ ap (λ b. b || list_any (λ c. same_sort c.sort s) r.columns) o
     ∙ ap (λ x. has_sort (take i db) s || list_any (λ c. same_sort c.sort s) x.columns) (sym (at_index db i r at))
     ∙ sym (list_any_more (λ r. list_any (λ c. same_sort c.sort s) r.columns) db i r lt)
+
+-- the sorts of one relation more
+pub sort_more : (db : List Relation) (r : Relation) (s : Sort) → has_sort (db ++ r ∷ []) s ≡ (has_sort db s || list_any (λ c. same_sort c.sort s) r.columns)
+sort_more db r s = list_any-append (λ x. list_any (λ c. same_sort c.sort s) x.columns) db (r ∷ []) ∙ ap (λ b. has_sort db s || b) (by (list_any (λ c. same_sort c.sort s) r.columns))
+  where
+    by : (b : Bool) → (b || false) ≡ b
+    by true = refl
+    by false = refl

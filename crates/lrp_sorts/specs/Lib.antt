@@ -1,6 +1,7 @@
 -- What contracts of public calls say.
 pub mod Outcomes
 pub mod Scopes
+pub mod Definitions
 pub mod Nesting
 pub mod Carried
 -- What functions inside say to one another.

@@ -22,18 +22,30 @@ use lrp_database::Database;
 use lrp_model::{Head, Memory, Query, QueryFault, QueryRead, RawQuery};
 use std::alloc::Global;
 
-// The first sort fault of a query.
-fn sort_fault(alloc: Global, raw: &RawQuery, db: &Database) -> Result<Option<QueryFault>, Memory>
+/// The first sort fault of a query over a database, beside the definitions that its catalog sees.
+pub fn sort_fault(
+    alloc: Global,
+    raw: &RawQuery,
+    catalog: &Catalog<'_>,
+) -> Result<Option<QueryFault>, Memory>
+    ensures { IfOk result (λ fault. fault
+        ≡ earliest query_standing (query_faults catalog.now (raw_question_of raw.now))) }
+{
+    let columns = raw.head.as_slice();
+    let OpenedHead { fault, mut scope } = open(alloc, catalog, columns)?;
+    let inside = inspect(alloc, catalog, &mut scope, &raw.body)?;
+    let body = with_width(raw.body.place, inside);
+    let head = sooner_of(fault, head_width(columns));
+    Ok(sooner_of(head, body.fault))
+}
+
+// The same over the database alone.
+fn fault_over(alloc: Global, raw: &RawQuery, db: &Database) -> Result<Option<QueryFault>, Memory>
     ensures { IfOk result (λ fault. fault
         ≡ earliest query_standing (query_faults db.now (raw_question_of raw.now))) }
 {
     let catalog = Catalog::new(alloc, db)?;
-    let columns = raw.head.as_slice();
-    let OpenedHead { fault, mut scope } = open(alloc, &catalog, columns)?;
-    let inside = inspect(alloc, &catalog, &mut scope, &raw.body)?;
-    let body = with_width(raw.body.place, inside);
-    let head = sooner_of(fault, head_width(columns));
-    Ok(sooner_of(head, body.fault))
+    sort_fault(alloc, raw, &catalog)
 }
 
 // The query whose sorts are those of this one, which is well-sorted.
@@ -79,7 +91,7 @@ pub fn check(alloc: Global, raw: RawQuery, db: &Database) -> Result<Query, Query
     ensures points { IfOk result (λ q. points (form_of q.body)
         ≡ raw_points (raw_form_of raw.body)) }
 {
-    let Ok(fault) = sort_fault(alloc, &raw, db) else {
+    let Ok(fault) = fault_over(alloc, &raw, db) else {
         return Err(QueryRead::Memory);
     };
     if let Some(fault) = fault {

@@ -17,7 +17,7 @@ fn standing(fault: QueryFault) -> [u32; 3]
     ]
 }
 
-// The earlier of two faults, or the one that there is; of two that stand alike, the first.
+/// The earlier of two faults, or the one that there is; of two that stand alike, the first.
 pub fn sooner_of(first: Option<QueryFault>, second: Option<QueryFault>) -> Option<QueryFault>
     ensures { result ≡ sooner query_standing first second }
 {
@@ -34,7 +34,7 @@ fn earlier_of(f: QueryFault, g: QueryFault) -> QueryFault
     if standing(g) < standing(f) { g } else { f }
 }
 
-// The fault, where the test is true.
+/// The fault, where the test is true.
 pub fn fault_where(holds: bool, kind: QueryKind, place: Place) -> Option<QueryFault>
     ensures { result ≡ earliest query_standing (fault_if holds (query_fault kind place)) }
 {

@@ -3,6 +3,7 @@
 
 mod catalog;
 mod checking;
+mod definitions;
 mod earliest;
 mod finding;
 mod head;
@@ -12,5 +13,8 @@ mod terms;
 mod walk;
 mod width;
 
-pub use checking::check;
+pub use catalog::Catalog;
+pub use checking::{check, sort_fault};
+pub use definitions::Definitions;
+pub use earliest::{fault_where, sooner_of};
 pub use lrp_model::QueryRead;

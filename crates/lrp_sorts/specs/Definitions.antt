@@ -1,0 +1,30 @@
+-- Definitions beside a database, each as a relation without rows.
+use Rattle.std.specs.Prelude.{◌≡◌, ℕ, Bool, Option, None, List, [], ◌++◌, map, take, position, cond}
+use Rattle.std.specs.HashMap.{HashMap, get_by}
+use Rattle.std.specs.Str.{bytes_eq}
+use Rattle.lrp_model.specs.DatabaseMeaning.{column_of}
+use Rattle.lrp_model.specs.Faults.{is_named_in}
+use Rattle.lrp_model.specs.Texts.{Identifier}
+use Rattle.lrp_model.specs.declared.raw.RawColumn.{RawColumn}
+use Rattle.lrp_model.specs.declared.relations.Relation.{Relation}
+
+pub record Defined : Type 0 where
+  pub relations : List Relation
+  pub definitions : List Relation
+
+-- each name has the number of the first of these that is that name
+abbrev pub AreNumbered : {S : Type 0} → HashMap Identifier ℕ S → List Identifier → Type 0
+AreNumbered m names = (n : Identifier) → get_by (bytes_eq n) m ≡ position (bytes_eq n) names
+
+-- a relation without rows
+abbrev pub rowless : Identifier → List RawColumn → Relation
+rowless n columns = record { name = n; columns = map column_of columns; rows = [] }
+
+-- the number of the definition that a name means among so many of the first: none where a relation of the database has the name, and of two definitions of one name the first
+abbrev pub definition_number : Defined → ℕ → Identifier → Option ℕ
+definition_number d before n =
+    cond (is_named_in (map (λ r. r.name) d.relations) n) None (position (bytes_eq n) (map (λ r. r.name) (take before d.definitions)))
+
+-- whether a relation of the database or a definition has the name
+abbrev pub is_taken : Defined → Identifier → Bool
+is_taken d n = is_named_in (map (λ r. r.name) (d.relations ++ d.definitions)) n
