@@ -1,12 +1,12 @@
-mod FreshNames
-mod Scoping
+pub mod FreshNames
+pub mod Scoping
 mod Numbering
-mod Timely
-mod Terms
-mod Iff
+pub mod Timely
+pub mod Terms
+pub mod Iff
 mod Law
 mod Unchanged
-mod NoOperators
+pub mod NoOperators
 pub mod TokenPlaces
 pub mod LawfulTense
 pub mod WithoutOperators

@@ -1,14 +1,14 @@
 -- The tokens of a text stand at places that rise, so that operators stand at different ones; and names have no `~`.
-use Rattle.std.proofs.Common.{◌≡◌, ◌≢◌, ◌⊎◌, inl, inr, ◌+◌, ℕ, zero, suc, Bool, true, false, ◌||◌, ◌==◌, if◌then◌else◌, List, [], ◌∷◌, ◌++◌, map, length, refl, sym, ap, subst, Ok, Err, Result, arith}
+use Rattle.std.proofs.Common.{◌≡◌, ◌≢◌, ◌⊎◌, inl, inr, ◌+◌, ℕ, zero, suc, Bool, true, false, ◌||◌, ◌&&◌, ◌==◌, if◌then◌else◌, List, [], ◌∷◌, ◌++◌, map, length, refl, sym, ap, subst, Ok, Err, Result, arith}
 use Rattle.std.specs.List.{AllByRecursion}
 use Rattle.lrp_model.specs.declared.tokens.Place.{Place}
 use Rattle.lrp_model.specs.declared.tokens.Symbol.{Symbol}
-use Rattle.lrp_model.specs.declared.tokens.Symbol.TheVariants.{Open, Close, OpenBrace, CloseBrace, Comma, Colon, Semicolon, Bar, Plus, Minus, Le, Ge, Lt, Gt, Equals}
+use Rattle.lrp_model.specs.declared.tokens.Symbol.TheVariants.{Open, Close, OpenBrace, CloseBrace, Comma, Colon, Semicolon, Bar, Plus, Minus, Le, Ge, Lt, Gt, Equals, Star}
 use Rattle.lrp_model.specs.Texts.{Identifier}
 use Rattle.lrp_model.specs.Tokens.{Token, Placed, Tokens}
 use Rattle.lrp_model.specs.Tokens.Token.{name_token, word_token, number_token, text_token, symbol_token, end_token, bad_token, hole_token}
 use Rattle.std.specs.Str.Parse.{digits_value}
-use Rattle.lrp_model.specs.Lexing.{Scanned, QuotedText as TextRead, scan, run, is_letter, is_blank, is_name_byte, word_or_name, one, one_or_two, symbol_from, text_from, text_scanned, skip, after, moved, headed, tokens_from, tokens, start}
+use Rattle.lrp_model.specs.Lexing.{Scanned, QuotedText as TextRead, run, is_letter, is_blank, is_name_byte, word_or_name, one, one_or_two, symbol_from, text_from, text_scanned, skip, after, moved, further_symbol, headed, no_symbol, tokens, tokens_in, start, scan_in, symbol_in, tokens_in_from}
 use Rattle.std.specs.Char.{is_ascii_digit}
 use Rattle.lrp_model.specs.Names.{IsName}
 use Rattle.lrp_text.specs.Sources.{HasTokensBehind}
@@ -38,7 +38,7 @@ two_no s r b [] m = λ e. cc
 two_no s r b (c ∷ bs) m = chosen (λ x. x.token ≡ name_token m → ⊥) (c == 61) _ (one s b (c ∷ bs)) (λ e d. cc) (λ e d. cc)
 
 symbol_no : (b : ℕ) (bs m : List ℕ) → (symbol_from b bs).token ≡ name_token m → ⊥
-unfolding symbol_from
+unfolding symbol_in
 symbol_no b bs m =
     let P : Scanned → Type 0 = λ s. s.token ≡ name_token m → ⊥ in
     chosen P (b == 40) (one Open b bs) _ (λ e d. cc) (λ e. chosen P (b == 41) (one Close b bs) _ (λ e d. cc) (λ e. chosen P (b == 123) (one OpenBrace b bs) _ (λ e d. cc) (λ e.
@@ -49,7 +49,7 @@ symbol_no b bs m =
 
 -- a name has no `~`
 pub plain_name : (n : Identifier) → IsName n → IsPlain n
-unfolding scan
+unfolding scan_in
 plain_name [] e = tt
 plain_name (b ∷ bs) name =
     let n : List ℕ = b ∷ bs in
@@ -134,24 +134,30 @@ two_bytes : (s r : Symbol) (b : ℕ) (bs : List ℕ) → HasBytes (one_or_two s 
 two_bytes s r b [] = tt
 two_bytes s r b (c ∷ bs) = chosen (λ x. HasBytes x.token x.taken) (c == 61) _ (one s b (c ∷ bs)) (λ e. tt) (λ e. tt)
 
-symbol_bytes : (b : ℕ) (bs : List ℕ) → HasBytes (symbol_from b bs).token (symbol_from b bs).taken
-unfolding symbol_from
-symbol_bytes b bs =
+further_bytes : (b : ℕ) (bs : List ℕ) → HasBytes (further_symbol b bs).token (further_symbol b bs).taken
+further_bytes b [] = chosen (λ x. HasBytes x.token x.taken) (b == 42) (one Star b []) (no_symbol b []) (λ e. tt) (λ e. tt)
+further_bytes b (c ∷ bs) =
+    let P : Scanned → Type 0 = λ s. HasBytes s.token s.taken in
+    chosen P (b == 42) (one Star b (c ∷ bs)) _ (λ e. tt) (λ e. chosen P ((b == 33) && (c == 61)) _ (no_symbol b (c ∷ bs)) (λ e. tt) (λ e. tt))
+
+symbol_bytes : (wide : Bool) (b : ℕ) (bs : List ℕ) → HasBytes (symbol_in wide b bs).token (symbol_in wide b bs).taken
+unfolding symbol_in
+symbol_bytes wide b bs =
     let P : Scanned → Type 0 = λ s. HasBytes s.token s.taken in
     chosen P (b == 40) (one Open b bs) _ (λ e. tt) (λ e. chosen P (b == 41) (one Close b bs) _ (λ e. tt) (λ e. chosen P (b == 123) (one OpenBrace b bs) _ (λ e. tt) (λ e.
     chosen P (b == 125) (one CloseBrace b bs) _ (λ e. tt) (λ e. chosen P (b == 44) (one Comma b bs) _ (λ e. tt) (λ e. chosen P (b == 58) (one Colon b bs) _ (λ e. tt) (λ e.
     chosen P (b == 59) (one Semicolon b bs) _ (λ e. tt) (λ e. chosen P (b == 124) (one Bar b bs) _ (λ e. tt) (λ e. chosen P (b == 43) (one Plus b bs) _ (λ e. tt) (λ e.
     chosen P (b == 45) (one Minus b bs) _ (λ e. tt) (λ e. chosen P (b == 61) (one Equals b bs) _ (λ e. tt) (λ e. chosen P (b == 60) _ _ (λ e. two_bytes Lt Le b bs) (λ e.
-    chosen P (b == 62) _ _ (λ e. two_bytes Gt Ge b bs) (λ e. tt)))))))))))))
+    chosen P (b == 62) _ _ (λ e. two_bytes Gt Ge b bs) (λ e. chosen P wide (further_symbol b bs) (no_symbol b bs) (λ e. further_bytes b bs) (λ e. tt))))))))))))))
 
-scan_bytes : (bs : List ℕ) → HasBytes (scan bs).token (scan bs).taken
-unfolding scan
-scan_bytes [] = tt
-scan_bytes (b ∷ bs) =
+scan_bytes : (wide : Bool) (bs : List ℕ) → HasBytes (scan_in wide bs).token (scan_in wide bs).taken
+unfolding scan_in
+scan_bytes wide [] = tt
+scan_bytes wide (b ∷ bs) =
     let P : Scanned → Type 0 = λ s. HasBytes s.token s.taken in
     chosen P (is_letter b) _ _ (λ e. run_bytes is_name_byte (word_or_name (run is_name_byte (b ∷ bs))) b bs (ap (λ c. c || is_ascii_digit b) e)) (λ n.
     chosen P (is_ascii_digit b) _ _ (λ e. run_bytes is_ascii_digit (number_token (digits_value 10 (run is_ascii_digit (b ∷ bs)))) b bs e) (λ m.
-    chosen P (b == 34) (text_scanned (text_from false bs)) (symbol_from b bs) (λ e. text_bytes (text_from false bs)) (λ o. symbol_bytes b bs)))
+    chosen P (b == 34) (text_scanned (text_from false bs)) (symbol_in wide b bs) (λ e. text_bytes (text_from false bs)) (λ o. symbol_bytes wide b bs)))
 
 -- each place stands before all that follow
 abbrev pub Rises : List Place → Type 0
@@ -205,16 +211,19 @@ headed_rises p q s (symbol_token x) rest r h a = follow p q s.taken (map place_a
 headed_rises p q s hole_token rest r h a = follow p q s.taken (map place_at rest) r (same_bytes hole_token s.taken tt h) a
 
 -- all tokens of bytes
-from_rises : (n : ℕ) (p : Place) (bs : List ℕ) → RisesFrom p (map place_at (tokens_from n p bs))
-unfolding tokens_from
-from_rises zero p bs = (tt, tt)
-from_rises (suc n) p bs =
+from_rises : (wide : Bool) (n : ℕ) (p : Place) (bs : List ℕ) → RisesFrom p (map place_at (tokens_in_from wide n p bs))
+unfolding tokens_in_from
+from_rises wide zero p bs = (tt, tt)
+from_rises wide (suc n) p bs =
     let a = skip false p bs in
-    let s = scan a.bytes in
-    headed_rises p a.place s s.token (tokens_from n (after a.place s.taken) s.left) (skip_reached false p bs) (scan_bytes a.bytes) (from_rises n (after a.place s.taken) s.left)
+    let s = scan_in wide a.bytes in
+    headed_rises p a.place s s.token (tokens_in_from wide n (after a.place s.taken) s.left) (skip_reached false p bs) (scan_bytes wide a.bytes) (from_rises wide n (after a.place s.taken) s.left)
+
+pub tokens_rise_in : (wide : Bool) (bytes : List ℕ) → Rises (map place_at (tokens_in wide bytes))
+tokens_rise_in wide bytes = (from_rises wide (suc (length bytes)) start bytes).1
 
 pub tokens_rise : (bytes : List ℕ) → Rises (map place_at (tokens bytes))
-tokens_rise bytes = (from_rises (suc (length bytes)) start bytes).1
+tokens_rise bytes = tokens_rise_in false bytes
 
 -- ---- places in order differ
 

@@ -20,3 +20,6 @@ pub use laws::{
 pub use lrp_model::{Paired, Ranged};
 pub use queries::read_tense;
 pub use tree::{TenseFormula, TenseKind, TenseQuery};
+pub use written_out::{
+    Connective, Quantifier, boxed, denied, grouped, implied, joined, quantified,
+};
