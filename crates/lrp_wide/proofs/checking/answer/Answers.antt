@@ -1,0 +1,72 @@
+use Rattle.std.proofs.Common.{◌≡◌, ◌++◌, List, length, map, suc, Some, None, ap, subst, sym, ◌∙◌}
+use Rattle.std.specs.List.{AllByRecursion}
+use Rattle.lrp_model.specs.Faults.{earliest}
+use Rattle.lrp_model.specs.RawQueries.{raw_definition_of, raw_file_of}
+use Rattle.lrp_model.specs.Sorting.{query_standing}
+use Rattle.lrp_model.proofs.FirstFault.{none_is_empty}
+use Rattle.lrp_wide.specs.Counts.{AreRowless}
+use Rattle.lrp_wide.specs.Inlining.{expanded_file, plain_definition}
+use Rattle.lrp_wide.specs.Inside.{HasPlainBody}
+use Rattle.lrp_wide.specs.Sizes.{IsSizeOf}
+use Rattle.lrp_wide.specs.WideSorting.{name_faults, own_faults, relation_of, text_faults}
+use Rattle.lrp_wide.proofs.SortAnswers.{definitions_long, numbers_long, own_first, rowless_plain}
+use Rattle.lrp_wide.proofs.SortOutcomes.{small_by_size}
+use Rattle.lrp_wide.proofs.checking.answer.Goals as goal
+
+pub own_fault-requires-clause-rowless : goal.own_fault-requires-clause-rowless
+own_fault-requires-clause-rowless c =
+    let d = c.in_ok-definitions.definitions in
+    let f = raw_file_of c.args.file in
+    let rowless : AreRowless d f = ap (λ e. e.definitions) c.in_ok-definitions.ensures.definitions ∙ ap (λ xs. map relation_of (map raw_definition_of xs)) c.as_slice.ensures.value in
+    rowless_plain d f (raw_file_of c.in_ok-plain.plain) c.in_ok-plain.ensures.tree rowless
+
+pub returns-in-Some-clause-refused : goal.returns-in-Some-clause-refused
+returns-in-Some-clause-refused c =
+    let d = c.in_ok-definitions.definitions in
+    let db = c.args.db.now in
+    let f = raw_file_of c.args.file in
+    let same : d.relations ≡ db = ap (λ e. e.relations) c.in_ok-definitions.ensures.definitions in
+    let names : c.in_ok-definitions.defined ≡ earliest query_standing (name_faults db f.definitions) =
+    c.in_ok-definitions.ensures.fault ∙ ap (λ xs. earliest query_standing (name_faults db (map raw_definition_of xs))) c.as_slice.ensures.value in
+    let texts : c.in_ok-own.own ≡ earliest query_standing (text_faults db f) = c.in_ok-own.ensures f c.in_ok-plain.ensures.tree ∙ ap (λ l. earliest query_standing (text_faults l f)) same in
+    let size : IsSizeOf c.in_ok-measure.field-0 (expanded_file db f).body = subst (λ l. IsSizeOf c.in_ok-measure.field-0 (expanded_file l f).body) same c.in_ok-measure.ensures in (
+      small_by_size db f c.in_ok-measure.field-0 size c.in_ok-limited.ensures.small.0 c.in_ok-limited.ensures.small.1,
+      sym (own_first db f c.in_ok-definitions.defined c.in_ok-own.own c.sooner_of.result names texts c.sooner_of.ensures) ∙ c.in-Some.is,
+    )
+
+pub expand-requires-clause-definitions : goal.expand-requires-clause-definitions
+expand-requires-clause-definitions c =
+    let d = c.in_ok-definitions.definitions in
+    let f = raw_file_of c.args.file in
+    let plain = c.in_ok-plain.plain.definitions.items in
+    let rowless : AreRowless d f = ap (λ e. e.definitions) c.in_ok-definitions.ensures.definitions ∙ ap (λ xs. map relation_of (map raw_definition_of xs)) c.as_slice.ensures.value in
+    let tree : map raw_definition_of plain ≡ map plain_definition f.definitions = ap (λ g. g.definitions) c.in_ok-plain.ensures.tree in
+    record {
+      operators = subst (λ xs. AllByRecursion HasPlainBody xs) (sym c.as_slice-2.ensures.value) c.in_ok-plain.ensures.definitions;
+      definitions = definitions_long d f plain rowless tree ∙ ap length (sym c.as_slice-2.ensures.value);
+      numbers = ap length (c.as_slice-3.ensures.value ∙ c.in_ok-numbers.ensures) ∙ numbers_long d.relations f plain tree ∙ ap (λ xs. suc (length xs)) (sym c.as_slice-2.ensures.value);
+    }
+
+pub returns-clause-query : goal.returns-clause-query
+returns-clause-query c =
+    let d = c.in_ok-definitions.definitions in
+    let f = raw_file_of c.args.file in
+    let plain = c.in_ok-plain.plain.definitions.items in
+    let same : d.relations ≡ c.args.db.now = ap (λ e. e.relations) c.in_ok-definitions.ensures.definitions in
+    let rowless : AreRowless d f = ap (λ e. e.definitions) c.in_ok-definitions.ensures.definitions ∙ ap (λ xs. map relation_of (map raw_definition_of xs)) c.as_slice.ensures.value in
+    let tree : map raw_definition_of plain ≡ map plain_definition f.definitions = ap (λ g. g.definitions) c.in_ok-plain.ensures.tree in
+    c.in_ok-expand.ensures f
+    (record { names = rowless; plain = ap (map raw_definition_of) c.as_slice-2.ensures.value ∙ tree; numbers = c.as_slice-3.ensures.value ∙ c.in_ok-numbers.ensures })
+    (ap (λ g. g.query) c.in_ok-plain.ensures.tree)
+    ∙ ap (λ l. expanded_file l f) same
+
+pub returns-clause-sorted : goal.returns-clause-sorted
+returns-clause-sorted c =
+    let d = c.in_ok-definitions.definitions in
+    let db = c.args.db.now in
+    let f = raw_file_of c.args.file in
+    let same : d.relations ≡ db = ap (λ e. e.relations) c.in_ok-definitions.ensures.definitions in
+    let names : c.in_ok-definitions.defined ≡ earliest query_standing (name_faults db f.definitions) =
+    c.in_ok-definitions.ensures.fault ∙ ap (λ xs. earliest query_standing (name_faults db (map raw_definition_of xs))) c.as_slice.ensures.value in
+    let texts : c.in_ok-own.own ≡ earliest query_standing (text_faults db f) = c.in_ok-own.ensures f c.in_ok-plain.ensures.tree ∙ ap (λ l. earliest query_standing (text_faults l f)) same in
+    none_is_empty query_standing (own_faults db f) (sym (own_first db f c.in_ok-definitions.defined c.in_ok-own.own c.sooner_of.result names texts c.sooner_of.ensures) ∙ c.in_default.is)

@@ -1,0 +1,396 @@
+// The query of first-order logic that stands for a file: in its texts without operators each use of a definition and each `*` is written out.
+//
+// A function clears its locals when it begins. So each kind of formula has a function of its own, and a formula pays for its own kind alone.
+ghost use Rattle.std.specs.Prelude.{◌≡◌, [], IfOk};
+ghost use Rattle.lrp_model.specs.RawQueries.{HasNoOperator, HaveNoOperator, RawFileView, raw_form_of, raw_forms_of, raw_group, raw_implies, raw_not, raw_question_of};
+ghost use Rattle.lrp_wide.specs.Inlining.{expanded_file, inlined, own_setting, set_column};
+ghost use Rattle.lrp_wide.specs.Inside.{AreBeside, AreWhole, AreWrittenBy, IsAround, IsMeant, IsNamed, IsUsed, IsWhole, each_inlined_here, inlined_here, met_form};
+ghost use Rattle.lrp_tense.specs.Expanding.{expanded_question};
+ghost use Rattle.lrp_tense.specs.Written.{joined_form, quantified_form};
+ghost use Rattle.lrp_wide.specs.Settings.{setting_of};
+
+use crate::atoms::{Met, comparison, membership, starred_atom};
+use crate::names::NameText;
+use crate::numbering::Numbers;
+use crate::passing::{Arguments, arguments_of};
+use crate::uses::{Setting, Use, some_each, with_comparisons};
+use lrp_model::{
+    Copies, List, Memory, Name, Place, RawColumn, RawDefinition, RawFormula, RawKind, RawQuery,
+};
+use lrp_sorts::{Catalog, Definitions};
+use lrp_tense::{Connective, Quantifier, boxed, denied, grouped, implied, joined, quantified};
+use std::alloc::Global;
+
+/// Definitions that are written out: by their names, without operators, and with the numbers of their texts.
+#[derive(Clone, Copy)]
+pub struct Written<'a> {
+    pub definitions: &'a Definitions<'a>,
+    pub plain: &'a [RawDefinition],
+    pub numbers: &'a [Numbers],
+}
+
+// What stands around a formula: where columns of atoms that stay are looked up, the definitions that are written out, and
+// what is made of names and places.
+#[derive(Clone, Copy)]
+struct Scene<'a> {
+    catalog: &'a Catalog<'a>,
+    written: Option<Written<'a>>,
+    setting: Setting<'a>,
+}
+
+// The definition that an atom names, by its number.
+#[derive(Clone, Copy)]
+struct Named<'a> {
+    written: Written<'a>,
+    number: usize,
+}
+
+// A quantifier where it stands, and its variable.
+#[derive(Clone, Copy)]
+struct Binding<'a> {
+    place: Place,
+    quantifier: Quantifier,
+    binder: &'a RawColumn,
+}
+
+/// The query that stands for a file: for this query without operators, beside these definitions.
+pub fn expand(alloc: Global, written: Written<'_>, query: &RawQuery) -> Result<RawQuery, Memory>
+    requires plain { HasNoOperator (raw_form_of query.now.body) }
+    requires definitions { IsWhole written }
+    ensures { IfOk result (λ made. (file : RawFileView) → AreWrittenBy written.entry file
+        → raw_question_of query.now ≡ expanded_question file.query
+        → raw_question_of made ≡ expanded_file written.entry.definitions.now.relations file) }
+{
+    let catalog = Catalog::new(alloc, written.definitions.database())?;
+    expand_beside(alloc, &catalog, written, query)
+}
+
+// The same, where the columns of relations are looked up in a catalog.
+fn expand_beside(
+    alloc: Global,
+    catalog: &Catalog<'_>,
+    written: Written<'_>,
+    query: &RawQuery,
+) -> Result<RawQuery, Memory>
+    requires plain { HasNoOperator (raw_form_of query.now.body) }
+    requires definitions { IsWhole written }
+    ensures { IfOk result (λ made. (file : RawFileView)
+        → AreBeside catalog.now written.entry file
+        → raw_question_of query.now ≡ expanded_question file.query
+        → raw_question_of made ≡ expanded_file written.entry.definitions.now.relations file) }
+{
+    let setting = Setting {
+        used: None,
+        before: written.plain.len(),
+        first: 1,
+        numbers: written.numbers.last(),
+    };
+    let scene = Scene {
+        catalog,
+        written: Some(written),
+        setting,
+    };
+    written_out(alloc, &scene, &query.head, &query.body)
+}
+
+/// The query in which each `*` is written out, counted in each atom by itself; atoms of definitions stay.
+pub fn starred(
+    alloc: Global,
+    catalog: &Catalog<'_>,
+    head: &List<RawColumn>,
+    body: &RawFormula,
+) -> Result<RawQuery, Memory>
+    requires { HasNoOperator (raw_form_of body.now) }
+    ensures { IfOk result (λ made. raw_question_of made ≡ record {
+      head = head.now;
+      body = inlined catalog.now [] (raw_form_of body.now) (own_setting (λ p. 1));
+    }) }
+{
+    let setting = Setting {
+        used: None,
+        before: 0,
+        first: 1,
+        numbers: None,
+    };
+    let scene = Scene {
+        catalog,
+        written: None,
+        setting,
+    };
+    written_out(alloc, &scene, head, body)
+}
+
+// The query of a head and a body in a scene.
+fn written_out(
+    alloc: Global,
+    scene: &Scene<'_>,
+    head: &List<RawColumn>,
+    body: &RawFormula,
+) -> Result<RawQuery, Memory>
+    requires plain { HasNoOperator (raw_form_of body.now) }
+    requires definitions { AreWhole scene.now.written }
+    ensures head { IfOk result (λ made. made.head ≡ head.now) }
+    ensures body { IfOk result (λ made. (file : RawFileView) → IsAround scene.now file
+        → raw_form_of made.body ≡ inlined_here scene.now file (raw_form_of body.now)) }
+{
+    let mut text = NameText::new(alloc);
+    let made = inline(alloc, &mut text, scene, body)?;
+    let head = head.copy(alloc)?;
+    let body = Box::into_inner(made);
+    Ok(RawQuery { head, body })
+}
+
+// The formula in a scene.
+#[cycle(inlining)]
+fn inline(
+    alloc: Global,
+    text: &mut NameText,
+    scene: &Scene<'_>,
+    f: &RawFormula,
+) -> Result<Box<RawFormula>, Memory>
+    requires plain { HasNoOperator (raw_form_of f.now) }
+    requires definitions { AreWhole scene.now.written }
+    ensures { IfOk result (λ made. (file : RawFileView) → IsAround scene.now file
+        → raw_form_of made.value ≡ inlined_here scene.now file (raw_form_of f.now)) }
+{
+    let setting = &scene.setting;
+    let place = setting.place(f.place);
+    match &f.kind {
+        RawKind::Atom { relation, terms } => {
+            let number = setting.number(f.place)?;
+            let met = Met {
+                place,
+                name: relation,
+                terms: terms.as_slice(),
+                number,
+            };
+            inline_atom(alloc, text, scene, met)
+        }
+        RawKind::Compare { left, op, right } => {
+            let kind = comparison(alloc, text, setting, *op, (left, right))?;
+            boxed(alloc, place, kind)
+        }
+        RawKind::Member { term, point } => {
+            let kind = membership(alloc, text, setting, term, *point)?;
+            boxed(alloc, place, kind)
+        }
+        RawKind::Not { of } => inline_negation(alloc, text, scene, place, of),
+        RawKind::Group { of } => inline_group(alloc, text, scene, place, of),
+        RawKind::And { of } => inline_joined(alloc, text, scene, (place, Connective::And), of),
+        RawKind::Or { of } => inline_joined(alloc, text, scene, (place, Connective::Or), of),
+        RawKind::Implies { left, right } => {
+            inline_implication(alloc, text, scene, place, (left, right))
+        }
+        RawKind::Exists { binder, of } => {
+            let at = Binding {
+                place,
+                quantifier: Quantifier::Exists,
+                binder,
+            };
+            inline_quantified(alloc, text, scene, at, of)
+        }
+        RawKind::Forall { binder, of } => {
+            let at = Binding {
+                place,
+                quantifier: Quantifier::Forall,
+                binder,
+            };
+            inline_quantified(alloc, text, scene, at, of)
+        }
+        // No operator is left.
+        RawKind::Ranged { .. } | RawKind::Paired { .. } => unreachable!(),
+    }
+}
+
+#[cycle(inlining)]
+fn inline_negation(
+    alloc: Global,
+    text: &mut NameText,
+    scene: &Scene<'_>,
+    place: Place,
+    of: &RawFormula,
+) -> Result<Box<RawFormula>, Memory>
+    requires plain { HasNoOperator (raw_form_of of.now) }
+    requires definitions { AreWhole scene.now.written }
+    ensures { IfOk result (λ made. (file : RawFileView) → IsAround scene.now file
+        → raw_form_of made.value
+        ≡ raw_not place (inlined_here scene.now file (raw_form_of of.now))) }
+{
+    let of = inline(alloc, text, scene, of)?;
+    denied(alloc, place, of)
+}
+
+#[cycle(inlining)]
+fn inline_group(
+    alloc: Global,
+    text: &mut NameText,
+    scene: &Scene<'_>,
+    place: Place,
+    of: &RawFormula,
+) -> Result<Box<RawFormula>, Memory>
+    requires plain { HasNoOperator (raw_form_of of.now) }
+    requires definitions { AreWhole scene.now.written }
+    ensures { IfOk result (λ made. (file : RawFileView) → IsAround scene.now file
+        → raw_form_of made.value
+        ≡ raw_group place (inlined_here scene.now file (raw_form_of of.now))) }
+{
+    let of = inline(alloc, text, scene, of)?;
+    grouped(alloc, place, of)
+}
+
+#[cycle(inlining)]
+fn inline_implication(
+    alloc: Global,
+    text: &mut NameText,
+    scene: &Scene<'_>,
+    place: Place,
+    sides: (&RawFormula, &RawFormula),
+) -> Result<Box<RawFormula>, Memory>
+    requires left { HasNoOperator (raw_form_of sides.0.now) }
+    requires right { HasNoOperator (raw_form_of sides.1.now) }
+    requires definitions { AreWhole scene.now.written }
+    ensures { IfOk result (λ made. (file : RawFileView) → IsAround scene.now file
+        → raw_form_of made.value ≡ raw_implies place
+        (inlined_here scene.now file (raw_form_of sides.entry.0.now))
+        (inlined_here scene.now file (raw_form_of sides.entry.1.now))) }
+{
+    let (left, right) = sides;
+    let left = inline(alloc, text, scene, left)?;
+    let right = inline(alloc, text, scene, right)?;
+    implied(alloc, place, left, right)
+}
+
+#[cycle(inlining)]
+fn inline_joined(
+    alloc: Global,
+    text: &mut NameText,
+    scene: &Scene<'_>,
+    at: (Place, Connective),
+    of: &[RawFormula],
+) -> Result<Box<RawFormula>, Memory>
+    requires plain { HaveNoOperator (raw_forms_of of.now) }
+    requires definitions { AreWhole scene.now.written }
+    ensures { IfOk result (λ made. (file : RawFileView) → IsAround scene.now file
+        → raw_form_of made.value ≡ joined_form at.1 at.0
+        (each_inlined_here scene.now file (raw_forms_of of.now))) }
+{
+    let of = inline_each(alloc, text, scene, of)?;
+    let (place, connective) = at;
+    joined(alloc, place, connective, of)
+}
+
+#[cycle(inlining)]
+fn inline_each(
+    alloc: Global,
+    text: &mut NameText,
+    scene: &Scene<'_>,
+    fs: &[RawFormula],
+) -> Result<Vec<RawFormula>, Memory>
+    requires plain { HaveNoOperator (raw_forms_of fs.now) }
+    requires definitions { AreWhole scene.now.written }
+    ensures { IfOk result (λ made. (file : RawFileView) → IsAround scene.now file
+        → raw_forms_of made.items
+        ≡ each_inlined_here scene.now file (raw_forms_of fs.now)) }
+{
+    let mut all = Vec::with_capacity(alloc, fs.len())?;
+    for f in fs {
+        let made = inline(alloc, text, scene, f)?;
+        let g = Box::into_inner(made);
+        all.push(g)?;
+    }
+    Ok(all)
+}
+
+#[cycle(inlining)]
+fn inline_quantified(
+    alloc: Global,
+    text: &mut NameText,
+    scene: &Scene<'_>,
+    at: Binding<'_>,
+    of: &RawFormula,
+) -> Result<Box<RawFormula>, Memory>
+    requires plain { HasNoOperator (raw_form_of of.now) }
+    requires definitions { AreWhole scene.now.written }
+    ensures { IfOk result (λ made. (file : RawFileView) → IsAround scene.now file
+        → raw_form_of made.value ≡ quantified_form at.entry.quantifier at.entry.place
+        (set_column (setting_of scene.now.setting) at.entry.binder.now)
+        (inlined_here scene.now file (raw_form_of of.now))) }
+{
+    let binder = scene.setting.binder(alloc, text, at.binder)?;
+    let of = inline(alloc, text, scene, of)?;
+    quantified(alloc, at.place, at.quantifier, binder, of)
+}
+
+// The definition that a name means, among those that an atom of the scene may name.
+fn meaning_of<'a>(scene: &Scene<'a>, name: &Name) -> Option<Named<'a>>
+    requires { AreWhole scene.now.written }
+    ensures { IsMeant scene.now name.now result }
+{
+    let written = scene.written?;
+    let definitions = written.definitions;
+    let number = definitions.number(name, scene.setting.before)?;
+    Some(Named { written, number })
+}
+
+// An atom of a definition or of a relation.
+#[cycle(inlining)]
+fn inline_atom(
+    alloc: Global,
+    text: &mut NameText,
+    scene: &Scene<'_>,
+    met: Met<'_>,
+) -> Result<Box<RawFormula>, Memory>
+    requires { AreWhole scene.now.written }
+    ensures { IfOk result (λ made. (file : RawFileView) → IsAround scene.now file
+        → raw_form_of made.value ≡ met_form scene.now file met.entry) }
+{
+    match meaning_of(scene, met.name) {
+        Some(named) => inline_use(alloc, text, scene, met, named),
+        None => starred_atom(alloc, text, scene.catalog, &scene.setting, met),
+    }
+}
+
+// The formula of the definition that an atom names, with the terms of the atom for its columns.
+#[cycle(inlining)]
+fn inline_use(
+    alloc: Global,
+    text: &mut NameText,
+    scene: &Scene<'_>,
+    met: Met<'_>,
+    named: Named<'_>,
+) -> Result<Box<RawFormula>, Memory>
+    requires named { IsNamed scene.now named }
+    requires definitions { AreWhole scene.now.written }
+    ensures { IfOk result (λ made. (file : RawFileView) → IsAround scene.now file
+        → IsUsed scene.now file met.entry named.entry.number (raw_form_of made.value)) }
+{
+    let Named { written, number } = named;
+    let columns = written.definitions.at(number).columns.as_slice();
+    let given = arguments_of(alloc, text, &scene.setting, met, columns)?;
+    let Arguments {
+        next,
+        stars,
+        columns,
+        comparisons,
+        passed,
+    } = given;
+    let setting = Setting {
+        used: Some(Use {
+            number: met.number,
+            place: met.place,
+            passed: passed.as_slice(),
+        }),
+        before: number,
+        first: next,
+        numbers: Some(&written.numbers[number]),
+    };
+    let inside = Scene {
+        catalog: scene.catalog,
+        written: scene.written,
+        setting,
+    };
+    let of = inline(alloc, text, &inside, &written.plain[number].body)?;
+    let all = with_comparisons(alloc, met.place, comparisons, of)?;
+    let compared = some_each(alloc, met.place, columns, all)?;
+    some_each(alloc, met.place, stars, compared)
+}

@@ -1,0 +1,286 @@
+// How uses of definitions and `*` are numbered: by the places of their atoms, in each text by itself.
+ghost use Rattle.std.specs.Prelude.{◌≡◌, ◌<◌, ◌+◌, ◌++◌, ◌^◌, List as ListOf, IfOk, IsTrue, OnOk, cond};
+ghost use Rattle.lrp_model.specs.RawQueries.{raw_file_of, raw_form_of, raw_forms_of};
+ghost use Rattle.lrp_model.specs.Rows.{columns_in, relation_named};
+ghost use Rattle.lrp_wide.specs.Inlining.{Known, atom_numbers as numbers_of_atom, counted_each, counted_in, meant_by, numbers_before};
+ghost use Rattle.lrp_wide.specs.Counts.{AreAscending, AreNumbered, AreRowless, IsFirstBehind, counted_of, end_before, file_numbers};
+ghost use Rattle.lrp_tense.specs.Expanding.{is_before as is_before_of};
+
+use crate::measures::terms_of;
+use lrp_model::{Memory, Name, Place, RawFile, RawFormula, RawKind, RawTerm};
+use lrp_sorts::Definitions;
+use std::alloc::Global;
+use std::marker::Model;
+
+// An atom that takes numbers: how many, and how many those that were met before it take.
+#[derive(Clone, Copy)]
+struct Counted {
+    place: Place,
+    numbers: u64,
+    before: u64,
+}
+
+/// The atoms of a text that take numbers, as they were met; in a text that was read they stand in the order of their places.
+pub struct Numbers {
+    atoms: Vec<Counted>,
+    total: u64,
+    is_ascending: bool,
+}
+
+impl Drop for Numbers {
+    fn drop(self) {
+        let Numbers {
+            atoms: _atoms,
+            total: _total,
+            is_ascending: _is_ascending,
+        } = self;
+    }
+}
+
+impl Model for Numbers {
+    ghost use Rattle.std.specs.Prelude.{List};
+    ghost use Rattle.lrp_wide.specs.Inlining.{Counted as CountedOf};
+    ghost use Rattle.lrp_wide.specs.Counts.{AreSummed, counted_of};
+
+    ghost Value = { List CountedOf };
+
+    ghost view = { λ n. counted_of n.atoms.items };
+
+    ghost invariant = { λ n. AreSummed n.atoms.items n.total n.is_ascending };
+}
+
+/// The sum of two counts.
+///
+/// # Errors
+///
+/// It is 2^64 or more, which no text brings about.
+pub fn plus(left: u64, right: u64) -> Result<u64, Memory>
+    ensures { IfOk result (λ sum. sum ≡ left + right) }
+{
+    left.checked_add(right).ok_or(Memory)
+}
+
+// Whether the first place stands before the second.
+fn is_before(place: Place, other: Place) -> bool
+    ensures { result ≡ is_before_of place other }
+{
+    place.line < other.line || (place.line == other.line && place.column < other.column)
+}
+
+// Whether the last of these atoms stands before a place.
+fn ends_before(atoms: &[Counted], place: Place) -> bool
+    ensures { result ≡ end_before atoms.now place }
+{
+    match atoms.last() {
+        Some(last) => is_before(last.place, place),
+        None => true,
+    }
+}
+
+// Whether these atoms stand in the order of their places, and before a further place too.
+fn ascends(is_ascending: bool, atoms: &[Counted], place: Place) -> bool
+    ensures { IsTrue result → IsTrue is_ascending × IsTrue (end_before atoms.now place) }
+{
+    is_ascending && ends_before(atoms, place)
+}
+
+impl Numbers {
+    ghost use Rattle.std.specs.Prelude.{◌≡◌, ◌++◌, [], ◌∷◌, OnOk};
+    ghost use Rattle.lrp_wide.specs.Inlining.{numbers_before, numbers_of};
+
+    // None yet.
+    fn new(alloc: Global) -> Self
+        ensures { result ≡ [] }
+    {
+        Numbers {
+            atoms: Vec::new(alloc),
+            total: 0,
+            is_ascending: true,
+        }
+    }
+
+    // One atom more.
+    fn count(&mut self, place: Place, numbers: u64) -> Result<(), Memory>
+        ensures { OnOk result (self.new
+            ≡ self.old ++ record { place = place; numbers = numbers } ∷ []) }
+    {
+        let before = self.total;
+        let total = plus(before, numbers)?;
+        let is_ascending = ascends(self.is_ascending, self.atoms.as_slice(), place);
+        self.atoms.push(Counted {
+            place,
+            numbers,
+            before,
+        })?;
+        self.total = total;
+        self.is_ascending = is_ascending;
+        Ok(())
+    }
+
+    /// How many numbers all atoms take.
+    pub fn total(&self) -> u64
+        ensures { result ≡ numbers_of self.now }
+    {
+        self.total
+    }
+
+    /// How many numbers the atoms before a place take.
+    pub fn before(&self, place: Place) -> u64
+        ensures { result ≡ numbers_before self.now place }
+    {
+        let atoms = self.atoms.as_slice();
+        if !self.is_ascending {
+            return sum_before(atoms, place);
+        }
+        let first = first_behind(atoms, place);
+        if first == atoms.len() {
+            return self.total;
+        }
+        atoms[first].before
+    }
+}
+
+// How many of the atoms, which stand in the order of their places, stand before a place.
+fn first_behind(atoms: &[Counted], place: Place) -> usize
+    requires { AreAscending atoms.now }
+    ensures { IsFirstBehind atoms.now place result }
+{
+    atoms.partition_point(|atom| is_before(atom.place, place))
+}
+
+// How many numbers the atoms before a place take, in any order.
+fn sum_before(atoms: &[Counted], place: Place) -> u64
+    ensures { numbers_before (counted_of atoms.now) place < 2 ^ 64
+        → result ≡ numbers_before (counted_of atoms.now) place }
+{
+    let mut sum = 0u64;
+    for atom in atoms {
+        sum = sum.saturating_add(taken_before(*atom, place));
+    }
+    sum
+}
+
+// How many numbers an atom takes, where it stands before a place.
+fn taken_before(atom: Counted, place: Place) -> u64
+    ensures { result ≡ cond (is_before_of atom.place place) atom.numbers 0 }
+{
+    if is_before(atom.place, place) {
+        atom.numbers
+    } else {
+        0
+    }
+}
+
+/// The numbers of a file's definitions, in order, and last those of its query, as they are written.
+pub fn number_file(
+    alloc: Global,
+    definitions: &Definitions<'_>,
+    file: &RawFile,
+) -> Result<Vec<Numbers>, Memory>
+    requires { AreRowless definitions.now (raw_file_of file.now) }
+    ensures { IfOk result (λ made. made.items
+        ≡ file_numbers definitions.now.relations (raw_file_of file.now)) }
+{
+    let mut known = Vec::with_capacity(alloc, file.definitions.len().saturating_add(1))?;
+    for definition in file.definitions.as_slice() {
+        let numbers = number_text(alloc, definitions, known.as_slice(), &definition.body)?;
+        known.push(numbers)?;
+    }
+    let numbers = number_text(alloc, definitions, known.as_slice(), &file.query.body)?;
+    known.push(numbers)?;
+    Ok(known)
+}
+
+// The numbers of a text, where those of the definitions before are known.
+fn number_text(
+    alloc: Global,
+    definitions: &Definitions<'_>,
+    known: &[Numbers],
+    f: &RawFormula,
+) -> Result<Numbers, Memory>
+    ensures { IfOk result (λ made. (ks : ListOf Known)
+        → AreNumbered ks definitions.now.definitions known.now
+        → made ≡ counted_in definitions.now.relations ks (raw_form_of f.now)) }
+{
+    let mut numbers = Numbers::new(alloc);
+    count_in(&mut numbers, definitions, known, f)?;
+    Ok(numbers)
+}
+
+// Counts the atoms of a formula.
+#[cycle(numbering)]
+fn count_in(
+    numbers: &mut Numbers,
+    definitions: &Definitions<'_>,
+    known: &[Numbers],
+    f: &RawFormula,
+) -> Result<(), Memory>
+    ensures { OnOk result ((ks : ListOf Known)
+        → AreNumbered ks definitions.now.definitions known.now → numbers.new
+        ≡ numbers.old ++ counted_in definitions.now.relations ks (raw_form_of f.now)) }
+{
+    match &f.kind {
+        RawKind::Atom { relation, terms } => {
+            let taken = atom_numbers(definitions, known, relation, terms.as_slice())?;
+            numbers.count(f.place, taken)
+        }
+        RawKind::Compare { .. } => Ok(()),
+        RawKind::Member { .. } => Ok(()),
+        RawKind::Not { of } => count_in(numbers, definitions, known, of),
+        RawKind::Group { of } => count_in(numbers, definitions, known, of),
+        RawKind::Exists { of, .. } => count_in(numbers, definitions, known, of),
+        RawKind::Forall { of, .. } => count_in(numbers, definitions, known, of),
+        RawKind::Ranged { of, .. } => count_in(numbers, definitions, known, of),
+        RawKind::And { of } => count_each(numbers, definitions, known, of),
+        RawKind::Or { of } => count_each(numbers, definitions, known, of),
+        RawKind::Implies { left, right } => {
+            count_in(numbers, definitions, known, left)?;
+            count_in(numbers, definitions, known, right)
+        }
+        RawKind::Paired { left, right, .. } => {
+            count_in(numbers, definitions, known, left)?;
+            count_in(numbers, definitions, known, right)
+        }
+    }
+}
+
+#[cycle(numbering)]
+fn count_each(
+    numbers: &mut Numbers,
+    definitions: &Definitions<'_>,
+    known: &[Numbers],
+    fs: &[RawFormula],
+) -> Result<(), Memory>
+    ensures { OnOk result ((ks : ListOf Known)
+        → AreNumbered ks definitions.now.definitions known.now → numbers.new
+        ≡ numbers.old ++ counted_each definitions.now.relations ks (raw_forms_of fs.now)) }
+{
+    for f in fs {
+        count_in(numbers, definitions, known, f)?;
+    }
+    Ok(())
+}
+
+// How many numbers an atom takes: one for a use, one for each `*`, and those of the definition that is used.
+fn atom_numbers(
+    definitions: &Definitions<'_>,
+    known: &[Numbers],
+    name: &Name,
+    terms: &[RawTerm],
+) -> Result<u64, Memory>
+    ensures { IfOk result (λ taken. (ks : ListOf Known)
+        → AreNumbered ks definitions.now.definitions known.now
+        → taken ≡ numbers_of_atom (columns_in (relation_named definitions.now.relations name.now))
+        terms.now
+        (meant_by definitions.now.relations ks name.now)) }
+{
+    if let Some(number) = definitions.number(name, known.len()) {
+        let stars = terms_of(definitions.at(number).columns.as_slice(), terms).stars;
+        return plus(plus(1, stars)?, known[number].total());
+    }
+    let columns = match definitions.database().relation(name) {
+        Some(relation) => relation.columns.as_slice(),
+        None => &[],
+    };
+    Ok(terms_of(columns, terms).stars)
+}

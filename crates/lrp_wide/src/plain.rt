@@ -1,0 +1,46 @@
+// Files without operators: those of each text are written out by themselves.
+ghost use Rattle.std.specs.Prelude.{◌≡◌, IfOk};
+ghost use Rattle.std.specs.List.{AllByRecursion};
+ghost use Rattle.lrp_model.specs.RawQueries.{HasNoOperator, raw_definition_of, raw_file_of, raw_form_of};
+ghost use Rattle.lrp_wide.specs.Inlining.{plain_definition, plain_file};
+ghost use Rattle.lrp_wide.specs.Outcomes.{IsExpandableDefinition, IsExpandableFile};
+ghost use Rattle.lrp_wide.specs.Inside.{HasPlainBody};
+
+use lrp_model::{Memory, RawDefinition, RawFile};
+use lrp_tense::expand;
+use std::alloc::Global;
+
+// The definition without operators.
+fn without_operators(alloc: Global, definition: RawDefinition) -> Result<RawDefinition, Memory>
+    requires { IsExpandableDefinition (raw_definition_of definition) }
+    ensures tree { IfOk result (λ made. raw_definition_of made
+        ≡ plain_definition (raw_definition_of definition)) }
+    ensures operators { IfOk result (λ made. HasPlainBody made) }
+{
+    let (name, place, query) = definition.into_query();
+    let plain = expand(alloc, &query)?;
+    let (columns, body) = plain.into_parts();
+    Ok(RawDefinition {
+        name,
+        place,
+        columns,
+        body,
+    })
+}
+
+/// The file without operators.
+pub fn plain(alloc: Global, file: RawFile) -> Result<RawFile, Memory>
+    requires { IsExpandableFile (raw_file_of file) }
+    ensures tree { IfOk result (λ made. raw_file_of made ≡ plain_file (raw_file_of file)) }
+    ensures query { IfOk result (λ made. HasNoOperator (raw_form_of made.query.body)) }
+    ensures definitions { IfOk result (λ made. AllByRecursion HasPlainBody
+        made.definitions.items) }
+{
+    let (written, query) = file.into_parts();
+    let mut definitions = Vec::with_capacity(alloc, written.len())?;
+    for definition in written {
+        definitions.push(without_operators(alloc, definition)?)?;
+    }
+    let query = expand(alloc, &query)?;
+    Ok(RawFile { definitions, query })
+}
