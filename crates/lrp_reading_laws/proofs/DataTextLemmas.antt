@@ -12,7 +12,8 @@ use Rattle.lrp_model.specs.Databases.{comma}
 use Rattle.lrp_model.specs.Domains.{all_texts, database_texts, form_texts, forms_texts, row_texts, term_texts, test_texts, text_beside}
 use Rattle.lrp_model.specs.Rows.{columns_in, relation_named}
 use Rattle.lrp_model.specs.Lexing.{tokens, start}
-use Rattle.lrp_model.specs.Queries.{WrittenFormula, FurtherMembers, WrittenTerm, FitsSizes, FitSizes, FitsTerm, formula_text, members_text, op_symbol, query_text, term_text}
+use Rattle.lrp_model.specs.Queries.{Language, WrittenArgument, WrittenTerm, FitsArgument, FitsTerm, argument_text, term_text}
+use Rattle.lrp_model.specs.Queries.WrittenArgument.{argument, star}
 use Rattle.lrp_model.specs.Queries.WrittenTerm.{integer, text_term, variable, shifted}
 use Rattle.lrp_model.specs.Queries.WrittenFormula.{atom_formula, compared, member, denied, all_of, any_of, implied, group, some, every, hole}
 use Rattle.lrp_model.specs.Queries.FurtherMembers.{last, more}
@@ -64,13 +65,22 @@ term_good p (integer i) h short = tt
 term_good p (variable n) h short = tt
 term_good p (shifted n down k) h short = tt
 
-pub terms_good : (ts : List (Located WrittenTerm)) → AllByRecursion TextPart (separated comma (located_text term_text) ts) → AllByRecursion (λ t. FitsTerm t.item) ts → AllByRecursion (λ t. IsGood t.item) ts
-terms_good [] h short = tt
-terms_good (t ∷ []) h short = (term_good t.place t.item h short.0, tt)
-terms_good (t ∷ u ∷ us) h short =
-    let first = located_text term_text t in
-    let rest = separated comma (located_text term_text) (u ∷ us) in
-    (term_good t.place t.item (all_front TextPart first (comma ∷ rest) h) short.0, terms_good (u ∷ us) (all_tail TextPart comma rest (all_behind TextPart first (comma ∷ rest) h)) short.1)
+-- what an atom has for a column
+abbrev pub IsGoodArgument : {l : Language} → WrittenArgument l → Type 0
+IsGoodArgument (argument t) = IsGood t
+IsGoodArgument (star t) = Unit {0}
+
+argument_good : {l : Language} (p : Place) (t : WrittenArgument l) → AllByRecursion TextPart (from p (argument_text t)) → FitsArgument t → IsGoodArgument t
+argument_good p (argument t) h short = term_good p t h short
+argument_good p (star t) h short = tt
+
+pub arguments_good : {l : Language} (ts : List (Located (WrittenArgument l))) → AllByRecursion TextPart (separated comma (located_text argument_text) ts) → AllByRecursion (λ t. FitsArgument t.item) ts → AllByRecursion (λ t. IsGoodArgument t.item) ts
+arguments_good [] h short = tt
+arguments_good (t ∷ []) h short = (argument_good t.place t.item h short.0, tt)
+arguments_good (t ∷ u ∷ us) h short =
+    let first = located_text argument_text t in
+    let rest = separated comma (located_text argument_text) (u ∷ us) in
+    (argument_good t.place t.item (all_front TextPart first (comma ∷ rest) h) short.0, arguments_good (u ∷ us) (all_tail TextPart comma rest (all_behind TextPart first (comma ∷ rest) h)) short.1)
 
 -- a text among the data terms is one
 abbrev pub IsGoodData : DataTerm → Type 0

@@ -1,3 +1,4 @@
 pub mod Databases
 pub mod DataTextLemmas
 pub mod FormulaTexts
+pub mod FileTexts

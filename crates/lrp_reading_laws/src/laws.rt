@@ -5,14 +5,15 @@ ghost use Rattle.lrp_model.specs.Checked.{plain_question};
 ghost use Rattle.lrp_model.specs.DataTexts.{IsDataText};
 ghost use Rattle.lrp_model.specs.Domains.{all_texts};
 ghost use Rattle.lrp_model.specs.DatabaseReading.{IsDatabase, IsDatabaseFault};
-ghost use Rattle.lrp_model.specs.QueryReading.{IsQuery, IsQueryFault};
-ghost use Rattle.lrp_model.specs.RawQueries.{RawQuestion};
+ghost use Rattle.lrp_model.specs.QueryReading.{IsFile, IsFileFault, IsQuery, IsQueryFault};
+ghost use Rattle.lrp_model.specs.RawQueries.{RawFileView, RawQuestion};
 ghost use Rattle.lrp_model.specs.Sorting.{IsWellSorted, IsSortFault};
 ghost use Rattle.lrp_model.specs.declared.faults.DbFault.{DbFault};
 ghost use Rattle.lrp_model.specs.declared.faults.QueryFault.{QueryFault};
 ghost use Rattle.lrp_model.specs.declared.relations.Relation.{Relation};
 ghost use Rattle.lrp_tense.specs.Expanding.{expanded_question};
 ghost use Rattle.lrp_tense.specs.TenseReading.{IsTenseQuery, IsTenseQueryFault};
+ghost use Rattle.lrp_wide.specs.Inlining.{expanded_file};
 
 /// A text is of one database at most.
 pub fn texts_are_of_one_database()
@@ -83,4 +84,31 @@ pub fn expanded_texts_are_data_texts()
 pub fn well_sorted_queries_have_no_fault()
     ensures { (relations : List Relation) (q : RawQuestion) (fault : QueryFault)
         → IsWellSorted relations q → IsSortFault relations q fault → ⊥ }
+{}
+
+/// A text of the wide language is of one file at most.
+pub fn texts_are_of_one_file()
+    ensures { (bytes : List ℕ) (f other : RawFileView)
+        → IsFile bytes f → IsFile bytes other → f ≡ other }
+{}
+
+/// The text of a file of the wide language has no fault.
+pub fn files_have_no_fault()
+    ensures { (bytes : List ℕ) (f : RawFileView) (fault : QueryFault)
+        → IsFile bytes f → IsFileFault bytes fault → ⊥ }
+{}
+
+/// A text has one fault of a file of the wide language at most.
+pub fn files_have_one_fault()
+    ensures { (bytes : List ℕ) (fault other : QueryFault)
+        → IsFileFault bytes fault → IsFileFault bytes other → fault ≡ other }
+{}
+
+/// The texts of a database and of the query that stands for a file of the wide language are data texts.
+pub fn expanded_files_have_data_texts()
+    ensures { (database file : List ℕ) (relations : List Relation) (f : RawFileView)
+        → IsDatabase database relations
+        → IsFile file f
+        → AllByRecursion (λ entry. IsDataText entry.1)
+        (all_texts relations (plain_question (expanded_file relations f))) }
 {}

@@ -5,8 +5,9 @@
 mod laws;
 
 pub use laws::{
-    databases_have_no_fault, databases_have_one_fault, expanded_texts_are_data_texts,
+    databases_have_no_fault, databases_have_one_fault, expanded_files_have_data_texts,
+    expanded_texts_are_data_texts, files_have_no_fault, files_have_one_fault,
     queries_have_no_fault, queries_have_one_fault, read_texts_are_data_texts,
     tense_queries_have_no_fault, tense_queries_have_one_fault, texts_are_of_one_database,
-    texts_are_of_one_query, well_sorted_queries_have_no_fault,
+    texts_are_of_one_file, texts_are_of_one_query, well_sorted_queries_have_no_fault,
 };

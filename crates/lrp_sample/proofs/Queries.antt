@@ -5,12 +5,13 @@ use Rattle.lrp_model.specs.declared.relations.Sort.TheVariants.{Time, Data}
 use Rattle.lrp_model.specs.declared.formulas.Op.TheVariants.{Ge, Le}
 use Rattle.lrp_model.specs.declared.written.Located.{Located}
 use Rattle.lrp_model.specs.Tokens.{Spells}
-use Rattle.lrp_model.specs.Lexing.{tokens, tokens_from, after, skip, run, behind_run, word_or_name, text_from, symbol_from, scan}
-use Rattle.lrp_model.specs.Queries.{WrittenTerm, WrittenFormula, WrittenQuery, query_text, FitsQuery}
+use Rattle.lrp_model.specs.Lexing.{tokens, tokens_from, after, skip, run, behind_run, word_or_name, text_from, symbol_from, scan, scan_in, symbol_in, tokens_in_from}
+use Rattle.lrp_model.specs.Queries.{WrittenTerm, WrittenArgument, WrittenFormula, WrittenQuery, query_text, FitsQuery}
 use Rattle.lrp_model.specs.Queries.WrittenTerm.{variable, shifted}
 use Rattle.lrp_model.specs.Queries.Language.{first_order}
 use Rattle.lrp_model.specs.Queries.WrittenFormula.{atom_formula, compared, denied, all_of, some}
 use Rattle.lrp_model.specs.Queries.FurtherMembers.{last, more}
+use Rattle.lrp_model.specs.Queries.WrittenArgument.{argument}
 use Rattle.lrp_model.specs.QueryReading.{IsQuery}
 use Rattle.lrp_model.specs.Sorting.{IsWellSorted}
 use Rattle.lrp_model.specs.Checked.{plain_question}
@@ -21,11 +22,15 @@ use Rattle.lrp_sample.specs.Trees.{sample_relations, place, binder, raw_sample, 
 abbrev here : WrittenTerm → ℕ → Located WrittenTerm
 here t at = record { place = place at; item = t }
 
+-- the same in an atom
+abbrev given : WrittenTerm → ℕ → Located (WrittenArgument first_order)
+given t at = record { place = place at; item = argument t }
+
 -- some trip leaves at u or within 15 minutes behind it
 abbrev written_some : WrittenFormula first_order
 written_some =
     some (place 60) (binder (codes "v") 67 Time 70) (some (place 75) (binder (codes "w") 82 Time 85) (some (place 90) (binder (codes "k") 97 Data 100) (all_of (place 105)
-    (atom_formula (place 106) (codes "trip") (here (variable (codes "v")) 111 ∷ here (variable (codes "w")) 114 ∷ here (variable (codes "k")) 117 ∷ [])) (
+    (atom_formula (place 106) (codes "trip") (given (variable (codes "v")) 111 ∷ given (variable (codes "w")) 114 ∷ given (variable (codes "k")) 117 ∷ [])) (
     more (compared (here (variable (codes "v")) 124) Ge (here (variable (codes "u")) 129)) (
     last (compared (here (variable (codes "v")) 135) Le (here (shifted (codes "u") false 15) 140)))))))
 
@@ -34,12 +39,13 @@ abbrev written_sample : WrittenQuery first_order
 written_sample = record {
   head = binder (codes "t") 3 Time 6 ∷ binder (codes "l") 12 Data 15 ∷ [];
   body = some (place 22) (binder (codes "u") 29 Time 32) (all_of (place 37)
-      (atom_formula (place 38) (codes "trip") (here (variable (codes "t")) 43 ∷ here (variable (codes "u")) 46 ∷ here (variable (codes "l")) 49 ∷ [])) (
+      (atom_formula (place 38) (codes "trip") (given (variable (codes "t")) 43 ∷ given (variable (codes "u")) 46 ∷ given (variable (codes "l")) 49 ∷ [])) (
       last (denied (place 56) written_some)));
+  formula = tt;
 }
 
 query_spelled : Spells (query_text written_sample) (tokens sample_query)
-unfolding tokens_from after skip run behind_run word_or_name text_from symbol_from scan lib.Utf8.encode
+unfolding tokens_in_from after skip run behind_run word_or_name text_from symbol_in scan_in lib.Utf8.encode
 query_spelled = (refl, ((refl, refl), (refl, ((refl, refl), (refl, ((refl, refl), (refl, ((refl, refl), (refl, ((refl, refl), ((refl, refl), (refl, ((refl, refl), ((refl, refl), ((refl, refl), (refl, ((refl, refl), (refl, ((refl, refl), (refl, ((refl, refl), (refl, (refl, ((refl, refl), ((refl, refl), ((refl, refl), (refl, ((refl, refl), ((refl, refl), ((refl, refl), (refl, ((refl, refl), ((refl, refl), ((refl, refl), (refl, ((refl, refl), ((refl, refl), ((refl, refl), (refl, ((refl, refl), (refl, ((refl, refl), (refl, ((refl, refl), (refl, (refl, ((refl, refl), (refl, ((refl, refl), (refl, ((refl, refl), (refl, ((refl, refl), (refl, (refl, (refl, (refl, (refl, (refl, refl)))))))))))))))))))))))))))))))))))))))))))))))))))))))))))
 
 query_utf8 : IsUtf8 sample_query

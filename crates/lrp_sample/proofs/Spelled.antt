@@ -23,7 +23,7 @@ use Rattle.lrp_model.specs.Tokens.Token.{name_token, word_token, number_token, s
 use Rattle.lrp_model.specs.Tokens.Part.{at, any}
 use Rattle.lrp_model.specs.Columns.{column_text}
 use Rattle.lrp_model.specs.Databases.{comma, row_text, relation_text, database_text}
-use Rattle.lrp_model.specs.Lexing.{is_name_byte, after, start, tokens, tokens_from, skip, scan, run, behind_run, word_or_name, symbol_from}
+use Rattle.lrp_model.specs.Lexing.{is_name_byte, after, start, tokens, tokens_from, skip, scan, run, behind_run, word_or_name, symbol_from, scan_in, symbol_in, tokens_in_from}
 use Rattle.std.specs.Char.{is_ascii_digit}
 use Rattle.lrp_model.specs.Printed.{quoted}
 use Rattle.lrp_model.specs.Names.{IsName}
@@ -37,19 +37,19 @@ use Rattle.lrp_sample.proofs.Small.{departure_small, arrival_small, duration_sma
 -- ---- names
 
 dep_named : IsName (codes "dep")
-unfolding scan run behind_run word_or_name
+unfolding scan_in run behind_run word_or_name
 dep_named = refl
 
 arr_named : IsName (codes "arr")
-unfolding scan run behind_run word_or_name
+unfolding scan_in run behind_run word_or_name
 arr_named = refl
 
 line_named : IsName (codes "line")
-unfolding scan run behind_run word_or_name
+unfolding scan_in run behind_run word_or_name
 line_named = refl
 
 trip_named : IsName (codes "trip")
-unfolding scan run behind_run word_or_name
+unfolding scan_in run behind_run word_or_name
 trip_named = refl
 
 -- ---- the tree
@@ -146,7 +146,7 @@ where_spelled p rest =
     both (close p (codes " where " ++ rest)) (both (space (after p (codes ")")) (codes "where " ++ rest)) (both (where_word q (codes " " ++ rest) refl) (space (after q (codes "where")) rest)))
 
 equals : (p : Place) (rest : List ℕ) → Spelled (any (symbol_token Equals) ∷ []) p (61 ∷ []) rest
-unfolding scan symbol_from
+unfolding scan_in symbol_in
 equals p rest = token_any (symbol_token Equals) p 61 [] rest tt (record { plain = refl; dark = refl }) refl
 
 -- `=` between blanks
@@ -254,7 +254,7 @@ relation_spelled seed size p rest =
 
 -- where no bytes are left stands the end
 the_end : (p : Place) → Spells (any end_token ∷ []) (tokens_at p [])
-unfolding tokens_from skip scan
+unfolding tokens_in_from skip scan_in
 the_end p = (refl, refl)
 
 -- the text of the database spells its tree
