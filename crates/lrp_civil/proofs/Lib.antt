@@ -7,6 +7,8 @@ pub mod Numbers
 pub mod MinuteLemmas
 pub mod Weekdays
 pub mod ValueLemmas
+pub mod PaceLemmas
+pub mod EveryLemmas
 pub mod Spelled
 pub mod TimeLemmas
 pub mod TokenLemmas

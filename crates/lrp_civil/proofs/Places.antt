@@ -2,16 +2,18 @@
 use Rattle.std.proofs.Common.{◌≡◌, ◌+◌, ℕ, zero, suc, Bool, true, false, ◌==◌, List, [], ◌∷◌, ◌++◌, length, take, drop, Option, None, Some, refl, sym, ap, ◌∙◌, subst, if◌then◌else◌, arith}
 use Rattle.std.specs.Str.{is_utf8}
 use Rattle.lrp_model.specs.declared.tokens.Place.{Place}
-use Rattle.lrp_model.specs.Lexing.{after, moved, scan, start}
-use Rattle.lrp_text.proofs.Scans.{OneLine, scan_taken}
+use Rattle.lrp_model.specs.Lexing.{after, moved, scan_in, start}
+use Rattle.lrp_text.proofs.Scans.{OneLine, scan_taken_in}
 use Rattle.std.proofs.Math.Seq.{drop-append_seam}
 use Rattle.lrp_civil.specs.declared.values.CivilValue.{CivilValue}
+use Rattle.lrp_civil.specs.declared.values.CivilText.{CivilText}
 use Rattle.lrp_civil.specs.CivilValues.{padded_bytes, spelled}
 use Rattle.lrp_civil.specs.Tokens.{behind_blanks, is_last}
-use Rattle.lrp_civil.specs.PlainText.{HasSamePlaces, blanks, plain_utf8, plain_from, plain_of, plain_value, value_at}
+use Rattle.lrp_civil.specs.PlainText.{HasSamePlaces, blanks, plain_as, plain_bytes_of, plain_from, plain_value, signs_of, value_in}
 use Rattle.lrp_civil.proofs.PlainLemmas.{blanks_whole}
 use Rattle.lrp_civil.proofs.PlainSizes.{padded_line, padded_size, spelled_line}
 use Rattle.lrp_civil.proofs.Spelled.{value_spelled}
+use Rattle.lrp_civil.proofs.ValueLemmas.{as_civil}
 
 -- equally long, with line feeds at the same places
 abbrev SameFeeds : List ℕ → List ℕ → Type 0
@@ -55,37 +57,37 @@ feeds_place (x ∷ xs) (y ∷ ys) h p (suc n) =
 
 -- ---- the plain text
 
-token_feeds : (f : List ℕ → List ℕ) (here : List ℕ) (last : Bool) → ((rest : List ℕ) → SameFeeds (f rest) rest) → SameFeeds (if last then here else (scan here).taken ++ f (scan here).left) here
-token_feeds f here true same = feeds_refl here
-token_feeds f here false same = subst (SameFeeds ((scan here).taken ++ f (scan here).left)) (scan_taken here).whole (feeds_append (scan here).taken (scan here).taken (f (scan here).left) (scan here).left (feeds_refl (scan here).taken) (same (scan here).left))
+token_feeds : (kind : CivilText) (f : List ℕ → List ℕ) (here : List ℕ) (last : Bool) → ((rest : List ℕ) → SameFeeds (f rest) rest) → SameFeeds (if last then here else (scan_in (signs_of kind) here).taken ++ f (scan_in (signs_of kind) here).left) here
+token_feeds kind f here true same = feeds_refl here
+token_feeds kind f here false same = subst (SameFeeds ((scan_in (signs_of kind) here).taken ++ f (scan_in (signs_of kind) here).left)) (scan_taken_in (signs_of kind) here).whole (feeds_append (scan_in (signs_of kind) here).taken (scan_in (signs_of kind) here).taken (f (scan_in (signs_of kind) here).left) (scan_in (signs_of kind) here).left (feeds_refl (scan_in (signs_of kind) here).taken) (same (scan_in (signs_of kind) here).left))
 
-value_feeds : (f : List ℕ → List ℕ) (here : List ℕ) (o : Option CivilValue) → value_at here ≡ o → ((rest : List ℕ) → SameFeeds (f rest) rest) → SameFeeds (plain_value f here o) here
-value_feeds f here (Some v) e same =
-    let s = value_spelled here v e in
+value_feeds : (kind : CivilText) (f : List ℕ → List ℕ) (here : List ℕ) (o : Option CivilValue) → value_in kind here ≡ o → ((rest : List ℕ) → SameFeeds (f rest) rest) → SameFeeds (plain_value kind f here o) here
+value_feeds kind f here (Some v) e same =
+    let s = as_civil kind here v (value_spelled kind here v e) in
     let rest = drop (length (spelled v)) here in
     let left : rest ≡ s.behind = ap (drop (length (spelled v))) s.read.whole ∙ drop-append_seam (spelled v) s.behind in
     let whole : spelled v ++ rest ≡ here = ap (λ x. spelled v ++ x) left ∙ sym s.read.whole in
     subst (SameFeeds (padded_bytes v ++ f rest)) whole (feeds_append (padded_bytes v) (spelled v) (f rest) rest (feeds_lines (padded_bytes v) (spelled v) (padded_line v s.read.is) (spelled_line v s.read.is) (padded_size v s.read.is)) (same rest))
-value_feeds f here None e same = token_feeds f here (is_last (scan here).token) same
+value_feeds kind f here None e same = token_feeds kind f here (is_last (scan_in (signs_of kind) here).token) same
 
-turns_feeds : (n : ℕ) (bytes : List ℕ) → SameFeeds (plain_from n bytes) bytes
+turns_feeds : (kind : CivilText) (n : ℕ) (bytes : List ℕ) → SameFeeds (plain_from kind n bytes) bytes
 unfolding plain_from
-turns_feeds zero bytes = feeds_refl bytes
-turns_feeds (suc n) bytes =
+turns_feeds kind zero bytes = feeds_refl bytes
+turns_feeds kind (suc n) bytes =
     let here = behind_blanks bytes in
-    subst (SameFeeds (blanks bytes ++ plain_value (plain_from n) here (value_at here))) (blanks_whole bytes)
-    (feeds_append (blanks bytes) (blanks bytes) (plain_value (plain_from n) here (value_at here)) here (feeds_refl (blanks bytes)) (value_feeds (plain_from n) here (value_at here) refl (turns_feeds n)))
+    subst (SameFeeds (blanks bytes ++ plain_value kind (plain_from kind n) here (value_in kind here))) (blanks_whole bytes)
+    (feeds_append (blanks bytes) (blanks bytes) (plain_value kind (plain_from kind n) here (value_in kind here)) here (feeds_refl (blanks bytes)) (value_feeds kind (plain_from kind n) here (value_in kind here) refl (turns_feeds kind n)))
 
-plain_feeds : (bytes : List ℕ) → SameFeeds (plain_utf8 bytes) bytes
-unfolding plain_utf8
-plain_feeds bytes = turns_feeds (suc (length bytes)) bytes
+plain_feeds : (kind : CivilText) (bytes : List ℕ) → SameFeeds (plain_bytes_of kind bytes) bytes
+unfolding plain_bytes_of
+plain_feeds kind bytes = turns_feeds kind (suc (length bytes)) bytes
 
-chosen_feeds : (b : Bool) (bytes : List ℕ) → SameFeeds (if b then plain_utf8 bytes else bytes) bytes
-chosen_feeds true bytes = plain_feeds bytes
-chosen_feeds false bytes = feeds_refl bytes
+chosen_feeds : (kind : CivilText) (b : Bool) (bytes : List ℕ) → SameFeeds (if b then plain_bytes_of kind bytes else bytes) bytes
+chosen_feeds kind true bytes = plain_feeds kind bytes
+chosen_feeds kind false bytes = feeds_refl bytes
 
-pub same_places : (bytes : List ℕ) → HasSamePlaces bytes (plain_of bytes)
-unfolding plain_of
-same_places bytes =
-    let same = chosen_feeds (is_utf8 bytes) bytes in
-    record { size = feeds_size (if is_utf8 bytes then plain_utf8 bytes else bytes) bytes same; place = feeds_place (if is_utf8 bytes then plain_utf8 bytes else bytes) bytes same start }
+pub same_places : (kind : CivilText) (bytes : List ℕ) → HasSamePlaces bytes (plain_as kind bytes)
+unfolding plain_as
+same_places kind bytes =
+    let same = chosen_feeds kind (is_utf8 bytes) bytes in
+    record { size = feeds_size (if is_utf8 bytes then plain_bytes_of kind bytes else bytes) bytes same; place = feeds_place (if is_utf8 bytes then plain_bytes_of kind bytes else bytes) bytes same start }

@@ -7,12 +7,12 @@ use Rattle.lrp_model.specs.declared.tokens.Place.{Place}
 use Rattle.lrp_model.specs.Tokens.{Token}
 use Rattle.lrp_model.specs.Tokens.Token.{number_token}
 use Rattle.std.specs.Str.Parse.{digits_value}
-use Rattle.lrp_model.specs.Lexing.{QuotedText, Scanned, behind_run, is_blank, is_letter, is_name_byte, moved, run, scan, skip, start, symbol_from, text_from, text_scanned, word_or_name}
+use Rattle.lrp_model.specs.Lexing.{QuotedText, Scanned, behind_run, is_blank, is_letter, is_name_byte, moved, run, skip, start, symbol_in, text_from, text_scanned, word_or_name, scan_in}
 use Rattle.std.specs.Char.{is_ascii_digit}
 use Rattle.lrp_text.proofs.Scans.{chosen}
 use Rattle.lrp_civil.specs.Tokens.{IsBehindSymbol, IsBehindToken, behind_text, is_last}
 
--- what blanks and comments take does not hang on the place
+-- what blanks and comments take does not depend on the place
 pub skip_place : (comment : Bool) (p q : Place) (bytes : List ℕ) → (skip comment p bytes).bytes ≡ (skip comment q bytes).bytes
 unfolding skip
 skip_place true p q [] = refl
@@ -53,53 +53,53 @@ word_goes n =
     chosen P (bytes_eq n (codes "in")) _ _ (λ e. refl) (λ n12. refl))))))))))))
 
 -- what is scanned, by the first byte
-scan_name : (b : ℕ) (bytes : List ℕ) → is_letter b ≡ true → scan (b ∷ bytes) ≡ record { token = word_or_name (run is_name_byte (b ∷ bytes)); taken = run is_name_byte (b ∷ bytes); left = behind_run is_name_byte (b ∷ bytes) }
-unfolding scan
-scan_name b bytes e = rw e refl
+scan_name : (wide : Bool) (b : ℕ) (bytes : List ℕ) → is_letter b ≡ true → scan_in wide (b ∷ bytes) ≡ record { token = word_or_name (run is_name_byte (b ∷ bytes)); taken = run is_name_byte (b ∷ bytes); left = behind_run is_name_byte (b ∷ bytes) }
+unfolding scan_in
+scan_name wide b bytes e = rw e refl
 
-scan_number : (b : ℕ) (bytes : List ℕ) → is_letter b ≡ false → is_ascii_digit b ≡ true → scan (b ∷ bytes) ≡ record { token = number_token (digits_value 10 (run is_ascii_digit (b ∷ bytes))); taken = run is_ascii_digit (b ∷ bytes); left = behind_run is_ascii_digit (b ∷ bytes) }
-unfolding scan
-scan_number b bytes e f = rw (e, f) refl
+scan_number : (wide : Bool) (b : ℕ) (bytes : List ℕ) → is_letter b ≡ false → is_ascii_digit b ≡ true → scan_in wide (b ∷ bytes) ≡ record { token = number_token (digits_value 10 (run is_ascii_digit (b ∷ bytes))); taken = run is_ascii_digit (b ∷ bytes); left = behind_run is_ascii_digit (b ∷ bytes) }
+unfolding scan_in
+scan_number wide b bytes e f = rw (e, f) refl
 
-scan_text : (bytes : List ℕ) → scan (34 ∷ bytes) ≡ text_scanned (text_from false bytes)
-unfolding scan
-scan_text bytes = refl
+scan_text : (wide : Bool) (bytes : List ℕ) → scan_in wide (34 ∷ bytes) ≡ text_scanned (text_from false bytes)
+unfolding scan_in
+scan_text wide bytes = refl
 
-scan_symbol : (b : ℕ) (bytes : List ℕ) → is_letter b ≡ false → is_ascii_digit b ≡ false → (b == 34) ≡ false → scan (b ∷ bytes) ≡ symbol_from b bytes
-unfolding scan
-scan_symbol b bytes e f g = rw (e, f, g) refl
+scan_symbol : (wide : Bool) (b : ℕ) (bytes : List ℕ) → is_letter b ≡ false → is_ascii_digit b ≡ false → (b == 34) ≡ false → scan_in wide (b ∷ bytes) ≡ symbol_in wide b bytes
+unfolding scan_in
+scan_symbol wide b bytes e f g = rw (e, f, g) refl
 
-pub name_behind : (bytes behind : List ℕ) → 1 ≤ length bytes → is_letter (get_or bytes 0 0) ≡ true → behind ≡ behind_run is_name_byte bytes → IsBehindToken bytes behind
-name_behind [] behind h e f = absurd (omega arith)
-name_behind (b ∷ bytes) behind h e f =
-    let s = scan_name b bytes e in
+pub name_behind : (wide : Bool) (bytes behind : List ℕ) → 1 ≤ length bytes → is_letter (get_or bytes 0 0) ≡ true → behind ≡ behind_run is_name_byte bytes → IsBehindToken wide bytes behind
+name_behind wide [] behind h e f = absurd (omega arith)
+name_behind wide (b ∷ bytes) behind h e f =
+    let s = scan_name wide b bytes e in
     record { goes_on = ap (λ x. is_last x.token) s ∙ word_goes (run is_name_byte (b ∷ bytes)); left = ap (λ x. x.left) s ∙ sym f }
 
-pub number_behind : (bytes behind : List ℕ) → 1 ≤ length bytes → is_letter (get_or bytes 0 0) ≡ false → is_ascii_digit (get_or bytes 0 0) ≡ true → behind ≡ behind_run is_ascii_digit bytes → IsBehindToken bytes behind
-number_behind [] behind h e f g = absurd (omega arith)
-number_behind (b ∷ bytes) behind h e f g =
-    let s = scan_number b bytes e f in
+pub number_behind : (wide : Bool) (bytes behind : List ℕ) → 1 ≤ length bytes → is_letter (get_or bytes 0 0) ≡ false → is_ascii_digit (get_or bytes 0 0) ≡ true → behind ≡ behind_run is_ascii_digit bytes → IsBehindToken wide bytes behind
+number_behind wide [] behind h e f g = absurd (omega arith)
+number_behind wide (b ∷ bytes) behind h e f g =
+    let s = scan_number wide b bytes e f in
     record { goes_on = ap (λ x. is_last x.token) s; left = ap (λ x. x.left) s ∙ sym g }
 
 -- what is known of a result that may be the bytes behind a token
-abbrev Finds : List ℕ → Option (Bor (List ℕ)) → Type 0
-Finds bytes r = MatchOption r (is_last (scan bytes).token ≡ true) (λ behind. IsBehindToken bytes behind.now)
+abbrev Finds : Bool → List ℕ → Option (Bor (List ℕ)) → Type 0
+Finds wide bytes r = MatchOption r (is_last (scan_in wide bytes).token ≡ true) (λ behind. IsBehindToken wide bytes behind.now)
 
-text_at : (bytes : List ℕ) (t : Result QuotedText Scanned) (r : Option (Bor (List ℕ))) → scan bytes ≡ text_scanned t → option_map (λ (behind : Bor (List ℕ)). behind.now) r ≡ behind_text t → Finds bytes r
-text_at bytes (Ok t) None e f = absurd (cc f)
-text_at bytes (Ok t) (Some b) e f = record { goes_on = ap (λ x. is_last x.token) e; left = ap (λ x. x.left) e ∙ cc f }
-text_at bytes (Err s) None e f = ap (λ x. is_last x.token) e
-text_at bytes (Err s) (Some b) e f = absurd (cc f)
+text_at : (wide : Bool) (bytes : List ℕ) (t : Result QuotedText Scanned) (r : Option (Bor (List ℕ))) → scan_in wide bytes ≡ text_scanned t → option_map (λ (behind : Bor (List ℕ)). behind.now) r ≡ behind_text t → Finds wide bytes r
+text_at wide bytes (Ok t) None e f = absurd (cc f)
+text_at wide bytes (Ok t) (Some b) e f = record { goes_on = ap (λ x. is_last x.token) e; left = ap (λ x. x.left) e ∙ cc f }
+text_at wide bytes (Err s) None e f = ap (λ x. is_last x.token) e
+text_at wide bytes (Err s) (Some b) e f = absurd (cc f)
 
-pub text_behind : (bytes rest : List ℕ) (r : Option (Bor (List ℕ))) → bytes ≡ 34 ∷ rest → option_map (λ (behind : Bor (List ℕ)). behind.now) r ≡ behind_text (text_from false rest) → Finds bytes r
-text_behind bytes rest r e f = text_at bytes (text_from false rest) r (ap scan e ∙ scan_text rest) f
+pub text_behind : (wide : Bool) (bytes rest : List ℕ) (r : Option (Bor (List ℕ))) → bytes ≡ 34 ∷ rest → option_map (λ (behind : Bor (List ℕ)). behind.now) r ≡ behind_text (text_from false rest) → Finds wide bytes r
+text_behind wide bytes rest r e f = text_at wide bytes (text_from false rest) r (ap (scan_in wide) e ∙ scan_text wide rest) f
 
-symbol_at : (bytes rest : List ℕ) (b : ℕ) (r : Option (Bor (List ℕ))) → scan bytes ≡ symbol_from b rest → MatchOption r (is_last (symbol_from b rest).token ≡ true) (λ behind. IsBehindSymbol b rest behind.now) → Finds bytes r
-symbol_at bytes rest b None e f = ap (λ x. is_last x.token) e ∙ f
-symbol_at bytes rest b (Some x) e f = record { goes_on = ap (λ y. is_last y.token) e ∙ f.goes_on; left = ap (λ y. y.left) e ∙ f.left }
+symbol_at : (wide : Bool) (bytes rest : List ℕ) (b : ℕ) (r : Option (Bor (List ℕ))) → scan_in wide bytes ≡ symbol_in wide b rest → MatchOption r (is_last (symbol_in wide b rest).token ≡ true) (λ behind. IsBehindSymbol wide b rest behind.now) → Finds wide bytes r
+symbol_at wide bytes rest b None e f = ap (λ x. is_last x.token) e ∙ f
+symbol_at wide bytes rest b (Some x) e f = record { goes_on = ap (λ y. is_last y.token) e ∙ f.goes_on; left = ap (λ y. y.left) e ∙ f.left }
 
-pub symbol_behind : (bytes rest : List ℕ) (b : ℕ) (r : Option (Bor (List ℕ))) → bytes ≡ b ∷ rest → is_letter b ≡ false → is_ascii_digit b ≡ false → (b == 34) ≡ false → MatchOption r (is_last (symbol_from b rest).token ≡ true) (λ behind. IsBehindSymbol b rest behind.now) → Finds bytes r
-symbol_behind bytes rest b r e f g h k = symbol_at bytes rest b r (ap scan e ∙ scan_symbol b rest f g h) k
+pub symbol_behind : (wide : Bool) (bytes rest : List ℕ) (b : ℕ) (r : Option (Bor (List ℕ))) → bytes ≡ b ∷ rest → is_letter b ≡ false → is_ascii_digit b ≡ false → (b == 34) ≡ false → MatchOption r (is_last (symbol_in wide b rest).token ≡ true) (λ behind. IsBehindSymbol wide b rest behind.now) → Finds wide bytes r
+symbol_behind wide bytes rest b r e f g h k = symbol_at wide bytes rest b r (ap (scan_in wide) e ∙ scan_symbol wide b rest f g h) k
 
 -- ---- one byte of blanks and comments
 

@@ -1,7 +1,8 @@
 -- What stands at the front of some bytes.
-use Rattle.std.specs.Prelude.{◌≡◌, ℕ, Bool, true, false, List, [], ◌∷◌, ◌++◌, Option, MatchOption}
+use Rattle.std.specs.Prelude.{◌≡◌, ◌≤◌, ◌<◌, ◌^◌, ℕ, Bool, true, false, List, [], ◌∷◌, ◌++◌, Option, MatchOption}
 use Rattle.std.specs.Borrow.{Bor}
 use Rattle.std.specs.Char.{is_ascii_digit}
+use Rattle.std.specs.Fmt.{decimal}
 
 -- the bytes are the text of a value with the test, and others behind it
 pub record BeginsAs {A : Type 0} (test : A → Bool) (text : A → List ℕ) (bytes : List ℕ) (value : A) (behind : List ℕ) : Type 0 where
@@ -38,3 +39,14 @@ HasNoLast {A} test text bytes = (value : A) → IsReadLast test text bytes value
 -- what is found at their front with no number going on behind it
 abbrev pub FindsLast : {A : Type 0} → (A → Bool) → (A → List ℕ) → List ℕ → Option A → Type 0
 FindsLast test text bytes found = MatchOption found (HasNoLast test text bytes) (IsReadLast test text bytes)
+
+-- the bytes are a number from 1 on and below 2^64 as it is printed, and others behind it with which it doesn't go on
+pub record IsNumberAt (bytes : List ℕ) (n : ℕ) (behind : List ℕ) : Type 0 where
+  pub positive : 1 ≤ n
+  pub small : n < 2 ^ 64
+  pub whole : bytes ≡ decimal n ++ behind
+  pub ends : goes_on behind ≡ false
+
+-- the number that is found at their front, and the bytes behind it, or none
+abbrev pub FindsNumber : List ℕ → Option (ℕ × Bor (List ℕ)) → Type 0
+FindsNumber bytes found = MatchOption found ((n : ℕ) (behind : List ℕ) → IsNumberAt bytes n behind → ⊥) (λ part. IsNumberAt bytes part.0 part.1.now)

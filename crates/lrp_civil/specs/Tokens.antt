@@ -3,7 +3,7 @@ use Rattle.std.specs.Prelude.{◌≡◌, ℕ, Bool, true, false, ◌==◌, List,
 use Rattle.std.specs.Borrow.{Bor}
 use Rattle.lrp_model.specs.Tokens.{Token}
 use Rattle.lrp_model.specs.Tokens.Token.{end_token, bad_token}
-use Rattle.lrp_model.specs.Lexing.{QuotedText, Scanned, scan, skip, start, symbol_from, text_from}
+use Rattle.lrp_model.specs.Lexing.{QuotedText, Scanned, scan_in, skip, start, symbol_in, text_from}
 
 -- the bytes behind the blanks and comments that come first
 abbrev pub behind_blanks : List ℕ → List ℕ
@@ -15,23 +15,23 @@ is_last end_token = true
 is_last bad_token = true
 is_last _ = false
 
--- a token that others follow stands at the front of the bytes, and these behind it
-pub record IsBehindToken (bytes behind : List ℕ) : Type 0 where
-  pub goes_on : is_last (scan bytes).token ≡ false
-  pub left : (scan bytes).left ≡ behind
+-- a token that others follow stands at the front of the bytes, and these behind it; the flag says that the symbols of the wide language are among the tokens
+pub record IsBehindToken (wide : Bool) (bytes behind : List ℕ) : Type 0 where
+  pub goes_on : is_last (scan_in wide bytes).token ≡ false
+  pub left : (scan_in wide bytes).left ≡ behind
 
 -- the same of a symbol
-pub record IsBehindSymbol (first : ℕ) (rest behind : List ℕ) : Type 0 where
-  pub goes_on : is_last (symbol_from first rest).token ≡ false
-  pub left : (symbol_from first rest).left ≡ behind
+pub record IsBehindSymbol (wide : Bool) (first : ℕ) (rest behind : List ℕ) : Type 0 where
+  pub goes_on : is_last (symbol_in wide first rest).token ≡ false
+  pub left : (symbol_in wide first rest).left ≡ behind
 
 -- what stands behind the token at the front of the bytes, or none where no token follows it
-abbrev pub FindsToken : List ℕ → Option (Bor (List ℕ)) → Type 0
-FindsToken bytes found = MatchOption found (is_last (scan bytes).token ≡ true) (λ behind. IsBehindToken bytes behind.now)
+abbrev pub FindsToken : Bool → List ℕ → Option (Bor (List ℕ)) → Type 0
+FindsToken wide bytes found = MatchOption found (is_last (scan_in wide bytes).token ≡ true) (λ behind. IsBehindToken wide bytes behind.now)
 
 -- the same of a symbol
-abbrev pub FindsSymbol : ℕ → List ℕ → Option (Bor (List ℕ)) → Type 0
-FindsSymbol first rest found = MatchOption found (is_last (symbol_from first rest).token ≡ true) (λ behind. IsBehindSymbol first rest behind.now)
+abbrev pub FindsSymbol : Bool → ℕ → List ℕ → Option (Bor (List ℕ)) → Type 0
+FindsSymbol wide first rest found = MatchOption found (is_last (symbol_in wide first rest).token ≡ true) (λ behind. IsBehindSymbol wide first rest behind.now)
 
 -- the bytes behind a text and its closing quote, if it has one
 abbrev pub behind_text : Result QuotedText Scanned → Option (List ℕ)

@@ -13,5 +13,6 @@ mod values;
 
 pub use lines::write_civil_line;
 pub use minutes::minute_of;
-pub use plain::plain_text;
+pub use plain::plain_text_of;
 pub use times::{write_civil_time, write_dated_line};
+pub use values::CivilText;

@@ -1,53 +1,55 @@
 // Database texts without civil values.
-ghost use Rattle.std.specs.Prelude.{◌≡◌, ◌↔◌, ◌<◌, ◌++◌, ℕ, ℤ, pos, IsTrue, IfOk, IfSome, OnOk, List as ListOf, Some, length};
+ghost use Rattle.std.specs.Prelude.{◌≡◌, ◌↔◌, ◌<◌, ◌≤◌, ◌++◌, ℕ, ℤ, pos, IsTrue, IfOk, IfSome, OnOk, List as ListOf, Some, length};
+ghost use Rattle.std.specs.Int.{int_rem_euclid};
+ghost use Rattle.lrp_model.specs.Limits.{greatest_number};
 ghost use Rattle.lrp_model.specs.Printed.{point_bytes};
 ghost use Rattle.lrp_civil.specs.CivilValues.{FallsAt, MeansMinute, is_civil, padded_bytes, plain_bytes};
-ghost use Rattle.lrp_civil.specs.PlainText.{FindsFirst, HasSamePlaces, IsSpelledAt, plain_utf8, plain_of, value_at};
+ghost use Rattle.lrp_civil.specs.PlainText.{FindsFirst, HasSamePlaces, IsSpelledIn, plain_bytes_of, plain_as, value_in};
 ghost use Rattle.lrp_civil.specs.declared.values.CivilValue.{CivilValue as CivilValueOf};
 
 use crate::moments::minute_at;
 use crate::tokens::{behind_blanks, behind_token};
-use crate::values::CivilValue;
+use crate::values::{CivilText, CivilValue};
 use itoa::Buffer;
 use lrp_model::{List, Memory};
 use std::alloc::Global;
 use std::str::from_utf8;
 
-/// A database text with the plain value of each civil value in its place, and blanks behind it, so that each place stays.
+/// A text of some kind with the plain value of each civil value in its place, and blanks behind it, so that each place stays.
 ///
 /// A civil value begins where a name does and ends where a token does, so one in a comment, in a quoted text or behind a
 /// byte that begins no token stays. Bytes that are no UTF-8 are given back as they are.
-pub fn plain_text(alloc: Global, bytes: &[u8]) -> Result<List<u8>, Memory>
-    ensures text { IfOk result (λ text. text ≡ plain_of bytes.now) }
-    ensures places { HasSamePlaces bytes.now (plain_of bytes.now) }
+pub fn plain_text_of(alloc: Global, bytes: &[u8], kind: CivilText) -> Result<List<u8>, Memory>
+    ensures text { IfOk result (λ text. text ≡ plain_as kind bytes.now) }
+    ensures places { HasSamePlaces bytes.now (plain_as kind bytes.now) }
 
     // Which civil value stands at the front of some bytes, and which minutes it stands for.
-    ensures spelled { (here : ListOf ℕ) (value : CivilValueOf) → (value_at here ≡ Some value)
-        ↔ IsSpelledAt here value }
+    ensures spelled { (here : ListOf ℕ) (value : CivilValueOf) → (value_in kind here ≡ Some value)
+        ↔ IsSpelledIn kind here value }
     ensures meaning { (value : CivilValueOf) (x : ℤ) → IsTrue (is_civil value) → MeansMinute value x
         ↔ FallsAt value x }
 {
-    plain_list(alloc, bytes)
+    plain_list(alloc, bytes, kind)
 }
 
-// The same text; what else is promised hangs on no memory.
-fn plain_list(alloc: Global, bytes: &[u8]) -> Result<List<u8>, Memory>
-    ensures { IfOk result (λ text. text ≡ plain_of bytes.now) }
+// The same text; what else is promised depends on no memory.
+fn plain_list(alloc: Global, bytes: &[u8], kind: CivilText) -> Result<List<u8>, Memory>
+    ensures { IfOk result (λ text. text ≡ plain_as kind bytes.now) }
 {
     let text = match from_utf8(bytes) {
-        Ok(_) => rewritten(alloc, bytes)?,
+        Ok(_) => rewritten(alloc, bytes, kind)?,
         Err(_) => bytes.to_vec(alloc)?,
     };
     Ok(List::from_vec(text))
 }
 
 // The plain text of bytes, from their first token on.
-fn rewritten(alloc: Global, bytes: &[u8]) -> Result<Vec<u8>, Memory>
-    ensures { IfOk result (λ text. text.items ≡ plain_utf8 bytes.now) }
+fn rewritten(alloc: Global, bytes: &[u8], kind: CivilText) -> Result<Vec<u8>, Memory>
+    ensures { IfOk result (λ text. text.items ≡ plain_bytes_of kind bytes.now) }
 {
     let mut text = Vec::with_capacity(alloc, bytes.len())?;
     let mut rest = bytes;
-    while let Some(found) = first_value(rest) {
+    while let Some(found) = first_value(kind, rest) {
         push(&mut text, found.before)?;
         push_padded(&mut text, &found.value)?;
         rest = found.behind;
@@ -65,21 +67,21 @@ struct Found<'a> {
 }
 
 // The first civil value of bytes that begin behind a token.
-fn first_value(bytes: &[u8]) -> Option<Found<'_>>
-    ensures first { FindsFirst bytes.now result }
+fn first_value(kind: CivilText, bytes: &[u8]) -> Option<Found<'_>>
+    ensures first { FindsFirst kind bytes.now result }
     ensures shorter { IfSome result (λ found. length found.behind.now < length bytes.now) }
 {
     let mut rest = bytes;
     loop {
         let token = behind_blanks(rest);
-        if let Some(value) = CivilValue::at(token) {
+        if let Some(value) = CivilValue::at(kind, token) {
             return Some(Found {
                 before: &bytes[..bytes.len() - token.len()],
                 value,
                 behind: &token[value.len()..],
             });
         }
-        rest = behind_token(token)?;
+        rest = behind_token(kind.has_signs(), token)?;
     }
 }
 
@@ -100,20 +102,34 @@ fn push_plain(text: &mut Vec<u8>, value: &CivilValue) -> Result<(), Memory>
     ensures { OnOk result (text.new.items ≡ text.old.items ++ plain_bytes value.now) }
 {
     match value {
-        CivilValue::Daily { time } => push_point(text, u32::from(*time), 1440),
+        CivilValue::Daily { time } => push_point(text, u64::from(*time), 1440),
         CivilValue::Weekly { day, time } => {
-            let first = (u32::from(*day) + 4) % 7;
-            push_point(text, 1440 * first + u32::from(*time), 10080)
+            let first = (u64::from(*day) + 4) % 7;
+            push_point(text, 1440 * first + u64::from(*time), 10080)
         }
         CivilValue::On { date, time } => {
             let minute = minute_at(*date, *time);
             push(text, Buffer::new().format(minute).as_bytes())
         }
+        CivilValue::Every { pace, date, time } => {
+            let period = pace.minutes();
+            push_point(text, residue(minute_at(*date, *time), period), period)
+        }
     }
 }
 
+// A minute modulo a period.
+fn residue(minute: i64, period: u64) -> u64
+    requires low { 1 ≤ period }
+    requires high { period ≤ greatest_number }
+    ensures value { pos result ≡ int_rem_euclid minute (pos period) }
+    ensures small { result < period }
+{
+    minute.rem_euclid(period as i64) as u64
+}
+
 // `c+kn`
-fn push_point(text: &mut Vec<u8>, offset: u32, period: u32) -> Result<(), Memory>
+fn push_point(text: &mut Vec<u8>, offset: u64, period: u64) -> Result<(), Memory>
     requires { offset < period }
     ensures { OnOk result (text.new.items ≡ text.old.items
         ++ point_bytes (record { offset = pos offset; period = pos period })) }

@@ -65,9 +65,9 @@ fn behind_name(bytes: &[u8]) -> &[u8]
     rest
 }
 
-// What stands behind the digits that come first.
+/// What stands behind the digits that come first.
 #[tactic(auto, unfolding(lrp_model::specs::Lexing::behind_run))]
-fn behind_digits(bytes: &[u8]) -> &[u8]
+pub fn behind_digits(bytes: &[u8]) -> &[u8]
     ensures { result.now ≡ behind_run is_ascii_digit bytes.now }
 {
     let mut rest = bytes;
@@ -113,13 +113,18 @@ fn behind_text(bytes: &[u8]) -> Option<&[u8]>
 }
 
 // What stands behind the symbol that a byte and those behind it begin with.
-#[tactic(auto, unfolding(lrp_model::specs::Lexing::symbol_from))]
-fn behind_symbol(first: u8, rest: &[u8]) -> Option<&[u8]>
-    ensures { FindsSymbol first rest.now result }
+#[tactic(auto, unfolding(lrp_model::specs::Lexing::symbol_in))]
+fn behind_symbol(wide: bool, first: u8, rest: &[u8]) -> Option<&[u8]>
+    ensures { FindsSymbol wide first rest.now result }
 {
     match first {
         b'<' | b'>' => Some(behind_equals(rest)),
         b'(' | b')' | b'{' | b'}' | b',' | b':' | b';' | b'|' | b'+' | b'-' | b'=' => Some(rest),
+        b'*' if wide => Some(rest),
+        b'!' if wide => match rest {
+            [b'=', tail @ ..] => Some(tail),
+            _ => None,
+        },
         _ => None,
     }
 }
@@ -134,16 +139,17 @@ fn behind_equals(bytes: &[u8]) -> &[u8]
     }
 }
 
-/// What stands behind the token that the bytes begin with; none at the end and at a byte that begins no token.
-#[tactic(auto, unfolding(lrp_model::specs::Lexing::scan))]
-pub fn behind_token(bytes: &[u8]) -> Option<&[u8]>
-    ensures { FindsToken bytes.now result }
+/// What stands behind the token that the bytes begin with; none at the end and at a byte that begins no token. The flag says
+/// that the symbols of the wide language are among the tokens.
+#[tactic(auto, unfolding(lrp_model::specs::Lexing::scan_in))]
+pub fn behind_token(wide: bool, bytes: &[u8]) -> Option<&[u8]>
+    ensures { FindsToken wide bytes.now result }
 {
     match bytes {
         [] => None,
         [b, ..] if is_letter(*b) => Some(behind_name(bytes)),
         [b, ..] if b.is_ascii_digit() => Some(behind_digits(bytes)),
         [b'"', tail @ ..] => behind_text(tail),
-        [b, tail @ ..] => behind_symbol(*b, tail),
+        [b, tail @ ..] => behind_symbol(wide, *b, tail),
     }
 }

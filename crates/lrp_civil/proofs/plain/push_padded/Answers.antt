@@ -1,6 +1,13 @@
-use Rattle.std.proofs.Common.{rules, ◌≡◌, length, vec_len, arith}
+use Rattle.std.proofs.Common.{rules, ◌≡◌, ◌≤◌, length, vec_len, arith}
+use Rattle.lrp_civil.specs.CivilValues.{spelled}
+use Rattle.lrp_civil.proofs.PlainSizes.{spelled_short}
 use Rattle.lrp_civil.proofs.PushLemmas.{padded_is}
 use Rattle.lrp_civil.proofs.plain.push_padded.Goals as goal
+
+pub overflow_add-end : goal.overflow_add-end
+overflow_add-end c =
+    let short : length (spelled c.args.value.now) ≤ 64 = spelled_short c.args.value.now c.requires in
+    omega (arith, short, c.len.ensures, c.len-2.ensures)
 
 pub returns : goal.returns
 returns c =
