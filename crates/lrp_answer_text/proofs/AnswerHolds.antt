@@ -1,6 +1,6 @@
 -- The rows of an answer hold its tuples, and stand in the order of their cells.
 use Rattle.std.proofs.Common.{◌≡◌, ◌∙◌, List, [], ◌∷◌, Option, Some, None, Less, Equal, refl, sym, ap, ap₂, subst, arith, map, take, get_or}
-use Rattle.std.specs.Prelude.{ℤ, pos, cond, codes, ◌↔◌, Contains, AllPairs}
+use Rattle.std.specs.Prelude.{ℤ, pos, cond, ◌↔◌, Contains, AllPairs}
 use Rattle.std.specs.Cmp.Lexicographic.{bytes_decides, slice_cmp}
 use Rattle.std.specs.FinMap as finite
 use Rattle.std.specs.Ordering.{nat_cmp, int_cmp, ordering_then}
@@ -9,7 +9,7 @@ use Rattle.std.proofs.lemmas.Cmp.{tied_itself}
 use Rattle.std.proofs.lemmas.List.Elements.{Contains-get_or}
 use Rattle.lrp_model.specs.AnswerTexts.{InOrder, IsAnswerRow, value_residues, value_texts, row_cell_cmp as row_cmp}
 use Rattle.lrp_model.specs.Rows.{Datum, time, text, times_of, texts_of, IsInRow, Holds, rows_in, rows_of as named_rows}
-use Rattle.lrp_model.specs.Texts.{Ascends, text_cmp}
+use Rattle.lrp_model.specs.Texts.{Identifier, Ascends, text_cmp}
 use Rattle.lrp_model.specs.declared.relations.Relation.{Relation}
 use Rattle.lrp_model.specs.declared.relations.Row.{Row}
 use Rattle.lrp_model.specs.declared.tuples.Cell.{Cell}
@@ -21,7 +21,7 @@ use Rattle.lrp_store.specs.Tables.{AreTexts, InAnswer}
 use Rattle.lrp_answers.specs.declared.answer.Answer.{Answer}
 use Rattle.lrp_store.proofs.Aligning.{key_of}
 use Rattle.lrp_store.proofs.Held.{cell_held}
-use Rattle.lrp_answer_text.specs.AnswerText.{answer_relation, cell_rows, answer_row, answer_rows, answer_value}
+use Rattle.lrp_answer_text.specs.AnswerText.{named_relation, cell_rows, answer_row, answer_rows, answer_value}
 use Rattle.lrp_answer_text.proofs.AnswerRows.{cell_texts, first, from_row, head, row, row_is, to_row}
 use Rattle.lrp_answers.proofs.HeadOrder.{texts_are}
 use Rattle.lrp_answer_text.proofs.Lists.{all_in, cells_ascend, from_flat, from_map, in_flat, in_map, pairs_flat}
@@ -81,11 +81,11 @@ module _ (a : Answer) (store : IsStore a.store) (ascends : Ascends a.domain) whe
       }
 
   -- the relation holds the tuples of the answer
-  pub answer_holds : (tuple : List Datum) → InAnswer a.head.columns a.domain a.store tuple ↔ Holds (answer_relation a ∷ []) (codes "answer") tuple
-  answer_holds tuple = (
-    λ h. let r = row_listed tuple h in (r.0, subst (λ rows. Contains rows r.0) (sym (own_rows (answer_relation a))) r.1, r.2),
+  pub answer_holds : (called : Identifier) (tuple : List Datum) → InAnswer a.head.columns a.domain a.store tuple ↔ Holds (named_relation called a ∷ []) called tuple
+  answer_holds called tuple = (
+    λ h. let r = row_listed tuple h in (r.0, subst (λ rows. Contains rows r.0) (sym (own_rows (named_relation called a))) r.1, r.2),
     λ h.
-        let f = from_flat (cell_rows a.head.columns a.domain a.store) (finite.keys a.store.tables) h.0 (subst (λ rows. Contains rows h.0) (own_rows (answer_relation a)) h.1) in
+        let f = from_flat (cell_rows a.head.columns a.domain a.store) (finite.keys a.store.tables) h.0 (subst (λ rows. Contains rows h.0) (own_rows (named_relation called a)) h.1) in
         in_answer tuple f.0 h.0 (row_at f.0 h.0 f.2) h.2,
   )
 

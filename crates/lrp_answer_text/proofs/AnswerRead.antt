@@ -1,6 +1,6 @@
 -- The relation of an answer reads back as it is written.
 use Rattle.std.proofs.Common.{◌≡◌, ◌≢◌, ◌<◌, ◌≤◌, ◌+◌, ◌^◌, ◌∙◌, ℕ, List, [], ◌∷◌, true, false, Option, Some, refl, sym, ap, ap₂, subst, arith, map, take, append-nil}
-use Rattle.std.specs.Prelude.{ℤ, pos, ◌-ℤ◌, ◌≤ℤ◌, ◌<ℤ◌, codes, Contains}
+use Rattle.std.specs.Prelude.{ℤ, pos, ◌-ℤ◌, ◌≤ℤ◌, ◌<ℤ◌, Contains}
 use Rattle.std.specs.Int.{int_rem_euclid}
 use Rattle.std.specs.List.{AllByRecursion}
 use Rattle.std.proofs.lemmas.Int.{ints}
@@ -10,13 +10,14 @@ use Rattle.lrp_theory.specs.Entries.{AtMost}
 use Rattle.lrp_theory.proofs.Modulo.{rem_between, rem_divides, small_multiple}
 use Rattle.lrp_model.specs.AnswerTexts.{HasPeriod as HasPeriodOf, IsAnswerRow}
 use Rattle.lrp_model.specs.DatabaseReading.{IsDatabase}
-use Rattle.lrp_model.specs.Lexing.{start, tokens_from, skip, scan}
+use Rattle.lrp_model.specs.Lexing.{start, tokens_from, skip, scan, scan_in, tokens_in_from}
 use Rattle.lrp_model.specs.Limits.{greatest_number}
 use Rattle.lrp_model.specs.Printed.{relation_bytes, database_bytes}
 use Rattle.lrp_model.specs.Rows.{Datum, time, text, texts_of}
 use Rattle.lrp_model.specs.Satisfaction.{HasShape, IsOfKind}
 use Rattle.lrp_model.specs.Sorts.{is_time, time_count}
-use Rattle.lrp_model.specs.Texts.{Text, Ascends}
+use Rattle.lrp_model.specs.Names.{IsName}
+use Rattle.lrp_model.specs.Texts.{Text, Identifier, Ascends}
 use Rattle.lrp_model.specs.DataTexts.{IsDataText}
 use Rattle.lrp_model.specs.Tokens.{Spells}
 use Rattle.lrp_model.specs.Tokens.Part.{any}
@@ -44,7 +45,8 @@ use Rattle.lrp_store.specs.Stores.{IsStore, tables_at}
 use Rattle.lrp_store.specs.Tables.{AreTexts}
 use Rattle.lrp_answers.specs.declared.answer.Answer.{Answer}
 use Rattle.lrp_store.proofs.Held.{Contains-from_get}
-use Rattle.lrp_answer_text.specs.AnswerText.{answer_relation, cell_rows, closed_bounds, answer_row, answer_rows, answer_value}
+use Rattle.lrp_answer_text.specs.AnswerText.{named_relation, cell_rows, closed_bounds, answer_row, answer_rows, answer_value}
+use Rattle.lrp_answer_text.specs.Answering.{AreAnswerColumns}
 use Rattle.lrp_answer_text.proofs.AnswerHolds.{row_at, rows_are}
 use Rattle.lrp_answer_text.proofs.AnswerRows.{columns_are, first, head, zone, zone_is}
 use Rattle.lrp_answer_text.proofs.Closed.{closed_at, closed_small, from_bounds}
@@ -56,7 +58,7 @@ use Rattle.lrp_print.proofs.Reading.{database_spelled}
 
 -- where no bytes are left stands the end
 the_end : (p : Place) → Spells (any end_token ∷ []) (tokens_at p [])
-unfolding tokens_from skip scan
+unfolding tokens_in_from skip scan_in
 the_end p = (refl, refl)
 
 -- the tree of relations
@@ -157,9 +159,9 @@ module _ (a : Answer) (store : IsStore a.store) (ascends : Ascends a.domain) (ro
       other i j ne = grind arith
 
   -- the relation can be read
-  pub answer_kept : IsKept (record { name = codes "answer"; columns = a.head.columns; rows = [] }) → IsKept (answer_relation a)
-  answer_kept k = record {
-    name = k.name;
+  pub answer_kept : (called : Identifier) → IsName called → AreAnswerColumns a.head.columns → IsKept (named_relation called a)
+  answer_kept called n k = record {
+    name = n;
     columns = k.columns;
     differ = k.differ;
     times = k.times;
@@ -171,7 +173,7 @@ module _ (a : Answer) (store : IsStore a.store) (ascends : Ascends a.domain) (ro
   }
 
   -- and reads back as it is
-  pub answer_reads : IsKept (record { name = codes "answer"; columns = a.head.columns; rows = [] }) → IsDatabase (relation_bytes (answer_relation a)) (answer_relation a ∷ [])
-  answer_reads k =
-      reads_itself a.store.period (answer_relation a) store.period_low (answer_kept k)
+  pub answer_reads : (called : Identifier) → IsName called → AreAnswerColumns a.head.columns → IsDatabase (relation_bytes (named_relation called a)) (named_relation called a ∷ [])
+  answer_reads called n k =
+      reads_itself a.store.period (named_relation called a) store.period_low (answer_kept called n k)
       (λ r m. (in_all (IsAnswerRow a.store.period a.store.shape.times) (answer_rows a.head.columns a.domain a.store) (rows_are a store ascends) r m).period)

@@ -10,8 +10,8 @@ use Rattle.std.specs.FinMap as finite
 use Rattle.lrp_io.specs.Bytes.{appended, AppendsFront}
 use Rattle.lrp_io.proofs.BytesLemmas.{appended_twice}
 use Rattle.lrp_io.proofs.PieceLemmas.{front_behind, front_before}
-use Rattle.lrp_model.specs.Texts.{Text, Ascends}
-use Rattle.lrp_model.specs.Printed.{column_bytes, joined_by, row_line}
+use Rattle.lrp_model.specs.Texts.{Text, Identifier, Ascends}
+use Rattle.lrp_model.specs.Printed.{column_bytes, joined_by, relation_bytes, row_line}
 use Rattle.lrp_model.specs.declared.relations.Column.{Column}
 use Rattle.lrp_model.specs.declared.relations.Row.{Row}
 use Rattle.lrp_model.specs.declared.tuples.Cell.{Cell}
@@ -21,7 +21,7 @@ use Rattle.lrp_store.specs.Reading.{entries_of}
 use Rattle.lrp_store.specs.Stores.{StoreView, IsStore, zone_of, zones_at, tables_at}
 use Rattle.lrp_answers.specs.declared.answer.Answer.{Answer}
 use Rattle.lrp_store.proofs.Held.{Contains-from_get}
-use Rattle.lrp_answer_text.specs.AnswerText.{answer_text, cell_rows, cell_values, closed_bounds, answer_row, answer_rows}
+use Rattle.lrp_answer_text.specs.AnswerText.{named_answer_text, named_relation, cell_rows, cell_values, closed_bounds, answer_row, answer_rows}
 use Rattle.lrp_answers.proofs.Cells.{read_map, table_of}
 
 -- ---- one zone
@@ -129,16 +129,23 @@ all_lines columns domain s =
 
 -- ---- the whole text
 
--- the text of an answer that has a cell
-abbrev pub some_text : Answer → List ℕ
-some_text a = codes "relation answer(" ++ (joined_by (codes ", ") column_bytes a.head.columns ++ (codes ") {\n" ++ (flat_map (row_line a.head.columns) (answer_rows a.head.columns a.domain a.store) ++ codes "}\n")))
+-- how the text of a relation of a name begins
+abbrev pub opening : Identifier → List ℕ
+opening called = codes "relation " ++ (called ++ codes "(")
 
-pub text_is : (a : Answer) (n : ℕ) → n ≡ finite.len a.store.tables → n ≢ 0 → some_text a ≡ answer_text a
-text_is a n e ne = by (finite.len a.store.tables == 0) refl
+opened : (called : Identifier) (rest : List ℕ) → opening called ++ rest ≡ codes "relation " ++ (called ++ (codes "(" ++ rest))
+opened called rest = ap (λ x. codes "relation " ++ x) (append_assoc called (codes "(") rest)
+
+-- the text of an answer that has a cell
+abbrev pub some_text : Identifier → Answer → List ℕ
+some_text called a = opening called ++ (joined_by (codes ", ") column_bytes a.head.columns ++ (codes ") {\n" ++ (flat_map (row_line a.head.columns) (answer_rows a.head.columns a.domain a.store) ++ codes "}\n")))
+
+pub text_is : (called : Identifier) (a : Answer) (n : ℕ) → n ≡ finite.len a.store.tables → n ≢ 0 → some_text called a ≡ named_answer_text called a
+text_is called a n e ne = by (finite.len a.store.tables == 0) refl
   where
     apart : (k : ℕ) → (k == 0) ≡ true → k ≡ 0
     apart k h = grind (arith, nat_tests)
 
-    by : (b : Bool) → (finite.len a.store.tables == 0) ≡ b → some_text a ≡ answer_text a
+    by : (b : Bool) → (finite.len a.store.tables == 0) ≡ b → some_text called a ≡ named_answer_text called a
     by true h = absurd (ne (e ∙ apart (finite.len a.store.tables) h))
-    by false h = ap (λ b. if b then codes "Empty\n" else some_text a) (sym h)
+    by false h = opened called _ ∙ ap (λ b. if b then codes "Empty\n" else relation_bytes (named_relation called a)) (sym h)

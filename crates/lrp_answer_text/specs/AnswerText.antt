@@ -5,7 +5,7 @@ use Rattle.std.specs.List.{flat_map, range_with_len}
 use Rattle.std.specs.FinMap as finite
 use Rattle.lrp_theory.specs.Bounds.{plus}
 use Rattle.lrp_theory.specs.Entries.{entry}
-use Rattle.lrp_model.specs.Texts.{Text}
+use Rattle.lrp_model.specs.Texts.{Text, Identifier}
 use Rattle.lrp_model.specs.Rows.{Datum, time, text}
 use Rattle.lrp_model.specs.Printed.{point_bytes, relation_bytes}
 use Rattle.lrp_model.specs.Tuples.{in_head_order, texts_at}
@@ -71,10 +71,17 @@ cell_rows columns domain s cell = map (answer_row columns domain s cell) (tables
 abbrev pub answer_rows : List Column → List Text → StoreView → List Row
 answer_rows columns domain s = flat_map (cell_rows columns domain s) (finite.keys s.tables)
 
--- the answer as a relation
-abbrev pub answer_relation : Answer → Relation
-answer_relation a = record { name = codes "answer"; columns = a.head.columns; rows = answer_rows a.head.columns a.domain a.store }
+-- the answer as a relation of a name
+abbrev pub named_relation : Identifier → Answer → Relation
+named_relation n a = record { name = n; columns = a.head.columns; rows = answer_rows a.head.columns a.domain a.store }
 
 -- the line `Empty` where no cell is held, and else that relation as it is written out
+abbrev pub named_answer_text : Identifier → Answer → List ℕ
+named_answer_text n a = if finite.len a.store.tables == 0 then codes "Empty\n" else relation_bytes (named_relation n a)
+
+-- the same of the name that it has where no other is asked for
+abbrev pub answer_relation : Answer → Relation
+answer_relation = named_relation (codes "answer")
+
 abbrev pub answer_text : Answer → List ℕ
-answer_text a = if finite.len a.store.tables == 0 then codes "Empty\n" else relation_bytes (answer_relation a)
+answer_text = named_answer_text (codes "answer")

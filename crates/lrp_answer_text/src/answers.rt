@@ -1,12 +1,12 @@
 // The text of a whole answer.
-ghost use Rattle.std.specs.Prelude.{◌≡◌, ◌≤ℤ◌, ℕ, pos, codes};
+ghost use Rattle.std.specs.Prelude.{◌≡◌, ◌≤ℤ◌, ◌++◌, ℕ, pos, codes};
 ghost use Rattle.std.specs.List.{flat_map};
 ghost use Rattle.lrp_io.specs.Causes.{HasCause};
 ghost use Rattle.lrp_io.specs.Pieces.{IsWritten};
 ghost use Rattle.lrp_model.specs.Printed.{joined_by, row_line, value_bytes};
 ghost use Rattle.lrp_store.specs.Least.{HasRoom, IsRoom};
 ghost use Rattle.lrp_store.specs.Stores.{zones_at};
-ghost use Rattle.lrp_answer_text.specs.AnswerText.{answer_text, cell_rows, cell_values, closed_bounds, residue_point, answer_rows};
+ghost use Rattle.lrp_answer_text.specs.AnswerText.{named_answer_text, cell_rows, cell_values, closed_bounds, residue_point, answer_rows};
 ghost use Rattle.lrp_answers.specs.Spots.{IsOfTexts};
 
 use crate::closures::closed_bounds;
@@ -18,24 +18,35 @@ use lrp_print::{Notation, write_bytes, write_columns, write_conditions, write_po
 use lrp_store::Zones;
 use lrp_zone::Zone;
 
-/// Writes the text of a whole answer: the relation `answer`, or the line `Empty` where nothing is held.
+/// Writes the text of a whole answer: a relation of this name, or the line `Empty` where nothing is held.
 ///
 /// A row has the points and the texts of a cell, and the closed bounds of one of its zones. No memory is taken. After a
 /// failure a front of the text was written.
-pub fn write_answer<S: Sink>(out: &mut S, answer: &Answer) -> Result<(), Failed>
+pub fn write_answer<S: Sink>(out: &mut S, answer: &Answer, name: &[u8]) -> Result<(), Failed>
     requires room { HasRoom answer.now.store }
     ensures text { IsWritten (S.written out.old) (S.written out.new)
-        (answer_text answer.now) result }
+        (named_answer_text name.now answer.now) result }
     ensures cause { HasCause (S.faults out.old) (S.faults out.new) result }
 {
     if answer.store.len() == 0 {
         return write_bytes(out, b"Empty\n");
     }
-    write_bytes(out, b"relation answer(")?;
+    write_opening(out, name)?;
     write_columns(out, answer.head.columns.as_slice())?;
     write_bytes(out, b") {\n")?;
     write_cells(out, answer)?;
     write_bytes(out, b"}\n")
+}
+
+// `relation NAME(`
+fn write_opening<S: Sink>(out: &mut S, name: &[u8]) -> Result<(), Failed>
+    ensures text { IsWritten (S.written out.old) (S.written out.new)
+        (codes "relation " ++ (name.now ++ codes "(")) result }
+    ensures cause { HasCause (S.faults out.old) (S.faults out.new) result }
+{
+    write_bytes(out, b"relation ")?;
+    write_bytes(out, name)?;
+    write_bytes(out, b"(")
 }
 
 // The lines of all cells. No cell is looked up.

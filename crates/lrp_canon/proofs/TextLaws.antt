@@ -20,7 +20,7 @@ use Rattle.lrp_theory.specs.Entries.{node}
 use Rattle.lrp_model.specs.Satisfaction.{IsAnswer, IsOfSort, Structure, structure}
 use Rattle.lrp_model.specs.Sorts.{is_time, time_count}
 use Rattle.lrp_model.proofs.ColumnCounts.{times_more, one_more, none_more}
-use Rattle.lrp_model.specs.Texts.{text_cmp}
+use Rattle.lrp_model.specs.Texts.{Identifier, text_cmp}
 use Rattle.lrp_model.specs.declared.relations.Bound.{Bound}
 use Rattle.lrp_model.specs.declared.relations.Column.{Column}
 use Rattle.lrp_model.specs.declared.relations.Relation.{Relation}
@@ -289,7 +289,7 @@ same_residue K values t u x y p h g e f =
     heads c d cs ds e = cc
 
 -- ---- the rows of one relation of answers
-module _ (K : ℕ) (db : List Relation) (q : Question) (one : time_count q.head ≡ 1) (answer : Relation) (is : IsAnswerRelation K db q answer) where
+module _ {called : Identifier} (K : ℕ) (db : List Relation) (q : Question) (one : time_count q.head ≡ 1) (answer : Relation) (is : IsAnswerRelation called K db q answer) where
   abbrev Behind : Row → Row → Type 0
   Behind r s = (row_cell_cmp r s ≢ Greater) × (OfOneCell r s → IsApart K r s)
 
@@ -344,8 +344,8 @@ module _ (K : ℕ) (db : List Relation) (q : Question) (one : time_count q.head 
       ]
 
 -- ---- two relations of the same answers
-module _ (K : ℕ) (db other_db : List Relation) (q other : Question) (one : time_count q.head ≡ 1) (other_one : time_count other.head ≡ 1)
-    (same : (t : List Datum) → IsAnswer db q t → IsAnswer other_db other t) (answer second : Relation) (is : IsAnswerRelation K db q answer) (also : IsAnswerRelation K other_db other second) where
+module _ {called : Identifier} (K : ℕ) (db other_db : List Relation) (q other : Question) (one : time_count q.head ≡ 1) (other_one : time_count other.head ≡ 1)
+    (same : (t : List Datum) → IsAnswer db q t → IsAnswer other_db other t) (answer second : Relation) (is : IsAnswerRelation called K db q answer) (also : IsAnswerRelation called K other_db other second) where
   module _ (r s : Row) (c : Contains answer.rows r) (d : Contains second.rows s) (m : List Datum) (i : IsInRow r m) (j : IsInRow s m) where
     period_is : AllByRecursion (HasPeriod K) r.values
     period_is = (row_is K db q one answer is r c).period
@@ -403,9 +403,9 @@ module _ (K : ℕ) (db other_db : List Relation) (q other : Question) (one : tim
         walked a.0 a.1 t b.0 it b.1 k.times k.is
 
 -- ---- rows of both with a member in common are one
-module _ (K : ℕ) (db other_db : List Relation) (q other : Question) (one : time_count q.head ≡ 1) (other_one : time_count other.head ≡ 1)
+module _ {called : Identifier} (K : ℕ) (db other_db : List Relation) (q other : Question) (one : time_count q.head ≡ 1) (other_one : time_count other.head ≡ 1)
     (to : (t : List Datum) → IsAnswer db q t → IsAnswer other_db other t) (from : (t : List Datum) → IsAnswer other_db other t → IsAnswer db q t)
-    (answer second : Relation) (is : IsAnswerRelation K db q answer) (also : IsAnswerRelation K other_db other second) where
+    (answer second : Relation) (is : IsAnswerRelation called K db q answer) (also : IsAnswerRelation called K other_db other second) where
   module _ (r s : Row) (c : Contains answer.rows r) (d : Contains second.rows s) (m : List Datum) (i : IsInRow r m) (j : IsInRow s m) where
     there : (t : List Datum) → IsInRow r t → IsInRow s t
     there = members K db other_db q other one other_one to answer second is also r s c d m i j
@@ -437,23 +437,24 @@ module _ (K : ℕ) (db other_db : List Relation) (q other : Question) (one : tim
       let h = held K other_db other other_one second also m.0 (to m.0 (answers K db q one answer is r c m.0 m.1)) in
       subst (Contains second.rows) (sym (same_row r h.0 c h.1 m.0 m.1 h.2)) h.1
 
-module _ (K : ℕ) (db other_db : List Relation) (q other : Question) (heads : q.head ≡ other.head) (one : time_count q.head ≡ 1)
-    (same : (t : List Datum) → IsAnswer db q t ↔ IsAnswer other_db other t) where
-  other_one : time_count other.head ≡ 1
-  other_one = ap time_count (sym heads) ∙ one
+-- queries with one head have one number of time columns
+other_one : (q other : Question) → q.head ≡ other.head → time_count q.head ≡ 1 → time_count other.head ≡ 1
+other_one q other heads one = ap time_count (sym heads) ∙ one
 
-  same_relation : (answer second : Relation) → IsAnswerRelation K db q answer → IsAnswerRelation K other_db other second → answer ≡ second
+module _ {called : Identifier} (K : ℕ) (db other_db : List Relation) (q other : Question) (heads : q.head ≡ other.head) (one : time_count q.head ≡ 1)
+    (same : (t : List Datum) → IsAnswer db q t ↔ IsAnswer other_db other t) where
+  same_relation : (answer second : Relation) → IsAnswerRelation called K db q answer → IsAnswerRelation called K other_db other second → answer ≡ second
   same_relation answer second is also =
-      let rows : answer.rows ≡ second.rows = same_list (Behind K db q one answer is) answer.rows second.rows (strict K db q one answer is) (in_order K db q one answer is) (in_order K other_db other other_one second also)
-      (row_there K db other_db q other one other_one (λ t. (same t).0) (λ t. (same t).1) answer second is also)
-      (row_there K other_db db other q other_one one (λ t. (same t).1) (λ t. (same t).0) second answer also is) in
+      let rows : answer.rows ≡ second.rows = same_list (Behind K db q one answer is) answer.rows second.rows (strict K db q one answer is) (in_order K db q one answer is) (in_order K other_db other (other_one q other heads one) second also)
+      (row_there K db other_db q other one (other_one q other heads one) (λ t. (same t).0) (λ t. (same t).1) answer second is also)
+      (row_there K other_db db other q (other_one q other heads one) one (λ t. (same t).1) (λ t. (same t).0) second answer also is) in
       made (is.name ∙ sym also.name) (is.columns ∙ heads ∙ sym also.columns) rows
     where
       made : answer.name ≡ second.name → answer.columns ≡ second.columns → answer.rows ≡ second.rows → answer ≡ second
       made a b c = ap₂ (λ n cs. record { name = n; columns = cs; rows = answer.rows }) a b ∙ ap (λ rs. record { name = second.name; columns = second.columns; rows = rs }) c
 
   -- equal heads and equal answers, one text
-  pub one_text : (bytes other_bytes : List ℕ) → IsAnswerTextOf K db q bytes → IsAnswerTextOf K other_db other other_bytes → bytes ≡ other_bytes
+  pub one_text : (bytes other_bytes : List ℕ) → IsAnswerTextOf called K db q bytes → IsAnswerTextOf called K other_db other other_bytes → bytes ≡ other_bytes
   one_text bytes other_bytes h g = by (bytes_eq bytes other_bytes) refl
     where
       some : (t : List Datum) → IsAnswer db q t → bytes ≡ other_bytes
