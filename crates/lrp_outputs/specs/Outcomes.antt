@@ -6,7 +6,7 @@ use Rattle.lrp_model.specs.declared.tokens.Place.{Place}
 use Rattle.lrp_outputs.specs.declared.status.Status.{Status}
 use Rattle.lrp_outputs.specs.declared.status.Status.TheVariants as status
 use Rattle.lrp_outputs.specs.declared.refusal.Refusal.{Refusal}
-use Rattle.lrp_outputs.specs.declared.refusal.Refusal.TheVariants.{Usage, ReadDatabase, LongDatabase, Database, ReadQuery, LongQuery, Query, PeriodLimit, BoundLimit, TokenForm, TokenShape, TokenStale, Cells, Head, CanonRows, Watch, Memory}
+use Rattle.lrp_outputs.specs.declared.refusal.Refusal.TheVariants.{Usage, ReadDatabase, LongDatabase, Database, ReadQuery, LongQuery, Query, Formulas, Depth, PeriodLimit, BoundLimit, TokenForm, TokenShape, TokenStale, Cells, Head, CanonRows, Watch, Memory}
 use Rattle.lrp_outputs.specs.declared.head.HeadNeed.{HeadNeed}
 use Rattle.lrp_outputs.specs.declared.head.HeadNeed.TheVariants as needs
 use Rattle.lrp_outputs.specs.declared.watch_refusal.WatchRefusal.{WatchRefusal}
@@ -53,6 +53,8 @@ line_of (Database fault) = fault_line (codes "refused: database ") (database_wor
 line_of ReadQuery = codes "refused: read of query\n"
 line_of LongQuery = codes "refused: query longer than 16777216 bytes\n"
 line_of (Query fault) = fault_line (codes "refused: query ") (query_word fault.kind) fault.place
+line_of Formulas = codes "refused: more than 1000000 formulas\n"
+line_of Depth = codes "refused: deeper than 400 formulas\n"
 line_of PeriodLimit = codes "refused: period above 4611686018427387904\n"
 line_of BoundLimit = codes "refused: bound above 4611686018427387904\n"
 line_of TokenForm = codes "refused: token form\n"
@@ -83,6 +85,8 @@ refused_with (Database fault) = status.Database
 refused_with ReadQuery = status.Read
 refused_with LongQuery = status.Query
 refused_with (Query fault) = status.Query
+refused_with Formulas = status.Limit
+refused_with Depth = status.Limit
 refused_with PeriodLimit = status.Limit
 refused_with BoundLimit = status.Limit
 refused_with TokenForm = status.Query

@@ -5,7 +5,7 @@ use Rattle.lrp_model.specs.PrintedPlans.{plan_bytes}
 use Rattle.lrp_model.specs.Rows.{Tuple}
 use Rattle.lrp_model.specs.declared.tuples.Spot.{Spot}
 use Rattle.lrp_answers.specs.declared.answer.Answer.{Answer}
-use Rattle.lrp_answer_text.specs.AnswerText.{answer_text}
+use Rattle.lrp_answer_text.specs.AnswerText.{named_answer_text}
 use Rattle.lrp_answer_text.specs.Lines.{is_json}
 use Rattle.lrp_lint.specs.Reports.{report_text}
 use Rattle.lrp_outputs.specs.First.{first_line, least_line}
@@ -55,7 +55,7 @@ leasts_text l = flat_map (λ least. first_line (option_map (answer_tuple l.answe
 abbrev pub output_text : Output → List ℕ
 output_text (output.Relations relations) = database_bytes relations
 output_text (output.Plan p) = plan_bytes p.plan
-output_text (output.Answer whole) = answer_text whole.answer
+output_text (output.Answer whole) = named_answer_text whole.name whole.answer
 output_text (output.Witness w) = witness_text w
 output_text (output.Page page) = page_text page
 output_text (output.Count number) = count_line number

@@ -35,6 +35,12 @@ pub enum Refusal {
     /// The query's text has a fault, or its sorts over the database.
     #[error("{0}")]
     Query(QueryFault),
+    /// The expanded query has too many formulas.
+    #[error("more than 1000000 formulas")]
+    Formulas,
+    /// A formula of the expanded query is too deep.
+    #[error("deeper than 400 formulas")]
+    Depth,
     /// The query's period is above 2^62.
     #[error("period above {LIMIT}")]
     PeriodLimit,
@@ -82,7 +88,9 @@ impl Refusal {
             | Refusal::TokenShape
             | Refusal::TokenStale
             | Refusal::Head(_) => Status::Query,
-            Refusal::PeriodLimit
+            Refusal::Formulas
+            | Refusal::Depth
+            | Refusal::PeriodLimit
             | Refusal::BoundLimit
             | Refusal::Cells { .. }
             | Refusal::CanonRows { .. } => Status::Limit,

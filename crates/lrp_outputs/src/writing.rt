@@ -73,6 +73,8 @@ fn write_refusal<S: Sink>(out: &mut S, refusal: &Refusal) -> Result<(), Failed>
         Refusal::Query(fault) => {
             write_fault(out, b"refused: query ", fault.kind.word(), fault.place)
         }
+        Refusal::Formulas => write_bytes(out, b"refused: more than 1000000 formulas\n"),
+        Refusal::Depth => write_bytes(out, b"refused: deeper than 400 formulas\n"),
         Refusal::PeriodLimit => write_bytes(out, b"refused: period above 4611686018427387904\n"),
         Refusal::BoundLimit => write_bytes(out, b"refused: bound above 4611686018427387904\n"),
         Refusal::TokenForm => write_bytes(out, b"refused: token form\n"),

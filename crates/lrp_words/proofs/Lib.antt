@@ -2,3 +2,4 @@
 pub mod EntryLemmas
 pub mod MinuteLemmas
 pub mod NumberLemmas
+pub mod NameLemmas

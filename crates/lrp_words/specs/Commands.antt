@@ -1,5 +1,5 @@
 -- The command that words spell: the first word is its name, and each further one gives one of its keys a value.
-use Rattle.std.specs.Prelude.{ℕ, ℤ, List, [], ◌∷◌, Bool, true, false, ◌&&◌, Option, Some, None, if◌then◌else◌, codes}
+use Rattle.std.specs.Prelude.{ℕ, ℤ, nat_le, length, List, [], ◌∷◌, Bool, true, false, ◌&&◌, Option, Some, None, if◌then◌else◌, codes}
 use Rattle.std.specs.Borrow.{Bor}
 use Rattle.std.specs.Option.{option_and_then}
 use Rattle.std.specs.Str.{bytes_eq}
@@ -7,22 +7,26 @@ use Rattle.lrp_model.specs.Texts.{Text}
 use Rattle.lrp_model.specs.declared.plans.Planning.{Planning}
 use Rattle.lrp_model.specs.declared.plans.Planning.TheVariants.{Written, Guarded}
 use Rattle.lrp_civil.specs.Minutes.{minute_by}
+use Rattle.lrp_model.specs.Lexing.{tokens}
+use Rattle.lrp_model.specs.Tokens.{Tokens}
+use Rattle.lrp_text.specs.Taking.{is_named}
 use Rattle.lrp_words.specs.declared.keys.Key.{Key}
-use Rattle.lrp_words.specs.declared.keys.Key.TheVariants.{Db, Query, Edits, Cap, Plan, From, To, Limit, After, Form, Tense, Canon, Civil, Show, Kept, Seed, Size}
+use Rattle.lrp_words.specs.declared.keys.Key.TheVariants.{Db, Query, Edits, Cap, Plan, From, To, Limit, After, Form, Tense, Wide, Canon, As, Civil, Show, Kept, Seed, Size}
 use Rattle.lrp_words.specs.declared.command.Command.{Command}
 use Rattle.lrp_words.specs.declared.command.LintFiles.{LintFiles}
 use Rattle.lrp_words.specs.declared.command.QuestionFiles.{QuestionFiles}
 use Rattle.lrp_words.specs.declared.command.Command.TheVariants.{Ask, Decide, List as Page, Count, Ranges, Explain, Check, Lint, Watch, Sample}
 use Rattle.lrp_words.specs.Entries.{value_for, are_given}
 use Rattle.lrp_words.specs.Numbers.{natural, within, integer_up_to}
-use Rattle.lrp_model.specs.Limits.{greatest_number}
+use Rattle.lrp_model.specs.Limits.{greatest_number, most_bytes}
 
--- what each question of files has: the names of the files of its database and of its query, how the query is planned, whether it may have temporal operators, and whether times are civil ones
+-- what each question of files has: the names of the files of its database and of its query, how the query is planned, whether it may have temporal operators or is in the wide language, and whether times are civil ones
 pub record FilesAsked : Type 0 where
   pub database : Text
   pub query : Text
   pub way : Planning
   pub tense : Bool
+  pub wide : Bool
   pub civil : Bool
 
 -- what is looked over: the name of the file of a database and, where there is one, of a query over it, whether that may have temporal operators, and whether times are civil ones
@@ -32,9 +36,9 @@ pub record FilesLinted : Type 0 where
   pub tense : Bool
   pub civil : Bool
 
--- what is asked: files by their names, caps and limits, a window, a token, whether lines are in JSON, a seed and a size; and last, for `ask` whether the canonical answer is told, for `decide` whether times are shown as dates, for `check` whether times are civil ones, and for `watch` how a query that isn't in kept form is planned, and whether one is watched
+-- what is asked: files by their names, caps and limits, a window, a token, whether lines are in JSON, a seed and a size; and last, for `ask` whether the canonical answer is told and how the answer's relation is called, for `decide` whether times are shown as dates, for `check` whether times are civil ones, and for `watch` how a query that isn't in kept form is planned, and whether one is watched
 pub data Task : Type 0 where
-  ask : FilesAsked → ℕ → Bool → Task
+  ask : FilesAsked → ℕ → Bool → Text → Task
   decide : FilesAsked → ℕ → Bool → Task
   list : FilesAsked → ℤ → ℤ → ℕ → Option Text → Bool → ℕ → Task
   count : FilesAsked → ℤ → ℤ → ℕ → Task
@@ -52,7 +56,7 @@ after_text (Some text) = Some text.now
 
 -- what the program's question of files has
 abbrev pub asked_files : QuestionFiles → FilesAsked
-asked_files files = record { database = files.database.now; query = files.query.now; way = files.planning; tense = files.tense; civil = files.civil }
+asked_files files = record { database = files.database.now; query = files.query.now; way = files.planning; tense = files.tense; wide = files.wide; civil = files.civil }
 
 -- what the program looks over
 abbrev pub linted_files : LintFiles → FilesLinted
@@ -60,7 +64,7 @@ linted_files files = record { database = files.database.now; query = after_text 
 
 -- what a command of the program asks; `Page` is its command `List`
 abbrev pub task_of : Command → Task
-task_of (Ask files cap canon) = ask (asked_files files) cap canon
+task_of (Ask files cap canon name) = ask (asked_files files) cap canon name.now
 task_of (Decide files cap dates) = decide (asked_files files) cap dates
 task_of (Page files from to limit after json cap) = list (asked_files files) from to limit (after_text after) json cap
 task_of (Count files from to cap) = count (asked_files files) from to cap
@@ -159,9 +163,30 @@ edits_name words = file (value_for Edits words)
 abbrev pub tense_flag : List Text → Option Bool
 tense_flag words = flag_of (value_for Tense words)
 
+-- whether the query is in the wide language
+abbrev pub wide_flag : List Text → Option Bool
+wide_flag words = flag_of (value_for Wide words)
+
 -- whether the canonical answer is told
 abbrev pub canon_of : List Text → Option Bool
 canon_of words = flag_of (value_for Canon words)
+
+-- whether the first of the tokens is the name that all of the text spells
+abbrev pub spells_name : Text → Tokens → Bool
+spells_name text [] = false
+spells_name text (t ∷ ts) = is_named text t
+
+-- the text is a name of the grammar, and no longer than a file
+abbrev pub is_name_of : Text → Bool
+is_name_of text = nat_le (length text) most_bytes && spells_name text (tokens text)
+
+-- the name of the answer's relation, which is `answer` where it is not given
+abbrev pub name_given : Option Text → Option Text
+name_given None = Some (codes "answer")
+name_given (Some text) = if is_name_of text then Some text else None
+
+abbrev pub relation_name_of : List Text → Option Text
+relation_name_of words = name_given (value_for As words)
 
 -- whether times are civil ones
 abbrev pub civil_of : List Text → Option Bool
@@ -170,8 +195,8 @@ civil_of words = flag_of (value_for Civil words)
 -- what each question of files has
 abbrev pub files_in : List Text → Option FilesAsked
 files_in words =
-    with_some (database_name words) (λ db. with_some (query_name words) (λ query. with_some (planning_in words) (λ planning. with_some (tense_flag words) (λ tense. with_some (civil_of words) (λ civil.
-    Some (record { database = db; query = query; way = planning; tense = tense; civil = civil }))))))
+    with_some (database_name words) (λ db. with_some (query_name words) (λ query. with_some (planning_in words) (λ planning. with_some (tense_flag words) (λ tense. with_some (wide_flag words) (λ wide. with_some (civil_of words) (λ civil.
+    Some (record { database = db; query = query; way = planning; tense = tense; wide = wide; civil = civil })))))))
 
 -- what is looked over
 abbrev pub files_to_lint : List Text → Option FilesLinted
@@ -182,16 +207,16 @@ files_to_lint words =
 -- ---- each command from the words behind its name, and its keys
 
 abbrev pub ask_of : List Text → Option Task
-ask_of words = with_some (files_in words) (λ of. with_some (cap_of words) (λ cap. with_some (canon_of words) (λ canon. Some (ask of cap canon))))
+ask_of words = with_some (files_in words) (λ of. with_some (cap_of words) (λ cap. with_some (canon_of words) (λ canon. with_some (relation_name_of words) (λ name. Some (ask of cap canon name)))))
 
 abbrev pub ask_keys : List Key
-ask_keys = Db ∷ Query ∷ Cap ∷ Plan ∷ Tense ∷ Canon ∷ Civil ∷ []
+ask_keys = Db ∷ Query ∷ Cap ∷ Plan ∷ Tense ∷ Wide ∷ Canon ∷ As ∷ Civil ∷ []
 
 abbrev pub decide_of : List Text → Option Task
 decide_of words = with_some (files_in words) (λ of. with_some (cap_of words) (λ cap. with_some (dates_of of.civil (value_for Show words)) (λ dates. Some (decide of cap dates))))
 
 abbrev pub decide_keys : List Key
-decide_keys = Db ∷ Query ∷ Cap ∷ Plan ∷ Tense ∷ Civil ∷ Show ∷ []
+decide_keys = Db ∷ Query ∷ Cap ∷ Plan ∷ Tense ∷ Wide ∷ Civil ∷ Show ∷ []
 
 abbrev pub list_of : List Text → Option Task
 list_of words =
@@ -199,7 +224,7 @@ list_of words =
     with_some (limit_of words) (λ limit. with_some (json_of (value_for Form words)) (λ json. with_some (cap_of words) (λ cap. Some (list of from to limit (value_for After words) json cap)))))))
 
 abbrev pub list_keys : List Key
-list_keys = Db ∷ Query ∷ From ∷ To ∷ Limit ∷ After ∷ Form ∷ Cap ∷ Plan ∷ Tense ∷ Civil ∷ []
+list_keys = Db ∷ Query ∷ From ∷ To ∷ Limit ∷ After ∷ Form ∷ Cap ∷ Plan ∷ Tense ∷ Wide ∷ Civil ∷ []
 
 abbrev pub counting_of : List Text → Option Task
 counting_of words =
@@ -207,7 +232,7 @@ counting_of words =
     with_some (cap_of words) (λ cap. Some (count of from to cap)))))
 
 abbrev pub count_keys : List Key
-count_keys = Db ∷ Query ∷ From ∷ To ∷ Cap ∷ Plan ∷ Tense ∷ Civil ∷ []
+count_keys = Db ∷ Query ∷ From ∷ To ∷ Cap ∷ Plan ∷ Tense ∷ Wide ∷ Civil ∷ []
 
 abbrev pub ranges_of : List Text → Option Task
 ranges_of words =
@@ -215,13 +240,13 @@ ranges_of words =
     with_some (limit_of words) (λ limit. with_some (json_of (value_for Form words)) (λ json. with_some (cap_of words) (λ cap. Some (ranges of from to limit json cap)))))))
 
 abbrev pub ranges_keys : List Key
-ranges_keys = Db ∷ Query ∷ From ∷ To ∷ Limit ∷ Form ∷ Cap ∷ Plan ∷ Tense ∷ Civil ∷ []
+ranges_keys = Db ∷ Query ∷ From ∷ To ∷ Limit ∷ Form ∷ Cap ∷ Plan ∷ Tense ∷ Wide ∷ Civil ∷ []
 
 abbrev pub explain_of : List Text → Option Task
 explain_of words = with_some (files_in words) (λ of. Some (explain of))
 
 abbrev pub explain_keys : List Key
-explain_keys = Db ∷ Query ∷ Plan ∷ Tense ∷ Civil ∷ []
+explain_keys = Db ∷ Query ∷ Plan ∷ Tense ∷ Wide ∷ Civil ∷ []
 
 abbrev pub check_of : List Text → Option Task
 check_of words = with_some (database_name words) (λ db. with_some (civil_of words) (λ civil. Some (check db civil)))

@@ -4,7 +4,7 @@ use Rattle.std.specs.List.{list_all, list_any, before_first, after_first}
 use Rattle.std.specs.Str.{bytes_eq}
 use Rattle.lrp_model.specs.Texts.{Text}
 use Rattle.lrp_words.specs.declared.keys.Key.{Key}
-use Rattle.lrp_words.specs.declared.keys.Key.TheVariants.{Db, Query, Edits, Cap, Plan, From, To, Limit, After, Form, Tense, Canon, Civil, Show, Kept, Seed, Size}
+use Rattle.lrp_words.specs.declared.keys.Key.TheVariants.{Db, Query, Edits, Cap, Plan, From, To, Limit, After, Form, Tense, Wide, Canon, As, Civil, Show, Kept, Seed, Size}
 
 -- how a key is spelled
 abbrev pub key_name : Key → Text
@@ -19,7 +19,9 @@ key_name Limit = codes "limit"
 key_name After = codes "after"
 key_name Form = codes "form"
 key_name Tense = codes "tense"
+key_name Wide = codes "wide"
 key_name Canon = codes "canon"
+key_name As = codes "as"
 key_name Civil = codes "civil"
 key_name Show = codes "show"
 key_name Kept = codes "kept"

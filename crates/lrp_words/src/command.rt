@@ -3,7 +3,8 @@ use lrp_model::Planning;
 use thiserror::Error;
 
 /// What each question of files has: the names of the files of its database and of its query, which are not empty, how the
-/// query is planned, whether it may have temporal operators, and whether times are minutes since 1970-01-01 00:00 and
+/// query is planned, whether it may have temporal operators or is
+/// in the wide language, and whether times are minutes since 1970-01-01 00:00 and
 /// databases may have civil values.
 #[derive(Clone, Copy)]
 pub struct QuestionFiles<'a> {
@@ -11,6 +12,7 @@ pub struct QuestionFiles<'a> {
     pub query: &'a str,
     pub planning: Planning,
     pub tense: bool,
+    pub wide: bool,
     pub civil: bool,
 }
 
@@ -28,7 +30,7 @@ pub struct LintFiles<'a> {
 ///
 /// `db`, `query` and `edits` are names of files, and not empty. `from` and `to` have a magnitude of at most 2^62, and
 /// are minutes of the years 1 to 9999 where times are civil ones. `after` is any text; its form is judged later. With `canon`
-/// the canonical answer is told, with `dates`, which stands only where times are civil ones, they are shown as dates, and with `auto` a query that isn't
+/// the canonical answer is told, by `name` the answer's relation is called, which is a name of the grammar, with `dates`, which stands only where times are civil ones, they are shown as dates, and with `auto` a query that isn't
 /// in kept form is watched too.
 #[derive(Clone, Copy)]
 pub enum Command<'a> {
@@ -36,6 +38,7 @@ pub enum Command<'a> {
         files: QuestionFiles<'a>,
         cap: u32,
         canon: bool,
+        name: &'a str,
     },
     Decide {
         files: QuestionFiles<'a>,

@@ -1,6 +1,7 @@
 // Words as a command: its name, and then the values of its keys.
-ghost use Rattle.std.specs.Prelude.{◌≡◌, ◌<◌, ◌≤◌, ◌^◌, [], ◌∷◌, map, string_bytes, option_map, Some, None, IfOk, IfSome, MatchResult};
-ghost use Rattle.lrp_words.specs.Commands.{ask_keys, ask_of, auto_of, canon_of, cap_of, check_keys, check_of, civil_of, command, count_keys, counting_of, dates_of, decide_keys, decide_of, end_of, explain_keys, explain_of, flag_of, file as file_by, asked_files, files_in, files_to_lint, json_of as is_json_by, limit_of, lint_keys, lint_of, linted_files, list_keys, list_of, number_in as number_by, number_or as number_or_by, optional_file as optional_file_by, over, planning_in, ranges_keys, ranges_of, sample_keys, sample_of, task_of, tasks_of, tense_flag, after_text, watch_keys, watch_of};
+ghost use Rattle.std.specs.Prelude.{◌≡◌, ◌<◌, ◌≤◌, ◌^◌, [], ◌∷◌, map, string_bytes, option_map, Some, None, IfOk, IfSome, MatchResult, true};
+ghost use Rattle.lrp_model.specs.Names.{IsName};
+ghost use Rattle.lrp_words.specs.Commands.{ask_keys, ask_of, auto_of, canon_of, cap_of, check_keys, check_of, civil_of, command, count_keys, counting_of, dates_of, decide_keys, decide_of, end_of, explain_keys, explain_of, flag_of, file as file_by, asked_files, files_in, files_to_lint, json_of as is_json_by, limit_of, lint_keys, lint_of, linted_files, list_keys, list_of, number_in as number_by, number_or as number_or_by, optional_file as optional_file_by, over, planning_in, ranges_keys, ranges_of, sample_keys, sample_of, task_of, tasks_of, tense_flag, after_text, watch_keys, watch_of, wide_flag, relation_name_of, is_name_of};
 ghost use Rattle.lrp_words.specs.Entries.{value_for as value_by};
 ghost use Rattle.lrp_words.specs.Ranges.{IsInRange, IsEnd};
 
@@ -10,6 +11,10 @@ use crate::keys::Key;
 use crate::numbers::{integer, within};
 use lrp_civil::minute_of;
 use lrp_model::Planning;
+use lrp_text::TokenCursor;
+
+/// How long a relation's name may be.
+const MOST_NAME: usize = 16_777_216;
 
 /// The command that the words after the program's name spell, or `Usage` where they spell none.
 ///
@@ -60,7 +65,9 @@ fn ask(words: &[String]) -> Option<Command<'_>>
         Key::Cap,
         Key::Plan,
         Key::Tense,
+        Key::Wide,
         Key::Canon,
+        Key::As,
         Key::Civil,
     ];
     if !are_given(&keys, words) {
@@ -71,6 +78,7 @@ fn ask(words: &[String]) -> Option<Command<'_>>
         files,
         cap: cap(words)?,
         canon: canon(words)?,
+        name: relation_name(words)?,
     })
 }
 
@@ -86,6 +94,7 @@ fn decide(words: &[String]) -> Option<Command<'_>>
             Key::Cap,
             Key::Plan,
             Key::Tense,
+            Key::Wide,
             Key::Civil,
             Key::Show,
         ],
@@ -117,6 +126,7 @@ fn list(words: &[String]) -> Option<Command<'_>>
         Key::Cap,
         Key::Plan,
         Key::Tense,
+        Key::Wide,
         Key::Civil,
     ];
     if !are_given(&keys, words) {
@@ -147,6 +157,7 @@ fn count(words: &[String]) -> Option<Command<'_>>
         Key::Cap,
         Key::Plan,
         Key::Tense,
+        Key::Wide,
         Key::Civil,
     ];
     if !are_given(&keys, words) {
@@ -176,6 +187,7 @@ fn ranges(words: &[String]) -> Option<Command<'_>>
         Key::Cap,
         Key::Plan,
         Key::Tense,
+        Key::Wide,
         Key::Civil,
     ];
     if !are_given(&keys, words) {
@@ -198,7 +210,14 @@ fn explain(words: &[String]) -> Option<Command<'_>>
     ensures range { IfSome result (λ found. IsInRange (task_of found)) }
 {
     if !are_given(
-        &[Key::Db, Key::Query, Key::Plan, Key::Tense, Key::Civil],
+        &[
+            Key::Db,
+            Key::Query,
+            Key::Plan,
+            Key::Tense,
+            Key::Wide,
+            Key::Civil,
+        ],
         words,
     ) {
         return None;
@@ -284,6 +303,7 @@ fn files(words: &[String]) -> Option<QuestionFiles<'_>>
         query: file(Key::Query, words)?,
         planning: planning(words)?,
         tense: tense(words)?,
+        wide: wide(words)?,
         civil: civil(words)?,
     })
 }
@@ -386,11 +406,38 @@ fn tense(words: &[String]) -> Option<bool>
     flag(Key::Tense, words)
 }
 
+/// Whether the query is in the wide language.
+fn wide(words: &[String]) -> Option<bool>
+    ensures { result ≡ wide_flag (map string_bytes words.now) }
+{
+    flag(Key::Wide, words)
+}
+
 /// Whether the canonical answer is told.
 fn canon(words: &[String]) -> Option<bool>
     ensures { result ≡ canon_of (map string_bytes words.now) }
 {
     flag(Key::Canon, words)
+}
+
+/// The name of the answer's relation.
+fn relation_name(words: &[String]) -> Option<&str>
+    ensures value { after_text result ≡ relation_name_of (map string_bytes words.now) }
+    ensures name { IfSome result (λ name. IsName name.now) }
+{
+    match value(Key::As, words) {
+        None => Some("answer"),
+        Some(text) if is_name(text) => Some(text),
+        Some(_) => None,
+    }
+}
+
+/// Whether a text is a name of the grammar, which no reserved word is.
+fn is_name(text: &str) -> bool
+    ensures value { result ≡ is_name_of text.now }
+    ensures name { result ≡ true → IsName text.now }
+{
+    text.len() <= MOST_NAME && TokenCursor::new(text).sees_named(text)
 }
 
 /// Whether times are civil ones.
