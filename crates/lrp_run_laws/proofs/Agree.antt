@@ -1,5 +1,5 @@
 -- Two runs of one task over the same bytes come to one outcome: step by step.
-use Rattle.std.proofs.Common.{◌≡◌, ◌∷◌, ◌++◌, ◌+◌, ◌<◌, ◌≤◌, ◌^◌, ◌∙◌, ℕ, Bool, List, [], length, refl, sym, ap, ap₂, subst, Option, Some, None, Result, Ok, Err, arith}
+use Rattle.std.proofs.Common.{◌≡◌, ◌∷◌, ◌++◌, ◌+◌, ◌<◌, ◌≤◌, ◌^◌, ◌∙◌, ℕ, List, [], length, refl, sym, ap, ap₂, subst, Option, Some, None, Result, Ok, Err, arith}
 use Rattle.std.specs.List.{AllZip}
 use Rattle.lrp_model.specs.Caps.{IsFirstMany, ManyAt}
 use Rattle.lrp_model.specs.DatabaseReading.{IsDatabase, IsDatabaseFault}
@@ -28,10 +28,13 @@ use Rattle.lrp_top.specs.Resuming.{IsResumed, IsStale, shape_of}
 use Rattle.lrp_top.specs.Seen.{ShelfSeen, AreBytesOf}
 use Rattle.lrp_top.specs.Sources.{Source}
 use Rattle.lrp_top.specs.Steps.{Then, Behind}
-use Rattle.lrp_top.specs.Written.{IsFaultyAs, IsSortedAs, plain_if}
+use Rattle.lrp_top.specs.Written.{IsFaultyAs, IsOverIn, IsSortedAs, plain_by}
+use Rattle.lrp_top.specs.declared.language.QueryLanguage.{QueryLanguage}
+use Rattle.lrp_wide.specs.Limits.{HasTooMany, IsTooDeep}
+use Rattle.lrp_civil.specs.declared.values.CivilText.{CivilText}
 use Rattle.lrp_outputs.specs.declared.head.HeadNeed.{HeadNeed}
 use Rattle.lrp_outputs.specs.declared.refusal.Refusal.{Refusal}
-use Rattle.lrp_outputs.specs.declared.refusal.Refusal.TheVariants.{ReadDatabase, LongDatabase, Database, ReadQuery, LongQuery, Query, PeriodLimit, BoundLimit, TokenForm, TokenShape, TokenStale, Cells, Head, CanonRows, Watch, Memory}
+use Rattle.lrp_outputs.specs.declared.refusal.Refusal.TheVariants.{ReadDatabase, LongDatabase, Database, ReadQuery, LongQuery, Query, Formulas, Depth, PeriodLimit, BoundLimit, TokenForm, TokenShape, TokenStale, Cells, Head, CanonRows, Watch, Memory}
 use Rattle.lrp_outputs.specs.declared.watch_refusal.WatchRefusal.TheVariants as watch
 use Rattle.lrp_run_laws.proofs.Canonical.{OneRowCount}
 use Rattle.lrp_run_laws.proofs.Complete.{DatabaseTexts, QueryTexts, OneToken, no_longer, not_formless, not_other, not_stale}
@@ -92,31 +95,31 @@ by_parts First Other R values left right refusals (Err e) (Err f) i j l m = refu
 abbrev pub OneDatabaseFault : Type 0
 OneDatabaseFault = (bytes : List ℕ) (f g : DbFault) → IsDatabaseFault bytes f → IsDatabaseFault bytes g → f ≡ g
 
-data DatabaseRefused (civil : Bool) (bytes : List ℕ) : Refusal → Type 0 where
+data DatabaseRefused (civil : Option CivilText) (bytes : List ℕ) : Refusal → Type 0 where
   long : 16777216 < length bytes → DatabaseRefused civil bytes LongDatabase
-  faulty : (fault : DbFault) → length bytes ≤ 16777216 → IsDatabaseFault (plain_if civil bytes) fault → DatabaseRefused civil bytes (Database fault)
+  faulty : (fault : DbFault) → length bytes ≤ 16777216 → IsDatabaseFault (plain_by civil bytes) fault → DatabaseRefused civil bytes (Database fault)
 
-database_refused : (civil : Bool) (seen : ShelfSeen) (name : Identifier) (bytes : List ℕ) (e : Refusal) → IsDatabaseReadOf civil seen name bytes (Err e) → Lasts e → DatabaseRefused civil bytes e
+database_refused : (civil : Option CivilText) (seen : ShelfSeen) (name : Identifier) (bytes : List ℕ) (e : Refusal) → IsDatabaseReadOf civil seen name bytes (Err e) → Lasts e → DatabaseRefused civil bytes e
 database_refused civil seen name bytes LongDatabase is l = long is.0
 database_refused civil seen name bytes (Database fault) is l = faulty fault is.0 is.1
 database_refused civil seen name bytes ReadDatabase is l = absurd l
 database_refused civil seen name bytes Memory is l = absurd l
 database_refused civil seen name bytes _ is l = absurd is
 
-module _ (texts : DatabaseTexts) (one_fault : OneDatabaseFault) (civil : Bool) (bytes : List ℕ) where
-  not_refused : (db : List Relation) → length bytes ≤ 16777216 → IsDatabase (plain_if civil bytes) db → (e : Refusal) → DatabaseRefused civil bytes e → ⊥
+module _ (texts : DatabaseTexts) (one_fault : OneDatabaseFault) (civil : Option CivilText) (bytes : List ℕ) where
+  not_refused : (db : List Relation) → length bytes ≤ 16777216 → IsDatabase (plain_by civil bytes) db → (e : Refusal) → DatabaseRefused civil bytes e → ⊥
   not_refused db short is _ (long above) = no_longer (length bytes) short above
-  not_refused db short is _ (faulty fault below f) = texts.faultless (plain_if civil bytes) db fault is f
+  not_refused db short is _ (faulty fault below f) = texts.faultless (plain_by civil bytes) db fault is f
 
   refused_alike : (e f : Refusal) → DatabaseRefused civil bytes e → DatabaseRefused civil bytes f → e ≡ f
   refused_alike _ _ (long above) (long more) = refl
   refused_alike _ _ (long above) (faulty g short is) = absurd (no_longer (length bytes) short above)
   refused_alike _ _ (faulty f short is) (long above) = absurd (no_longer (length bytes) short above)
-  refused_alike _ _ (faulty f short is) (faulty g below again) = ap Database (one_fault (plain_if civil bytes) f g is again)
+  refused_alike _ _ (faulty f short is) (faulty g below again) = ap Database (one_fault (plain_by civil bytes) f g is again)
 
   module _ (seen further : ShelfSeen) (name : Identifier) where
     one_source : (d e : Source (List Relation)) → IsDatabaseReadOf civil seen name bytes (Ok d) → IsDatabaseReadOf civil further name bytes (Ok e) → d ≡ e
-    one_source d e i j = ap₂ (λ (b : List ℕ) (r : List Relation). source b r) (i.0 ∙ sym j.0) (texts.one (plain_if civil bytes) d.says e.says i.2 j.2)
+    one_source d e i j = ap₂ (λ (b : List ℕ) (r : List Relation). source b r) (i.0 ∙ sym j.0) (texts.one (plain_by civil bytes) d.says e.says i.2 j.2)
       where
         source : List ℕ → List Relation → Source (List Relation)
         source b r = record { bytes = b; says = r }
@@ -134,50 +137,71 @@ module _ (texts : DatabaseTexts) (one_fault : OneDatabaseFault) (civil : Bool) (
 
 -- ---- the query
 
--- a text has one fault at most over a database
-abbrev pub OneQueryFault : Bool → Type 0
-OneQueryFault tense = (db : List Relation) (bytes : List ℕ) (f g : QueryFault) → IsFaultyAs tense db bytes f → IsFaultyAs tense db bytes g → f ≡ g
+-- a text is refused for one reason at most over a database: for a fault, for its formulas or for their depth
+pub record OneQueryFault (language : QueryLanguage) : Type 0 where
+  pub fault : (db : List Relation) (bytes : List ℕ) (f g : QueryFault) → IsFaultyAs language db bytes f → IsFaultyAs language db bytes g → f ≡ g
+  pub few : (db : List Relation) (bytes : List ℕ) (f : QueryFault) → IsFaultyAs language db bytes f → IsOverIn HasTooMany language db bytes → ⊥
+  pub shallow : (db : List Relation) (bytes : List ℕ) (f : QueryFault) → IsFaultyAs language db bytes f → IsOverIn IsTooDeep language db bytes → ⊥
+  pub limit : (db : List Relation) (bytes : List ℕ) → IsOverIn HasTooMany language db bytes → IsOverIn IsTooDeep language db bytes → ⊥
 
-pub data QueryRefused (tense : Bool) (db : List Relation) (bytes : List ℕ) : Refusal → Type 0 where
-  longer : 16777216 < length bytes → QueryRefused tense db bytes LongQuery
-  wrong : (fault : QueryFault) → length bytes ≤ 16777216 → IsFaultyAs tense db bytes fault → QueryRefused tense db bytes (Query fault)
+pub data QueryRefused (language : QueryLanguage) (db : List Relation) (bytes : List ℕ) : Refusal → Type 0 where
+  longer : 16777216 < length bytes → QueryRefused language db bytes LongQuery
+  wrong : (fault : QueryFault) → length bytes ≤ 16777216 → IsFaultyAs language db bytes fault → QueryRefused language db bytes (Query fault)
+  large : length bytes ≤ 16777216 → IsOverIn HasTooMany language db bytes → QueryRefused language db bytes Formulas
+  deep : length bytes ≤ 16777216 → IsOverIn IsTooDeep language db bytes → QueryRefused language db bytes Depth
 
-pub query_refused : (tense : Bool) (db : List Relation) (seen : ShelfSeen) (name : Identifier) (bytes : List ℕ) (e : Refusal) → IsQueryReadOf tense db seen name bytes (Err e) → Lasts e → QueryRefused tense db bytes e
-query_refused tense db seen name bytes LongQuery is l = longer is.0
-query_refused tense db seen name bytes (Query fault) is l = wrong fault is.0 is.1
-query_refused tense db seen name bytes ReadQuery is l = absurd l
-query_refused tense db seen name bytes Memory is l = absurd l
-query_refused tense db seen name bytes _ is l = absurd is
+pub query_refused : (language : QueryLanguage) (db : List Relation) (seen : ShelfSeen) (name : Identifier) (bytes : List ℕ) (e : Refusal) → IsQueryReadOf language db seen name bytes (Err e) → Lasts e → QueryRefused language db bytes e
+query_refused language db seen name bytes LongQuery is l = longer is.0
+query_refused language db seen name bytes (Query fault) is l = wrong fault is.0 is.1
+query_refused language db seen name bytes Formulas is l = large is.0 is.1
+query_refused language db seen name bytes Depth is l = deep is.0 is.1
+query_refused language db seen name bytes ReadQuery is l = absurd l
+query_refused language db seen name bytes Memory is l = absurd l
+query_refused language db seen name bytes _ is l = absurd is
 
-module _ (tense : Bool) (one_fault : OneQueryFault tense) (db : List Relation) (bytes : List ℕ) where
-  pub query_refused_alike : (e f : Refusal) → QueryRefused tense db bytes e → QueryRefused tense db bytes f → e ≡ f
+module _ (language : QueryLanguage) (one_fault : OneQueryFault language) (db : List Relation) (bytes : List ℕ) where
+  pub query_refused_alike : (e f : Refusal) → QueryRefused language db bytes e → QueryRefused language db bytes f → e ≡ f
   query_refused_alike _ _ (longer above) (longer more) = refl
   query_refused_alike _ _ (longer above) (wrong g short is) = absurd (no_longer (length bytes) short above)
   query_refused_alike _ _ (wrong f short is) (longer above) = absurd (no_longer (length bytes) short above)
-  query_refused_alike _ _ (wrong f short is) (wrong g below again) = ap Query (one_fault db bytes f g is again)
+  query_refused_alike _ _ (wrong f short is) (wrong g below again) = ap Query (one_fault.fault db bytes f g is again)
+  query_refused_alike _ _ (longer above) (large short is) = absurd (no_longer (length bytes) short above)
+  query_refused_alike _ _ (longer above) (deep short is) = absurd (no_longer (length bytes) short above)
+  query_refused_alike _ _ (large short is) (longer above) = absurd (no_longer (length bytes) short above)
+  query_refused_alike _ _ (deep short is) (longer above) = absurd (no_longer (length bytes) short above)
+  query_refused_alike _ _ (wrong f short is) (large below over) = absurd (one_fault.few db bytes f is over)
+  query_refused_alike _ _ (wrong f short is) (deep below over) = absurd (one_fault.shallow db bytes f is over)
+  query_refused_alike _ _ (large below over) (wrong f short is) = absurd (one_fault.few db bytes f is over)
+  query_refused_alike _ _ (deep below over) (wrong f short is) = absurd (one_fault.shallow db bytes f is over)
+  query_refused_alike _ _ (large short over) (large below again) = refl
+  query_refused_alike _ _ (large short over) (deep below again) = absurd (one_fault.limit db bytes over again)
+  query_refused_alike _ _ (deep below again) (large short over) = absurd (one_fault.limit db bytes over again)
+  query_refused_alike _ _ (deep short over) (deep below again) = refl
 
-module _ (tense : Bool) (texts : QueryTexts tense) (one_fault : OneQueryFault tense) (db : List Relation) (bytes : List ℕ) where
-  query_stands : (q : Question) → length bytes ≤ 16777216 → IsSortedAs tense db bytes q → (e : Refusal) → QueryRefused tense db bytes e → ⊥
+module _ (language : QueryLanguage) (texts : QueryTexts language) (one_fault : OneQueryFault language) (db : List Relation) (bytes : List ℕ) where
+  query_stands : (q : Question) → length bytes ≤ 16777216 → IsSortedAs language db bytes q → (e : Refusal) → QueryRefused language db bytes e → ⊥
   query_stands q short is _ (longer above) = no_longer (length bytes) short above
   query_stands q short is _ (wrong fault below f) = texts.faultless db bytes q fault is f
+  query_stands q short is _ (large below over) = texts.few db bytes q is over
+  query_stands q short is _ (deep below over) = texts.shallow db bytes q is over
 
   module _ (seen further : ShelfSeen) (name : Identifier) where
-    one_question : (d e : Source Question) → IsQueryReadOf tense db seen name bytes (Ok d) → IsQueryReadOf tense db further name bytes (Ok e) → d ≡ e
+    one_question : (d e : Source Question) → IsQueryReadOf language db seen name bytes (Ok d) → IsQueryReadOf language db further name bytes (Ok e) → d ≡ e
     one_question d e i j = ap₂ (λ (b : List ℕ) (q : Question). source b q) (i.0 ∙ sym j.0) (texts.one db bytes d.says e.says i.2 j.2)
       where
         source : List ℕ → Question → Source Question
         source b q = record { bytes = b; says = q }
 
-    query_of_bytes : (r s : Result (Source Question) Refusal) → IsQueryReadOf tense db seen name bytes r → IsQueryReadOf tense db further name bytes s → Lasting r → Lasting s → Agree (λ d e. d ≡ e) r s
-    query_of_bytes = by_parts (IsQueryReadOf tense db seen name bytes) (IsQueryReadOf tense db further name bytes) (λ d e. d ≡ e) one_question
-        (λ d f i j l. query_stands d.says i.1 i.2 f (query_refused tense db further name bytes f j l))
-        (λ e d i j l. query_stands d.says j.1 j.2 e (query_refused tense db seen name bytes e i l))
-        (λ e f i j l m. query_refused_alike tense one_fault db bytes e f (query_refused tense db seen name bytes e i l) (query_refused tense db further name bytes f j m))
+    query_of_bytes : (r s : Result (Source Question) Refusal) → IsQueryReadOf language db seen name bytes r → IsQueryReadOf language db further name bytes s → Lasting r → Lasting s → Agree (λ d e. d ≡ e) r s
+    query_of_bytes = by_parts (IsQueryReadOf language db seen name bytes) (IsQueryReadOf language db further name bytes) (λ d e. d ≡ e) one_question
+        (λ d f i j l. query_stands d.says i.1 i.2 f (query_refused language db further name bytes f j l))
+        (λ e d i j l. query_stands d.says j.1 j.2 e (query_refused language db seen name bytes e i l))
+        (λ e f i j l m. query_refused_alike language one_fault db bytes e f (query_refused language db seen name bytes e i l) (query_refused language db further name bytes f j m))
 
     pub query_agree : ((read : List ℕ) → AreBytesOf seen name read → read ≡ bytes) → ((read : List ℕ) → AreBytesOf further name read → read ≡ bytes)
-        → (r s : Result (Source Question) Refusal) → IsQueryRead tense db seen name r → IsQueryRead tense db further name s → Lasting r → Lasting s → Agree (λ d e. d ≡ e) r s
+        → (r s : Result (Source Question) Refusal) → IsQueryRead language db seen name r → IsQueryRead language db further name s → Lasting r → Lasting s → Agree (λ d e. d ≡ e) r s
     query_agree told again r s i j =
-        query_of_bytes r s (subst (λ b. IsQueryReadOf tense db seen name b r) (told i.bytes i.told) i.is) (subst (λ b. IsQueryReadOf tense db further name b s) (again j.bytes j.told) j.is)
+        query_of_bytes r s (subst (λ b. IsQueryReadOf language db seen name b r) (told i.bytes i.told) i.is) (subst (λ b. IsQueryReadOf language db further name b s) (again j.bytes j.told) j.is)
 
 -- ---- the plan
 

@@ -1,5 +1,5 @@
 -- Two runs of one task over the same bytes end alike.
-use Rattle.std.proofs.Common.{◌≡◌, ◌≢◌, inl, inr, ◌++◌, ◌∙◌, ℕ, ℤ, Bool, false, List, length, Ordering, Less, Equal, Greater, refl, sym, ap, ap₂, subst, Option, Some, None}
+use Rattle.std.proofs.Common.{◌≡◌, ◌≢◌, inl, inr, ◌++◌, ◌∙◌, ℕ, ℤ, Bool, List, length, Ordering, Less, Equal, Greater, refl, sym, ap, ap₂, subst, Option, Some, None}
 use Rattle.std.specs.Prelude.{pos, codes}
 use Rattle.std.specs.Cmp.{IsTotalOrder}
 use Rattle.std.specs.Cmp.Lexicographic.{slice_cmp}
@@ -26,6 +26,7 @@ use Rattle.lrp_outputs.specs.SampleLines.{sample_lines}
 use Rattle.lrp_sample.specs.Texts.{sample_database, sample_query}
 use Rattle.lrp_top.specs.Written.{IsSorted}
 use Rattle.lrp_top.specs.Telling.{TellsNumber, TellsPage, TellsRanges, TellsWitness}
+use Rattle.lrp_top.specs.declared.language.QueryLanguage.TheVariants.{FirstOrder}
 use Rattle.lrp_count.specs.Numbers.{HasSize}
 use Rattle.lrp_count.specs.Ranges.{AreRanges, InWindowOf, IsAnswerTime}
 use Rattle.lrp_count.specs.declared.windows.Range.{Range}
@@ -102,7 +103,7 @@ OneCells = (steps : Steps) (db : List Relation) (q : Question) (s count other : 
 abbrev pub OneCount : Type 0
 OneCount = (db : List Relation) (q : Question) (from to : ℤ) (count other : ℕ) → HasAnswerCount db q from to count → HasAnswerCount db q from to other → count ≡ other
 
-module _ (texts : DatabaseTexts) (queries : QueryTexts false) (one_rank : OneRank) (whole : WholeTuples) (one_cells : OneCells) (one_count : OneCount) (seed size : ℕ) where
+module _ (texts : DatabaseTexts) (queries : QueryTexts FirstOrder) (one_rank : OneRank) (whole : WholeTuples) (one_cells : OneCells) (one_count : OneCount) (seed size : ℕ) where
   -- what the sample tells of these relations and this query
   record TellsOf (bytes : List ℕ) (db : List Relation) (q : Question) : Type 0 where
     cells : ℕ

@@ -6,7 +6,7 @@ use Rattle.lrp_model.specs.Formulas.{Question}
 use Rattle.lrp_model.specs.Rows.{Tuple}
 use Rattle.lrp_model.specs.Sorts.{time_count}
 use Rattle.lrp_model.specs.Satisfaction.{IsAnswer}
-use Rattle.lrp_model.specs.Texts.{Text}
+use Rattle.lrp_model.specs.Texts.{Identifier, Text}
 use Rattle.lrp_model.specs.declared.relations.Relation.{Relation}
 use Rattle.lrp_canon.specs.Rows.{IsLeastPeriod, IsSetOfRows}
 use Rattle.lrp_canon.specs.Answers.{HasNumber}
@@ -21,8 +21,8 @@ OneRowCount = (db : List Relation) (q : Question) (n m : ℕ) → HasCanonicalRo
 
 -- queries with one head, one time column and the same answers have one text in rows of a period
 abbrev pub OneAnswerText : Type 0
-OneAnswerText = (K : ℕ) (db further : List Relation) (q r : Question) (bytes other : List ℕ) → q.head ≡ r.head → time_count q.head ≡ 1 → ((tuple : Tuple) → IsAnswer db q tuple ↔ IsAnswer further r tuple)
-    → IsAnswerTextOf K db q bytes → IsAnswerTextOf K further r other → bytes ≡ other
+OneAnswerText = (K : ℕ) (called : Identifier) (db further : List Relation) (q r : Question) (bytes other : List ℕ) → q.head ≡ r.head → time_count q.head ≡ 1 → ((tuple : Tuple) → IsAnswer db q tuple ↔ IsAnswer further r tuple)
+    → IsAnswerTextOf called K db q bytes → IsAnswerTextOf called K further r other → bytes ≡ other
 
 -- ---- queries with the same answers
 
@@ -52,7 +52,7 @@ one_period db further q r same period other h k =
     let high : other ≤ period = k.least period (rows_moved db further q r same period h.is) in
     omega arith
 
-pub one_canonical : OneAnswerText → (db further : List Relation) (q r : Question) → HaveSameAnswers db further q r → (bytes other : List ℕ) → IsCanonicalText db q bytes → IsCanonicalText further r other → bytes ≡ other
-one_canonical one db further q r same bytes other h k =
+pub one_canonical : OneAnswerText → (called : Identifier) (db further : List Relation) (q r : Question) → HaveSameAnswers db further q r → (bytes other : List ℕ) → IsCanonicalText called db q bytes → IsCanonicalText called further r other → bytes ≡ other
+one_canonical one called db further q r same bytes other h k =
     let period : h.period ≡ k.period = one_period db further q r same h.period k.period h.least k.least in
-    one k.period db further q r bytes other same.head h.column same.answers (subst (λ K. IsAnswerTextOf K db q bytes) period h.text) k.text
+    one k.period called db further q r bytes other same.head h.column same.answers (subst (λ K. IsAnswerTextOf called K db q bytes) period h.text) k.text

@@ -29,11 +29,13 @@ use Rattle.lrp_top.specs.Seen.{ShelfSeen, AreBytesOf, HasFailed}
 use Rattle.lrp_top.specs.Sources.{Source}
 use Rattle.lrp_top.specs.Steps.{Then, Behind}
 use Rattle.lrp_top.specs.Telling.{TellsNumber, TellsPage, TellsPlan, TellsRanges, TellsWitness}
-use Rattle.lrp_top.specs.Written.{IsFaultyAs, plain_if}
+use Rattle.lrp_top.specs.Written.{IsFaultyAs, IsOverIn, plain_by}
+use Rattle.lrp_top.specs.Languages.{civil_by, language_by}
+use Rattle.lrp_wide.specs.Limits.{HasTooMany, IsTooDeep}
 use Rattle.lrp_outputs.specs.declared.head.HeadNeed.{HeadNeed}
 use Rattle.lrp_outputs.specs.declared.head.HeadNeed.TheVariants.{Canon}
 use Rattle.lrp_outputs.specs.declared.refusal.Refusal.{Refusal}
-use Rattle.lrp_outputs.specs.declared.refusal.Refusal.TheVariants.{ReadDatabase, LongDatabase, Database, ReadQuery, LongQuery, Query, PeriodLimit, BoundLimit, TokenForm, TokenShape, TokenStale, Cells, Head, CanonRows, Memory}
+use Rattle.lrp_outputs.specs.declared.refusal.Refusal.TheVariants.{ReadDatabase, LongDatabase, Database, ReadQuery, LongQuery, Query, Formulas, Depth, PeriodLimit, BoundLimit, TokenForm, TokenShape, TokenStale, Cells, Head, CanonRows, Memory}
 
 -- what a task asks of two files: the files, what the head needs, the token of a page and the cap, where it has them
 pub record Asked : Type 0 where
@@ -67,14 +69,16 @@ pub data Onward (digest : List ℕ) (a : Asked) (db : List Relation) (q : Questi
 pub data Case (seen : ShelfSeen) (a : Asked) (files : Contents) (Tells : Telling) : Outcome → Type 0 where
   unread_database : HasFailed seen a.of.database → Case seen a files Tells (Err ReadDatabase)
   long_database : 16777216 < length files.database → Case seen a files Tells (Err LongDatabase)
-  no_database : (fault : DbFault) → length files.database ≤ 16777216 → IsDatabaseFault (plain_if a.of.civil files.database) fault → Case seen a files Tells (Err (Database fault))
-  unread_query : (db : List Relation) → SaysRelations a.of.civil files db → HasFailed seen a.of.query → Case seen a files Tells (Err ReadQuery)
-  long_query : (db : List Relation) → SaysRelations a.of.civil files db → 16777216 < length files.query → Case seen a files Tells (Err LongQuery)
-  no_query : (db : List Relation) → SaysRelations a.of.civil files db → (fault : QueryFault) → length files.query ≤ 16777216 → IsFaultyAs a.of.tense db files.query fault → Case seen a files Tells (Err (Query fault))
-  no_head : (db : List Relation) → SaysRelations a.of.civil files db → (q : Question) → SaysQuestion a.of.tense files db q → (unmet : HeadNeed) → a.need ≡ Some unmet → (IsMetBy unmet q.head → ⊥) → Case seen a files Tells (Err (Head unmet))
-  above_period : (db : List Relation) → SaysRelations a.of.civil files db → (q : Question) → SaysQuestion a.of.tense files db q → 2 ^ 62 < period db q.body → Case seen a files Tells (Err PeriodLimit)
-  above_bound : (db : List Relation) → SaysRelations a.of.civil files db → (q : Question) → SaysQuestion a.of.tense files db q → period db q.body ≤ 2 ^ 62 → 2 ^ 62 < scaled_reach (plan_by a.of.way db q) q → Case seen a files Tells (Err BoundLimit)
-  planned : (db : List Relation) → SaysRelations a.of.civil files db → (q : Question) → SaysQuestion a.of.tense files db q → IsWithinLimits (plan_by a.of.way db q) db q → (p : Plan) → IsPlan p (plan_by a.of.way db q) db q → (outcome : Outcome) → Onward (digest_of files) a db q (λ tuple. Tells (digest_of files) p tuple db q) outcome → Case seen a files Tells outcome
+  no_database : (fault : DbFault) → length files.database ≤ 16777216 → IsDatabaseFault (plain_by (civil_by a.of) files.database) fault → Case seen a files Tells (Err (Database fault))
+  unread_query : (db : List Relation) → SaysRelations (civil_by a.of) files db → HasFailed seen a.of.query → Case seen a files Tells (Err ReadQuery)
+  long_query : (db : List Relation) → SaysRelations (civil_by a.of) files db → 16777216 < length files.query → Case seen a files Tells (Err LongQuery)
+  no_query : (db : List Relation) → SaysRelations (civil_by a.of) files db → (fault : QueryFault) → length files.query ≤ 16777216 → IsFaultyAs (language_by a.of) db files.query fault → Case seen a files Tells (Err (Query fault))
+  too_many : (db : List Relation) → SaysRelations (civil_by a.of) files db → length files.query ≤ 16777216 → IsOverIn HasTooMany (language_by a.of) db files.query → Case seen a files Tells (Err Formulas)
+  too_deep : (db : List Relation) → SaysRelations (civil_by a.of) files db → length files.query ≤ 16777216 → IsOverIn IsTooDeep (language_by a.of) db files.query → Case seen a files Tells (Err Depth)
+  no_head : (db : List Relation) → SaysRelations (civil_by a.of) files db → (q : Question) → SaysQuestion (language_by a.of) files db q → (unmet : HeadNeed) → a.need ≡ Some unmet → (IsMetBy unmet q.head → ⊥) → Case seen a files Tells (Err (Head unmet))
+  above_period : (db : List Relation) → SaysRelations (civil_by a.of) files db → (q : Question) → SaysQuestion (language_by a.of) files db q → 2 ^ 62 < period db q.body → Case seen a files Tells (Err PeriodLimit)
+  above_bound : (db : List Relation) → SaysRelations (civil_by a.of) files db → (q : Question) → SaysQuestion (language_by a.of) files db q → period db q.body ≤ 2 ^ 62 → 2 ^ 62 < scaled_reach (plan_by a.of.way db q) q → Case seen a files Tells (Err BoundLimit)
+  planned : (db : List Relation) → SaysRelations (civil_by a.of) files db → (q : Question) → SaysQuestion (language_by a.of) files db q → IsWithinLimits (plan_by a.of.way db q) db q → (p : Plan) → IsPlan p (plan_by a.of.way db q) db q → (outcome : Outcome) → Onward (digest_of files) a db q (λ tuple. Tells (digest_of files) p tuple db q) outcome → Case seen a files Tells outcome
   wanted : Case seen a files Tells (Err Memory)
 
 -- ---- the bytes of files
@@ -140,7 +144,7 @@ pub record Reached (seen : ShelfSeen) (a : Asked) (Tells : Telling) (outcome : O
 
 module _ (seen : ShelfSeen) (a : Asked) (Tells : Telling) (Due : Next) (goes_on : GoesOn a Tells Due) where
   -- the query is planned
-  planned_as : (files : Contents) (db : List Relation) → SaysRelations a.of.civil files db → (q : Question) → SaysQuestion a.of.tense files db q
+  planned_as : (files : Contents) (db : List Relation) → SaysRelations (civil_by a.of) files db → (q : Question) → SaysQuestion (language_by a.of) files db q
       → (outcome : Outcome) (plan : Result Plan Refusal) → IsPlanned a.of.way db q plan → Behind plan (Due (record { bytes = files.database; says = db }) (record { bytes = files.query; says = q })) outcome → Case seen a files Tells outcome
   planned_as files db d q s outcome (Ok p) is next = planned db d q s is.1 p is.0 outcome (goes_on files db q p outcome next)
   planned_as files db d q s outcome (Err PeriodLimit) is next = subst (Case seen a files Tells) (sym next) (above_period db d q s is)
@@ -158,7 +162,7 @@ module _ (seen : ShelfSeen) (a : Asked) (Tells : Telling) (Due : Next) (goes_on 
   behind_head db q plan (Err (Head unmet)) is next = inr (unmet, is.0, is.1, next)
   behind_head db q plan (Err _) is next = absurd is
 
-  fitted_as : (files : Contents) (db : List Relation) → SaysRelations a.of.civil files db → (q : Question) → SaysQuestion a.of.tense files db q
+  fitted_as : (files : Contents) (db : List Relation) → SaysRelations (civil_by a.of) files db → (q : Question) → SaysQuestion (language_by a.of) files db q
       → (outcome : Outcome) (plan : Result Plan Refusal) → IsPlannedAs a.of.way a.need db q plan → Behind plan (AfterHead files db q) outcome → Case seen a files Tells outcome
   fitted_as files db d q s outcome plan is next =
       elim (behind_head db q plan is.first is.is is.next) [
@@ -171,8 +175,8 @@ module _ (seen : ShelfSeen) (a : Asked) (Tells : Telling) (Due : Next) (goes_on 
   AfterQuery d q = Then (IsPlannedAs a.of.way a.need d.says q.says) (Due d q)
 
   -- the query is read
-  queried_as : (files : Contents) (db : List Relation) → SaysRelations a.of.civil files db
-      → (outcome : Outcome) (query : Result (Source Question) Refusal) → IsQueryReadOf a.of.tense db seen a.of.query files.query query → Behind query (AfterQuery (record { bytes = files.database; says = db })) outcome → Case seen a files Tells outcome
+  queried_as : (files : Contents) (db : List Relation) → SaysRelations (civil_by a.of) files db
+      → (outcome : Outcome) (query : Result (Source Question) Refusal) → IsQueryReadOf (language_by a.of) db seen a.of.query files.query query → Behind query (AfterQuery (record { bytes = files.database; says = db })) outcome → Case seen a files Tells outcome
   queried_as files db d outcome (Ok q) is next =
       let same : q ≡ record { bytes = files.query; says = q.says } = ap (λ bytes. asked bytes q.says) is.0 in
       let then : AfterQuery (record { bytes = files.database; says = db }) (record { bytes = files.query; says = q.says }) outcome = subst (λ s. AfterQuery (record { bytes = files.database; says = db }) s outcome) same next in
@@ -183,12 +187,14 @@ module _ (seen : ShelfSeen) (a : Asked) (Tells : Telling) (Due : Next) (goes_on 
   queried_as files db d outcome (Err ReadQuery) is next = subst (Case seen a files Tells) (sym next) (unread_query db d is)
   queried_as files db d outcome (Err LongQuery) is next = subst (Case seen a files Tells) (sym next) (long_query db d is.0)
   queried_as files db d outcome (Err (Query fault)) is next = subst (Case seen a files Tells) (sym next) (no_query db d fault is.0 is.1)
+  queried_as files db d outcome (Err Formulas) is next = subst (Case seen a files Tells) (sym next) (too_many db d is.0 is.1)
+  queried_as files db d outcome (Err Depth) is next = subst (Case seen a files Tells) (sym next) (too_deep db d is.0 is.1)
   queried_as files db d outcome (Err Memory) is next = subst (Case seen a files Tells) (sym next) wanted
   queried_as files db d outcome (Err _) is next = absurd is
 
   -- what is due behind the database
   abbrev AfterDatabase : Source (List Relation) → Outcome → Type 0
-  AfterDatabase d = Then (IsQueryRead a.of.tense d.says seen a.of.query) (AfterQuery d)
+  AfterDatabase d = Then (IsQueryRead (language_by a.of) d.says seen a.of.query) (AfterQuery d)
 
   -- the bytes of the query that nobody read
   unread : (outcome : Outcome) (database : List ℕ) → AreBytesOf seen a.of.database database → ((query : List ℕ) → Case seen a (two_files database query) Tells outcome) → Reached seen a Tells outcome
@@ -198,7 +204,7 @@ module _ (seen : ShelfSeen) (a : Asked) (Tells : Telling) (Due : Next) (goes_on 
 
   -- the database is read
   read_as : (outcome : Outcome) (bytes : List ℕ) → AreBytesOf seen a.of.database bytes
-      → (database : Result (Source (List Relation)) Refusal) → IsDatabaseReadOf a.of.civil seen a.of.database bytes database → Behind database AfterDatabase outcome → Reached seen a Tells outcome
+      → (database : Result (Source (List Relation)) Refusal) → IsDatabaseReadOf (civil_by a.of) seen a.of.database bytes database → Behind database AfterDatabase outcome → Reached seen a Tells outcome
   read_as outcome bytes told (Ok d) is next =
       let same : d ≡ record { bytes = bytes; says = d.says } = ap (λ b. source b d.says) is.0 in
       let then : AfterDatabase (record { bytes = bytes; says = d.says }) outcome = subst (λ s. AfterDatabase s outcome) same next in
@@ -224,9 +230,9 @@ module _ (seen : ShelfSeen) (a : Asked) (Tells : Telling) (Due : Next) (goes_on 
 
 -- ---- the commands
 
-pub answer_goes_on : (a : Asked) (cap : ℕ) → a.cap ≡ Some cap → a.after ≡ None → GoesOn a (λ digest p tuple. IsAnswerText) (IsAnswered a.of.way false cap)
-answer_goes_on a cap e n files db q p outcome due =
-    counted_as (digest_of files) a db q (λ tuple. IsAnswerText db q) None cap e (subst (λ t. IsResumed (digest_of files) q.head t (Ok None)) (sym n) refl) outcome due.first due.is due.next
+pub answer_goes_on : (a : Asked) (called : Identifier) (cap : ℕ) → a.cap ≡ Some cap → a.after ≡ None → GoesOn a (λ digest p tuple. IsAnswerText called) (IsAnswered a.of.way false called cap)
+answer_goes_on a called cap e n files db q p outcome due =
+    counted_as (digest_of files) a db q (λ tuple. IsAnswerText called db q) None cap e (subst (λ t. IsResumed (digest_of files) q.head t (Ok None)) (sym n) refl) outcome due.first due.is due.next
 
 -- the rows of the canonical answer are counted, and then it is told
 rows_as : (digest : List ℕ) (a : Asked) (db : List Relation) (q : Question) (Tells : Option Tuple → List ℕ → Type 0) (tuple : Option Tuple) (cap : ℕ) → a.need ≡ Some Canon → a.cap ≡ Some cap → IsResumed digest q.head a.after (Ok tuple) → IsFew a.of.way a.cap db q
@@ -245,9 +251,9 @@ cells_as digest a db q Tells tuple cap c e resumed outcome (Err (Cells most step
 cells_as digest a db q Tells tuple cap c e resumed outcome (Err Memory) told next = subst (Onward digest a db q Tells) (sym next) want
 cells_as digest a db q Tells tuple cap c e resumed outcome (Err _) told next = absurd told
 
-pub canonical_goes_on : (a : Asked) (cap : ℕ) → a.need ≡ Some Canon → a.cap ≡ Some cap → a.after ≡ None → GoesOn a (λ digest p tuple. IsCanonicalText) (IsAnswered a.of.way true cap)
-canonical_goes_on a cap c e n files db q p outcome due =
-    cells_as (digest_of files) a db q (λ tuple. IsCanonicalText db q) None cap c e (subst (λ t. IsResumed (digest_of files) q.head t (Ok None)) (sym n) refl) outcome due.first due.is due.next
+pub canonical_goes_on : (a : Asked) (called : Identifier) (cap : ℕ) → a.need ≡ Some Canon → a.cap ≡ Some cap → a.after ≡ None → GoesOn a (λ digest p tuple. IsCanonicalText called) (IsAnswered a.of.way true called cap)
+canonical_goes_on a called cap c e n files db q p outcome due =
+    cells_as (digest_of files) a db q (λ tuple. IsCanonicalText called db q) None cap c e (subst (λ t. IsResumed (digest_of files) q.head t (Ok None)) (sym n) refl) outcome due.first due.is due.next
 
 pub decide_goes_on : (a : Asked) (dates : Bool) (cap : ℕ) → a.cap ≡ Some cap → a.after ≡ None → GoesOn a (λ digest p tuple. TellsWitness dates) (IsDecided a.of.way dates cap)
 decide_goes_on a dates cap e n files db q p outcome due =

@@ -16,7 +16,7 @@ use Rattle.lrp_top.specs.Due.{IsDueOf, IsDueFor, IsDatabaseReadOf, IsOutput, IsA
 use Rattle.lrp_run_laws.specs.Contents.{Contents, contents_at, contents_of, digest_of, OverDatabase, OverQuery, Asking, SaysRelations, two_files}
 use Rattle.lrp_run_laws.specs.Tasks.{IsOutputOf, TellsPlanOf, TellsPageBehind}
 use Rattle.lrp_run_laws.specs.Runs.{Run, WroteAll}
-use Rattle.lrp_run_laws.specs.Reasons.{HasOtherHead, IsRefusedBehind, HasMany, HasManyRows, IsNoDatabase, IsNoQuery, IsNoTokenOf, IsAboveLimits, IsDatabaseRefused, IsQueryRefused, IsQueryAbove, HasFailedFile, HasFailedOneOf, IsReason, HasReasonFor, HasTaskReason, IsUsage}
+use Rattle.lrp_run_laws.specs.Reasons.{HasOtherHead, IsRefusedBehind, HasMany, HasManyRows, IsNoDatabase, IsNoQuery, IsNoTokenOf, IsAboveLimits, IsDatabaseRefused, IsQueryRefused, IsQueryAbove, IsQueryTooLarge, HasFailedFile, HasFailedOneOf, IsReason, HasReasonFor, HasTaskReason, IsUsage}
 use Rattle.lrp_top.specs.Canonical.{IsCanonicalText}
 use Rattle.lrp_outputs.specs.Outcomes.{Outcome, refused_with, status_of, written_of, line_of}
 use Rattle.lrp_top.specs.Ends.{Ends}
@@ -26,6 +26,7 @@ use Rattle.lrp_top.specs.Seen.{ShelfSeen, SinkSeen, AreBytesOf}
 use Rattle.lrp_top.specs.Sources.{Source}
 use Rattle.lrp_top.specs.Steps.{Behind}
 use Rattle.lrp_top.specs.Telling.{TellsNumber, TellsPage, TellsPlan, TellsRanges, TellsRelations, TellsWitness}
+use Rattle.lrp_top.specs.Languages.{civil_by, language_by, usual_by}
 use Rattle.lrp_outputs.specs.declared.head.HeadNeed.TheVariants as needs
 use Rattle.lrp_outputs.specs.declared.head.HeadNeed.TheVariants.{Canon}
 use Rattle.lrp_outputs.specs.declared.refusal.Refusal.{Refusal}
@@ -35,23 +36,23 @@ use Rattle.lrp_outputs.specs.declared.status.Status.TheVariants as status
 use Rattle.lrp_run_laws.proofs.Explained.{Explained, OutcomeFor, is_memory}
 use Rattle.lrp_run_laws.proofs.LintCauses.{lint_explained}
 use Rattle.lrp_run_laws.proofs.WatchCauses.{watch_explained}
-use Rattle.lrp_run_laws.proofs.Cases.{Asked, Reached, Telling, output, form, other, stale, many, rows, want, Case, unread_database, long_database, no_database, unread_query, long_query, no_query, no_head, above_period, above_bound, planned, wanted, reached, answer_goes_on, canonical_goes_on, decide_goes_on, explain_goes_on, list_goes_on, number_goes_on, ranges_go_on}
+use Rattle.lrp_run_laws.proofs.Cases.{Asked, Reached, Telling, output, form, other, stale, many, rows, want, Case, unread_database, long_database, no_database, unread_query, long_query, no_query, no_head, too_many, too_deep, above_period, above_bound, planned, wanted, reached, answer_goes_on, canonical_goes_on, decide_goes_on, explain_goes_on, list_goes_on, number_goes_on, ranges_go_on}
 
 -- ---- a task that asks a query
 
 -- the query's refusals, and its limits
 abbrev RefusedFor : Asked → Contents → Type 0
-RefusedFor a files = OverDatabase a.of.civil files (λ db. IsNoQuery files a.of.tense db ⊎ OverQuery a.of.tense files (IsRefusedBehind a.need (digest_of files) a.after) db)
+RefusedFor a files = OverDatabase (civil_by a.of) files (λ db. IsNoQuery files (language_by a.of) db ⊎ OverQuery (language_by a.of) files (IsRefusedBehind a.need (digest_of files) a.after) db)
 
 abbrev AboveFor : Asked → Contents → Type 0
-AboveFor a files = OverDatabase a.of.civil files (OverQuery a.of.tense files (IsAboveLimits a.of.way a.need a.cap))
+AboveFor a files = OverDatabase (civil_by a.of) files (λ db. IsQueryTooLarge files (language_by a.of) db ⊎ OverQuery (language_by a.of) files (IsAboveLimits a.of.way a.need a.cap) db)
 
 -- why the task is refused with a status
 abbrev RefusalFor : Asked → Contents → ShelfSeen → Status → Type 0
-RefusalFor a files seen status.Database = IsNoDatabase files a.of.civil
+RefusalFor a files seen status.Database = IsNoDatabase files (civil_by a.of)
 RefusalFor a files seen status.Query = RefusedFor a files
 RefusalFor a files seen status.Limit = AboveFor a files
-RefusalFor a files seen status.Read = HasFailedOneOf seen files a.of.civil a.of.database a.of.query
+RefusalFor a files seen status.Read = HasFailedOneOf seen files (civil_by a.of) a.of.database a.of.query
 RefusalFor a files seen status.Memory = Unit {0}
 RefusalFor a files seen _ = ⊥
 
@@ -76,10 +77,12 @@ module _ (seen : ShelfSeen) (a : Asked) (files : Contents) (Tells : Telling) (Sh
   cause_of _ (unread_query db says failed) = inr (record { db = db; says = says; holds = failed })
   cause_of _ (long_query db says long) = record { db = db; says = says; holds = inl (inl long) }
   cause_of _ (no_query db says fault short is) = record { db = db; says = says; holds = inl (inr (fault, is)) }
+  cause_of _ (too_many db says short over) = record { db = db; says = says; holds = inl (short, inl over) }
+  cause_of _ (too_deep db says short over) = record { db = db; says = says; holds = inl (short, inr over) }
   cause_of _ (no_head db says q said unmet asked unfit) =
       record { db = db; says = says; holds = inr (record { q = q; says = said; holds = inl (subst (λ need. HasOtherHead need q) (sym asked) unfit) }) }
-  cause_of _ (above_period db says q said above) = record { db = db; says = says; holds = record { q = q; says = said; holds = inl above } }
-  cause_of _ (above_bound db says q said period above) = record { db = db; says = says; holds = record { q = q; says = said; holds = inr (inl above) } }
+  cause_of _ (above_period db says q said above) = record { db = db; says = says; holds = inr (record { q = q; says = said; holds = inl above }) }
+  cause_of _ (above_bound db says q said period above) = record { db = db; says = says; holds = inr (record { q = q; says = said; holds = inr (inl above) }) }
   cause_of _ (planned db says q said limits p plan _ (output tuple resumed few bytes told)) =
       record { db = db; says = says; holds = record { q = q; says = said; holds = record { limits = limits; holds = show (digest_of files) p tuple db q bytes plan resumed told } } }
   cause_of _ (planned db says q said limits p plan _ (form text is none)) =
@@ -89,9 +92,9 @@ module _ (seen : ShelfSeen) (a : Asked) (files : Contents) (Tells : Telling) (Sh
   cause_of _ (planned db says q said limits p plan _ (stale text is old)) =
       record { db = db; says = says; holds = inr (record { q = q; says = said; holds = inr (subst (λ t. IsNoTokenOf (digest_of files) t db q) (sym is) (inr (inr old))) }) }
   cause_of _ (planned db says q said limits p plan _ (many cells step is tuple resumed first)) =
-      record { db = db; says = says; holds = record { q = q; says = said; holds = inr (inr (inl (subst (λ c. HasMany a.of.way c db q) (sym is) (step, first)))) } }
+      record { db = db; says = says; holds = inr (record { q = q; says = said; holds = inr (inr (inl (subst (λ c. HasMany a.of.way c db q) (sym is) (step, first)))) }) }
   cause_of _ (planned db says q said limits p plan _ (rows most n asked is counted more)) =
-      record { db = db; says = says; holds = record { q = q; says = said; holds = inr (inr (inr (asked, subst (λ c. HasManyRows c db q) (sym is) (n, counted, more)))) } }
+      record { db = db; says = says; holds = inr (record { q = q; says = said; holds = inr (inr (inr (asked, subst (λ c. HasManyRows c db q) (sym is) (n, counted, more)))) }) }
   cause_of _ (planned db says q said limits p plan _ want) = tt
   cause_of _ wanted = tt
 
@@ -106,7 +109,7 @@ both_files seen files of none d q held e = ap (with_edits files) none ∙ ap₂ 
     with_edits files edits = record { database = files.database; query = files.query; edits = edits }
 
 -- the causes of a task that asks a query
-module _ (a : Asked) (files : Contents) (seen : ShelfSeen) (task : Task) (no_database_for : IsNoDatabase files a.of.civil → IsDatabaseRefused files task) (refused : RefusedFor a files → IsQueryRefused files task) (above : AboveFor a files → IsQueryAbove files task) (failed : HasFailedOneOf seen files a.of.civil a.of.database a.of.query → HasFailedFile seen files task) where
+module _ (a : Asked) (files : Contents) (seen : ShelfSeen) (task : Task) (no_database_for : IsNoDatabase files (civil_by a.of) → IsDatabaseRefused files task) (refused : RefusedFor a files → IsQueryRefused files task) (above : AboveFor a files → IsQueryAbove files task) (failed : HasFailedOneOf seen files (civil_by a.of) a.of.database a.of.query → HasFailedFile seen files task) where
   cause_for : (s : Status) → RefusalFor a files seen s → (taken : SinkSeen) → (s ≡ status.Memory → WroteAll taken (line_of Memory)) → IsReason s task files seen taken
   cause_for status.Database h taken line = no_database_for h
   cause_for status.Query h taken line = refused h
@@ -122,12 +125,12 @@ module _ (a : Asked) (files : Contents) (seen : ShelfSeen) (task : Task) (no_dat
   outcome_for Shows shows (Err refusal) h = λ taken line. cause_for (refused_with refusal) h taken (λ e. subst (λ r. WroteAll taken (line_of r)) (is_memory refusal e) line)
 
 -- `check`
-check_written : (civil : Bool) (files : Contents) (db : List Relation) → SaysRelations civil files db → (database : Identifier) (seen : ShelfSeen) → (outcome : Outcome) → IsOutput (TellsRelations db) outcome → OutcomeFor (check database civil) seen files outcome
+check_written : (civil : Bool) (files : Contents) (db : List Relation) → SaysRelations (usual_by civil) files db → (database : Identifier) (seen : ShelfSeen) → (outcome : Outcome) → IsOutput (TellsRelations db) outcome → OutcomeFor (check database civil) seen files outcome
 check_written civil files db says database seen (Ok bytes) told = record { db = db; says = says; holds = told }
 check_written civil files db says database seen (Err Memory) told = λ taken line. line
 check_written civil files db says database seen (Err _) told = absurd told
 
-check_read : (civil : Bool) (database : Identifier) (seen : ShelfSeen) (outcome : Outcome) (bytes : List ℕ) (d : Result (Source (List Relation)) Refusal) → IsDatabaseReadOf civil seen database bytes d → Behind d (λ d. IsOutput (TellsRelations d.says)) outcome
+check_read : (civil : Bool) (database : Identifier) (seen : ShelfSeen) (outcome : Outcome) (bytes : List ℕ) (d : Result (Source (List Relation)) Refusal) → IsDatabaseReadOf (usual_by civil) seen database bytes d → Behind d (λ d. IsOutput (TellsRelations d.says)) outcome
     → OutcomeFor (check database civil) seen (two_files bytes []) outcome
 check_read civil database seen outcome bytes (Ok d) is next = check_written civil (two_files bytes []) d.says (record { short = is.1; is = is.2 }) database seen outcome next
 check_read civil database seen outcome bytes (Err ReadDatabase) is next = subst (OutcomeFor (check database civil) seen (two_files bytes [])) (sym next) (λ taken line. is)
@@ -143,8 +146,8 @@ sample_written seed size seen files (Err Memory) told = λ taken line. line
 sample_written seed size seen files (Err _) told = absurd told
 
 -- a task that asks a query
-module _ (a : Asked) (seen : ShelfSeen) (task : Task) (no_database_for : (files : Contents) → IsNoDatabase files a.of.civil → IsDatabaseRefused files task) (refused : (files : Contents) → RefusedFor a files → IsQueryRefused files task) (above : (files : Contents) → AboveFor a files → IsQueryAbove files task)
-    (failed : (files : Contents) → HasFailedOneOf seen files a.of.civil a.of.database a.of.query → HasFailedFile seen files task) (named : (held : List File) → contents_at held a.of ≡ contents_of held task) where
+module _ (a : Asked) (seen : ShelfSeen) (task : Task) (no_database_for : (files : Contents) → IsNoDatabase files (civil_by a.of) → IsDatabaseRefused files task) (refused : (files : Contents) → RefusedFor a files → IsQueryRefused files task) (above : (files : Contents) → AboveFor a files → IsQueryAbove files task)
+    (failed : (files : Contents) → HasFailedOneOf seen files (civil_by a.of) a.of.database a.of.query → HasFailedFile seen files task) (named : (held : List File) → contents_at held a.of ≡ contents_of held task) where
   asked_explained : (Tells : Telling) (Shows : Shown) → Show a Tells Shows → ((files : Contents) (bytes : List ℕ) → Asking a.of files (Shows (digest_of files) bytes) → IsOutputOf task files bytes) → (outcome : Outcome) → Reached seen a Tells outcome → Explained task seen outcome
   asked_explained Tells Shows show shows outcome r = record {
     files = r.files;
@@ -154,14 +157,14 @@ module _ (a : Asked) (seen : ShelfSeen) (task : Task) (no_database_for : (files 
 
 -- each task
 pub explained : (task : Task) (seen : ShelfSeen) (outcome : Outcome) → IsDueOf task seen outcome → Explained task seen outcome
-explained (ask of cap false) seen outcome due =
+explained (ask of cap false called) seen outcome due =
     let a : Asked = record { of = of; need = None; after = None; cap = Some cap } in
-    asked_explained a seen (ask of cap false) (λ files h. h) (λ files h. h) (λ files h. h) (λ files h. h) (λ held. refl) (λ digest p tuple. IsAnswerText) (λ digest bytes db q. IsAnswerText db q bytes) (λ digest p tuple db q bytes plan resumed told. told) (λ files bytes h. h) outcome
-    (reached seen a (λ digest p tuple. IsAnswerText) (IsAnswered of.way false cap) (answer_goes_on a cap refl refl) outcome due)
-explained (ask of cap true) seen outcome due =
+    asked_explained a seen (ask of cap false called) (λ files h. h) (λ files h. h) (λ files h. h) (λ files h. h) (λ held. refl) (λ digest p tuple. IsAnswerText called) (λ digest bytes db q. IsAnswerText called db q bytes) (λ digest p tuple db q bytes plan resumed told. told) (λ files bytes h. h) outcome
+    (reached seen a (λ digest p tuple. IsAnswerText called) (IsAnswered of.way false called cap) (answer_goes_on a called cap refl refl) outcome due)
+explained (ask of cap true called) seen outcome due =
     let a : Asked = record { of = of; need = Some Canon; after = None; cap = Some cap } in
-    asked_explained a seen (ask of cap true) (λ files h. h) (λ files h. h) (λ files h. h) (λ files h. h) (λ held. refl) (λ digest p tuple. IsCanonicalText) (λ digest bytes db q. IsCanonicalText db q bytes) (λ digest p tuple db q bytes plan resumed told. told) (λ files bytes h. h) outcome
-    (reached seen a (λ digest p tuple. IsCanonicalText) (IsAnswered of.way true cap) (canonical_goes_on a cap refl refl refl) outcome due)
+    asked_explained a seen (ask of cap true called) (λ files h. h) (λ files h. h) (λ files h. h) (λ files h. h) (λ held. refl) (λ digest p tuple. IsCanonicalText called) (λ digest bytes db q. IsCanonicalText called db q bytes) (λ digest p tuple db q bytes plan resumed told. told) (λ files bytes h. h) outcome
+    (reached seen a (λ digest p tuple. IsCanonicalText called) (IsAnswered of.way true called cap) (canonical_goes_on a called cap refl refl refl) outcome due)
 explained (decide of cap dates) seen outcome due =
     let a : Asked = record { of = of; need = None; after = None; cap = Some cap } in
     asked_explained a seen (decide of cap dates) (λ files h. h) (λ files h. h) (λ files h. h) (λ files h. h) (λ held. refl) (λ digest p tuple. TellsWitness dates) (λ digest bytes db q. TellsWitness dates db q bytes) (λ digest p tuple db q bytes plan resumed told. told) (λ files bytes h. h) outcome

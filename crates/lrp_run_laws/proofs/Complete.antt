@@ -1,5 +1,5 @@
 -- A lawful task comes to its output, or to want of memory.
-use Rattle.std.proofs.Common.{◌≡◌, ◌≢◌, ◌⊎◌, ◌||◌, inl, inr, ◌<◌, ◌≤◌, ◌^◌, ◌∙◌, ℕ, ℤ, Bool, true, false, List, length, refl, sym, ap, subst, Option, Some, None, Ok, arith}
+use Rattle.std.proofs.Common.{◌≡◌, ◌≢◌, ◌⊎◌, ◌||◌, inl, inr, ◌<◌, ◌≤◌, ◌^◌, ◌∙◌, ℕ, ℤ, Bool, true, false, List, [], ◌∷◌, length, refl, sym, ap, subst, Option, Some, None, Ok, arith}
 use Rattle.std.specs.List.{AllByRecursion}
 use Rattle.lrp_io.specs.Causes.{Rose}
 use Rattle.lrp_io.specs.declared.shelf.File.{File}
@@ -12,9 +12,9 @@ use Rattle.lrp_model.specs.Rows.{Tuple}
 use Rattle.lrp_model.specs.Periods.{period}
 use Rattle.lrp_model.specs.Plans.{scaled_reach, IsWithinLimits}
 use Rattle.lrp_model.specs.PrintedPages.{IsToken}
-use Rattle.lrp_model.specs.QueryReading.{IsQuery, IsQueryFault}
-use Rattle.lrp_model.specs.RawQueries.{RawQuestion}
-use Rattle.lrp_model.specs.Sorting.{IsWellSorted, IsSortFault}
+use Rattle.lrp_model.specs.QueryReading.{IsFile, IsFileFault, IsQuery, IsQueryFault}
+use Rattle.lrp_model.specs.RawQueries.{RawFileView, RawQuestion}
+use Rattle.lrp_model.specs.Sorting.{IsWellSorted, IsSortFault, query_standing}
 use Rattle.lrp_model.specs.Texts.{Identifier, Text}
 use Rattle.lrp_model.specs.declared.faults.DbFault.{DbFault}
 use Rattle.lrp_model.specs.declared.faults.QueryFault.{QueryFault}
@@ -29,15 +29,23 @@ use Rattle.lrp_token.specs.Reading.{IsNoToken, HasOtherCounts}
 use Rattle.lrp_run_laws.specs.Contents.{Contents, digest_of, Keeping, Linting, OverDatabase, OverEdits, OverNamed, OverQuery, Asking, SaysRelations, Watching, WhereFit, contents_of}
 use Rattle.lrp_run_laws.specs.Tasks.{IsAnswerable, IsLawfulTask, IsResumable, IsTellable, HasFewCells, PassesLimit}
 use Rattle.lrp_run_laws.specs.Runs.{IsRunOf, IsComplete, EndsComplete, Run, task_asked, HaveStoodStill}
-use Rattle.lrp_run_laws.specs.Reasons.{HasManyRows, HasOtherHead, IsRefusedBehind, IsReason, HasReasonFor, HasTaskReason, AreNoEdits, IsNoDatabase, IsNoQuery, IsNoTokenOf, HasMany, IsAboveLimits, IsDatabaseRefused, IsQueryRefused, IsQueryAbove, HasFailedFile, HasFailedOneOf, WhereNamed}
+use Rattle.lrp_run_laws.specs.Reasons.{HasManyRows, HasOtherHead, IsRefusedBehind, IsReason, HasReasonFor, HasTaskReason, AreNoEdits, IsNoDatabase, IsNoQuery, IsNoTokenOf, HasMany, IsAboveLimits, IsDatabaseRefused, IsQueryRefused, IsQueryAbove, IsQueryTooLarge, HasFailedFile, HasFailedOneOf, WhereNamed}
 use Rattle.lrp_top.specs.Resuming.{IsResumed, IsFresh, IsTokenOf, IsStale, shape_of}
 use Rattle.lrp_top.specs.Seen.{ShelfSeen, SinkSeen, HasFailed}
 use Rattle.lrp_top.specs.Due.{query_named}
-use Rattle.lrp_top.specs.Written.{IsPlacedAs, IsSortedAs, IsFaultyAs, plain_if}
+use Rattle.lrp_top.specs.Written.{IsPlacedAs, IsSortedAs, IsFaultyAs, IsOverIn, plain_by, query_plain}
 use Rattle.lrp_outputs.specs.declared.head.HeadNeed.{HeadNeed}
 use Rattle.lrp_outputs.specs.declared.head.HeadNeed.TheVariants as needs
 use Rattle.lrp_outputs.specs.declared.head.HeadNeed.TheVariants.{Canon}
 use Rattle.lrp_top.specs.Heads.{canon_need}
+use Rattle.lrp_top.specs.Languages.{civil_by, language_by, usual_by, usual_language}
+use Rattle.lrp_top.specs.declared.language.QueryLanguage.{QueryLanguage}
+use Rattle.lrp_top.specs.declared.language.QueryLanguage.TheVariants.{FirstOrder, Temporal, Wide}
+use Rattle.lrp_wide.specs.WideSorting.{IsFileSortFault, file_faults}
+use Rattle.lrp_wide.specs.Limits.{HasTooMany, IsTooDeep}
+use Rattle.lrp_wide.specs.Inlining.{expanded_file}
+use Rattle.lrp_model.specs.Faults.{earliest}
+use Rattle.lrp_civil.specs.declared.values.CivilText.{CivilText}
 use Rattle.lrp_outputs.specs.declared.status.Status.{Status}
 use Rattle.lrp_outputs.specs.declared.status.Status.TheVariants as status
 use Rattle.lrp_run_laws.proofs.Canonical.{OneRowCount}
@@ -53,15 +61,17 @@ pub record DatabaseTexts : Type 0 where
   pub one : (bytes : List ℕ) (db other : List Relation) → IsDatabase bytes db → IsDatabase bytes other → db ≡ other
   pub faultless : (bytes : List ℕ) (db : List Relation) (fault : DbFault) → IsDatabase bytes db → IsDatabaseFault bytes fault → ⊥
 
--- a text is of one query at most over a database, and then has no fault
-pub record QueryTexts (tense : Bool) : Type 0 where
-  pub one : (db : List Relation) (bytes : List ℕ) (q other : Question) → IsSortedAs tense db bytes q → IsSortedAs tense db bytes other → q ≡ other
-  pub faultless : (db : List Relation) (bytes : List ℕ) (q : Question) (fault : QueryFault) → IsSortedAs tense db bytes q → IsFaultyAs tense db bytes fault → ⊥
+-- a text is of one query at most over a database, and then has no fault and isn't too large
+pub record QueryTexts (language : QueryLanguage) : Type 0 where
+  pub one : (db : List Relation) (bytes : List ℕ) (q other : Question) → IsSortedAs language db bytes q → IsSortedAs language db bytes other → q ≡ other
+  pub faultless : (db : List Relation) (bytes : List ℕ) (q : Question) (fault : QueryFault) → IsSortedAs language db bytes q → IsFaultyAs language db bytes fault → ⊥
+  pub few : (db : List Relation) (bytes : List ℕ) (q : Question) → IsSortedAs language db bytes q → IsOverIn HasTooMany language db bytes → ⊥
+  pub shallow : (db : List Relation) (bytes : List ℕ) (q : Question) → IsSortedAs language db bytes q → IsOverIn IsTooDeep language db bytes → ⊥
 
 -- with its places, a text is of one query at most over a database, and then has no fault
 pub record PlacedTexts (tense : Bool) : Type 0 where
   pub one : (db : List Relation) (bytes : List ℕ) (raw other : RawQuestion) → IsPlacedAs tense db bytes raw → IsPlacedAs tense db bytes other → raw ≡ other
-  pub faultless : (db : List Relation) (bytes : List ℕ) (raw : RawQuestion) (fault : QueryFault) → IsPlacedAs tense db bytes raw → IsFaultyAs tense db bytes fault → ⊥
+  pub faultless : (db : List Relation) (bytes : List ℕ) (raw : RawQuestion) (fault : QueryFault) → IsPlacedAs tense db bytes raw → IsFaultyAs (usual_language tense) db bytes fault → ⊥
 
 -- a text is of one list of edits of a database at most, and then has no fault
 pub record EditTexts : Type 0 where
@@ -72,30 +82,39 @@ pub record EditTexts : Type 0 where
 abbrev pub OneToken : Type 0
 OneToken = (token : List ℕ) (digest other : Option (List ℕ)) (times more : List ℤ) (texts further : List Text) → IsToken token digest times texts → IsToken token other more further → (digest ≡ other) × (times ≡ more) × (texts ≡ further)
 
+-- a list without faults has no earliest one
+no_earliest : (faults : List QueryFault) (fault : QueryFault) → faults ≡ [] → earliest query_standing faults ≡ Some fault → ⊥
+no_earliest [] fault e h = cc
+no_earliest (f ∷ fs) fault e h = cc
+
 -- of queries without temporal operators
 pub plain_texts : ((bytes : List ℕ) (q other : RawQuestion) → IsQuery bytes q → IsQuery bytes other → q ≡ other)
     → ((bytes : List ℕ) (q : RawQuestion) (fault : QueryFault) → IsQuery bytes q → IsQueryFault bytes fault → ⊥)
     → ((db : List Relation) (q : RawQuestion) (fault : QueryFault) → IsWellSorted db q → IsSortFault db q fault → ⊥)
-    → QueryTexts false
+    → QueryTexts FirstOrder
 plain_texts one none sorted = record {
   one = λ db bytes q r a b. a.plain ∙ ap plain_question (one bytes a.raw b.raw a.query b.query) ∙ sym b.plain;
   faultless = λ db bytes q fault a f. elim f [
     | inl text ↦ none bytes a.raw fault a.query text
     | inr sorts ↦ sorted db a.raw fault a.sorted (subst (λ r. IsSortFault db r fault) (one bytes sorts.raw a.raw sorts.query a.query) sorts.unsorted)
   ];
+  few = λ db bytes q a over. over;
+  shallow = λ db bytes q a over. over;
 }
 
 -- of queries with temporal operators
 pub tense_texts : ((bytes : List ℕ) (q other : RawQuestion) → IsTenseQuery bytes q → IsTenseQuery bytes other → q ≡ other)
     → ((bytes : List ℕ) (q : RawQuestion) (fault : QueryFault) → IsTenseQuery bytes q → IsTenseQueryFault bytes fault → ⊥)
     → ((db : List Relation) (q : RawQuestion) (fault : QueryFault) → IsWellSorted db q → IsSortFault db q fault → ⊥)
-    → QueryTexts true
+    → QueryTexts Temporal
 tense_texts one none sorted = record {
   one = λ db bytes q r a b. a.plain ∙ ap (λ w. plain_question (expanded_question w)) (one bytes a.written b.written a.query b.query) ∙ sym b.plain;
   faultless = λ db bytes q fault a f. elim f [
     | inl text ↦ none bytes a.written fault a.query text
     | inr sorts ↦ sorted db (expanded_question a.written) fault a.sorted (subst (λ w. IsSortFault db (expanded_question w) fault) (one bytes sorts.written a.written sorts.query a.query) sorts.unsorted)
   ];
+  few = λ db bytes q a over. over;
+  shallow = λ db bytes q a over. over;
 }
 
 -- of queries with their places
@@ -127,10 +146,25 @@ pub each_placed : PlacedTexts false → PlacedTexts true → (tense : Bool) → 
 each_placed plain operators false = plain
 each_placed plain operators true = operators
 
--- of both
-pub each_texts : QueryTexts false → QueryTexts true → (tense : Bool) → QueryTexts tense
-each_texts plain operators false = plain
-each_texts plain operators true = operators
+-- of files of the wide language
+pub wide_texts : ((bytes : List ℕ) (f other : RawFileView) → IsFile bytes f → IsFile bytes other → f ≡ other)
+    → ((bytes : List ℕ) (f : RawFileView) (fault : QueryFault) → IsFile bytes f → IsFileFault bytes fault → ⊥)
+    → (civil : Bool) → QueryTexts (Wide civil)
+wide_texts one none civil = record {
+  one = λ db bytes q r a b. a.plain ∙ ap (λ f. plain_question (expanded_file db f)) (one (query_plain civil bytes) a.file b.file a.is b.is) ∙ sym b.plain;
+  faultless = λ db bytes q fault a f. elim f [
+    | inl text ↦ none (query_plain civil bytes) a.file fault a.is text
+    | inr sorts ↦ no_earliest (file_faults db a.file) fault a.sorted (subst (λ w. IsFileSortFault db w fault) (one (query_plain civil bytes) sorts.file a.file sorts.is a.is) sorts.unsorted)
+  ];
+  few = λ db bytes q a over. a.small.few (subst (HasTooMany db) (one (query_plain civil bytes) over.file a.file over.is a.is) over.over);
+  shallow = λ db bytes q a over. a.small.shallow (subst (IsTooDeep db) (one (query_plain civil bytes) over.file a.file over.is a.is) over.over).deep;
+}
+
+-- of each language
+pub each_texts : QueryTexts FirstOrder → QueryTexts Temporal → ((civil : Bool) → QueryTexts (Wide civil)) → (language : QueryLanguage) → QueryTexts language
+each_texts plain operators wide FirstOrder = plain
+each_texts plain operators wide Temporal = operators
+each_texts plain operators wide (Wide civil) = wide civil
 
 -- ---- tokens
 
@@ -198,18 +232,18 @@ no_above way need cap digest after db q limits free h = elim h [
 pub no_longer : (n : ℕ) → n ≤ 16777216 → 16777216 < n → ⊥
 no_longer n short long = omega arith
 
-module _ (texts : DatabaseTexts) (of : FilesAsked) (need : Option HeadNeed) (queries : QueryTexts of.tense) (one : OneToken) (files : Contents) (cap : Option ℕ) (after : Option Text) (free : Asking of files (IsFree of.way need cap after (digest_of files))) where
-  same_database : (db : List Relation) → SaysRelations of.civil files db → db ≡ free.db
-  same_database db says = texts.one (plain_if of.civil files.database) db free.db says.is free.says.is
+module _ (texts : DatabaseTexts) (of : FilesAsked) (need : Option HeadNeed) (queries : QueryTexts (language_by of)) (one : OneToken) (files : Contents) (cap : Option ℕ) (after : Option Text) (free : Asking of files (IsFree of.way need cap after (digest_of files))) where
+  same_database : (db : List Relation) → SaysRelations (civil_by of) files db → db ≡ free.db
+  same_database db says = texts.one (plain_by (civil_by of) files.database) db free.db says.is free.says.is
 
-  pub database_stands : IsNoDatabase files of.civil → ⊥
+  pub database_stands : IsNoDatabase files (civil_by of) → ⊥
   database_stands h = elim h [
     | inl long ↦ no_longer (length files.database) free.says.short long
-    | inr fault ↦ texts.faultless (plain_if of.civil files.database) free.db fault.0 free.says.is fault.1
+    | inr fault ↦ texts.faultless (plain_by (civil_by of) files.database) free.db fault.0 free.says.is fault.1
   ]
 
   -- over the database that was read
-  query_here : IsNoQuery files of.tense free.db ⊎ OverQuery of.tense files (IsRefusedBehind need (digest_of files) after) free.db → ⊥
+  query_here : IsNoQuery files (language_by of) free.db ⊎ OverQuery (language_by of) files (IsRefusedBehind need (digest_of files) after) free.db → ⊥
   query_here h = elim h [
     | inl none ↦ elim none [
       | inl long ↦ no_longer (length files.query) free.holds.says.short long
@@ -220,28 +254,40 @@ module _ (texts : DatabaseTexts) (of : FilesAsked) (need : Option HeadNeed) (que
         no_refused one of.way need cap (digest_of files) after free.db free.holds.q free.holds.holds.holds (subst (λ q. IsRefusedBehind need (digest_of files) after free.db q) same over.holds)
   ]
 
-  pub query_stands : OverDatabase of.civil files (λ db. IsNoQuery files of.tense db ⊎ OverQuery of.tense files (IsRefusedBehind need (digest_of files) after) db) → ⊥
-  query_stands h = query_here (subst (λ db. IsNoQuery files of.tense db ⊎ OverQuery of.tense files (IsRefusedBehind need (digest_of files) after) db) (same_database h.db h.says) h.holds)
+  pub query_stands : OverDatabase (civil_by of) files (λ db. IsNoQuery files (language_by of) db ⊎ OverQuery (language_by of) files (IsRefusedBehind need (digest_of files) after) db) → ⊥
+  query_stands h = query_here (subst (λ db. IsNoQuery files (language_by of) db ⊎ OverQuery (language_by of) files (IsRefusedBehind need (digest_of files) after) db) (same_database h.db h.says) h.holds)
 
-  above_here : OverQuery of.tense files (IsAboveLimits of.way need cap) free.db → ⊥
-  above_here over =
+  above_query : OverQuery (language_by of) files (IsAboveLimits of.way need cap) free.db → ⊥
+  above_query over =
       let same : over.q ≡ free.holds.q = queries.one free.db files.query over.q free.holds.q over.says.is free.holds.says.is in
       no_above of.way need cap (digest_of files) after free.db free.holds.q free.holds.holds.limits free.holds.holds.holds (subst (λ q. IsAboveLimits of.way need cap free.db q) same over.holds)
 
-  pub limits_stand : OverDatabase of.civil files (OverQuery of.tense files (IsAboveLimits of.way need cap)) → ⊥
-  limits_stand h = above_here (subst (OverQuery of.tense files (IsAboveLimits of.way need cap)) (same_database h.db h.says) h.holds)
+  abbrev Above : List Relation → Type 0
+  Above db = IsQueryTooLarge files (language_by of) db ⊎ OverQuery (language_by of) files (IsAboveLimits of.way need cap) db
+
+  above_here : Above free.db → ⊥
+  above_here h = elim h [
+    | inl large ↦ elim large.1 [
+      | inl over ↦ queries.few free.db files.query free.holds.q free.holds.says.is over
+      | inr over ↦ queries.shallow free.db files.query free.holds.q free.holds.says.is over
+    ]
+    | inr over ↦ above_query over
+  ]
+
+  pub limits_stand : OverDatabase (civil_by of) files Above → ⊥
+  limits_stand h = above_here (subst Above (same_database h.db h.says) h.holds)
 
 -- ---- a watch
 
-module _ (texts : DatabaseTexts) (queries : QueryTexts false) (edits : EditTexts) (files : Contents) (cap : ℕ) (way : Planning) (auto : Bool) (free : Watching auto files (λ db q these. PassesLimit way cap db q these → ⊥)) where
+module _ (texts : DatabaseTexts) (queries : QueryTexts FirstOrder) (edits : EditTexts) (files : Contents) (cap : ℕ) (way : Planning) (auto : Bool) (free : Watching auto files (λ db q these. PassesLimit way cap db q these → ⊥)) where
   abbrev q : Question
   q = free.holds.q
 
   -- what holds of what the files say holds of this database and this query
-  here : (Holds : List Relation → Question → Type 0) → OverDatabase false files (OverQuery false files Holds) → Holds free.db q
+  here : (Holds : List Relation → Question → Type 0) → OverDatabase None files (OverQuery FirstOrder files Holds) → Holds free.db q
   here Holds h =
-      let db : h.db ≡ free.db = texts.one (plain_if false files.database) h.db free.db h.says.is free.says.is in
-      let over : OverQuery false files Holds free.db = subst (OverQuery false files Holds) db h.holds in
+      let db : h.db ≡ free.db = texts.one (plain_by None files.database) h.db free.db h.says.is free.says.is in
+      let over : OverQuery FirstOrder files Holds free.db = subst (OverQuery FirstOrder files Holds) db h.holds in
       subst (Holds free.db) (queries.one free.db files.query over.q q over.says.is free.holds.says.is) over.holds
 
   no_edits : AreNoEdits files free.db q → ⊥
@@ -250,11 +296,11 @@ module _ (texts : DatabaseTexts) (queries : QueryTexts false) (edits : EditTexts
     | inr fault ↦ edits.faultless files.edits free.db free.holds.holds.holds.edits fault.0 free.holds.holds.holds.says.is fault.1
   ]
 
-  pub watch_database : IsNoDatabase files false ⊎ Keeping auto files (AreNoEdits files) → ⊥
+  pub watch_database : IsNoDatabase files None ⊎ Keeping auto files (AreNoEdits files) → ⊥
   watch_database h = elim h [
     | inl none ↦ elim none [
       | inl long ↦ no_longer (length files.database) free.says.short long
-      | inr fault ↦ texts.faultless (plain_if false files.database) free.db fault.0 free.says.is fault.1
+      | inr fault ↦ texts.faultless (plain_by None files.database) free.db fault.0 free.says.is fault.1
     ]
     | inr over ↦ no_edits (here (WhereFit auto (AreNoEdits files)) over).holds
   ]
@@ -262,7 +308,7 @@ module _ (texts : DatabaseTexts) (queries : QueryTexts false) (edits : EditTexts
   not_both : (is_kept q || auto) ≡ true → (is_kept q || auto) ≡ false → ⊥
   not_both kept other = cc
 
-  query_of : IsNoQuery files false free.db ⊎ OverQuery false files (λ db q. (is_kept q || auto) ≡ false) free.db → ⊥
+  query_of : IsNoQuery files FirstOrder free.db ⊎ OverQuery FirstOrder files (λ db q. (is_kept q || auto) ≡ false) free.db → ⊥
   query_of h = elim h [
     | inl none ↦ elim none [
       | inl long ↦ no_longer (length files.query) free.holds.says.short long
@@ -271,10 +317,10 @@ module _ (texts : DatabaseTexts) (queries : QueryTexts false) (edits : EditTexts
     | inr over ↦ not_both free.holds.holds.fit (subst (λ r. (is_kept r || auto) ≡ false) (queries.one free.db files.query over.q q over.says.is free.holds.says.is) over.holds)
   ]
 
-  pub watch_query : OverDatabase false files (λ db. IsNoQuery files false db ⊎ OverQuery false files (λ db q. (is_kept q || auto) ≡ false) db) → ⊥
+  pub watch_query : OverDatabase None files (λ db. IsNoQuery files FirstOrder db ⊎ OverQuery FirstOrder files (λ db q. (is_kept q || auto) ≡ false) db) → ⊥
   watch_query h =
-      let db : h.db ≡ free.db = texts.one (plain_if false files.database) h.db free.db h.says.is free.says.is in
-      query_of (subst (λ db. IsNoQuery files false db ⊎ OverQuery false files (λ db q. (is_kept q || auto) ≡ false) db) db h.holds)
+      let db : h.db ≡ free.db = texts.one (plain_by None files.database) h.db free.db h.says.is free.says.is in
+      query_of (subst (λ db. IsNoQuery files FirstOrder db ⊎ OverQuery FirstOrder files (λ db q. (is_kept q || auto) ≡ false) db) db h.holds)
 
   pub watch_limits : Watching auto files (PassesLimit way cap) → ⊥
   watch_limits h =
@@ -290,7 +336,7 @@ no_named_failed None seen still h = h
 no_named_failed (Some name) seen still h = still.0 h
 
 -- nor is its query refused
-no_named_query : (query : Option Identifier) (tense : Bool) (texts : PlacedTexts tense) (files : Contents) (db : List Relation) → OverNamed query tense files (λ db asked. Unit {0}) db → WhereNamed query (λ name. IsNoQuery files tense db) → ⊥
+no_named_query : (query : Option Identifier) (tense : Bool) (texts : PlacedTexts tense) (files : Contents) (db : List Relation) → OverNamed query tense files (λ db asked. Unit {0}) db → WhereNamed query (λ name. IsNoQuery files (usual_language tense) db) → ⊥
 no_named_query None tense texts files db over h = h
 no_named_query (Some name) tense texts files db over h = elim h [
   | inl long ↦ no_longer (length files.query) over.says.short long
@@ -298,16 +344,16 @@ no_named_query (Some name) tense texts files db over h = elim h [
 ]
 
 module _ (texts : DatabaseTexts) (of : FilesLinted) (placed : PlacedTexts of.tense) (files : Contents) (free : Linting of files (λ db asked. Unit {0})) where
-  lint_database : IsNoDatabase files of.civil → ⊥
+  lint_database : IsNoDatabase files (usual_by of.civil) → ⊥
   lint_database h = elim h [
     | inl long ↦ no_longer (length files.database) free.says.short long
-    | inr fault ↦ texts.faultless (plain_if of.civil files.database) free.db fault.0 free.says.is fault.1
+    | inr fault ↦ texts.faultless (plain_by (usual_by of.civil) files.database) free.db fault.0 free.says.is fault.1
   ]
 
-  lint_query : OverDatabase of.civil files (λ db. WhereNamed of.query (λ name. IsNoQuery files of.tense db)) → ⊥
+  lint_query : OverDatabase (usual_by of.civil) files (λ db. WhereNamed of.query (λ name. IsNoQuery files (usual_language of.tense) db)) → ⊥
   lint_query h =
       no_named_query of.query of.tense placed files free.db free.holds
-      (subst (λ db. WhereNamed of.query (λ name. IsNoQuery files of.tense db)) (texts.one (plain_if of.civil files.database) h.db free.db h.says.is free.says.is) h.holds)
+      (subst (λ db. WhereNamed of.query (λ name. IsNoQuery files (usual_language of.tense) db)) (texts.one (plain_by (usual_by of.civil) files.database) h.db free.db h.says.is free.says.is) h.holds)
 
 -- ---- a run
 
@@ -358,28 +404,28 @@ asking of files Holds Keeps keep h = record {
 no_canon : (need : HeadNeed) → need ≢ Canon → Some need ≡ Some Canon → ⊥
 no_canon need other e = let same : need ≡ Canon = cc in other same
 
-module _ (texts : DatabaseTexts) (queries : (tense : Bool) → QueryTexts tense) (placed : (tense : Bool) → PlacedTexts tense) (edits : EditTexts) (one : OneToken) (rows : OneRowCount) (files : Contents) (run : Run) where
+module _ (texts : DatabaseTexts) (queries : (language : QueryLanguage) → QueryTexts language) (placed : (tense : Bool) → PlacedTexts tense) (edits : EditTexts) (one : OneToken) (rows : OneRowCount) (files : Contents) (run : Run) where
   -- neither file failed
-  none_failed : {civil : Bool} {database query : Identifier} → (HasFailed run.seen database → ⊥) → (HasFailed run.seen query → ⊥) → HasFailedOneOf run.seen files civil database query → ⊥
+  none_failed : {civil : Option CivilText} {database query : Identifier} → (HasFailed run.seen database → ⊥) → (HasFailed run.seen query → ⊥) → HasFailedOneOf run.seen files civil database query → ⊥
   none_failed first second (inl failed) = first failed
   none_failed first second (inr over) = second over.holds
 
   asked_so : (task : Task) (of : FilesAsked) (need : Option HeadNeed) (cap : Option ℕ) (after : Option Text) → Asking of files (IsFree of.way need cap after (digest_of files)) → HaveStoodStill task run
-      → (HasFailedFile run.seen files task → ⊥) → (IsDatabaseRefused files task → IsNoDatabase files of.civil) → (IsQueryRefused files task → OverDatabase of.civil files (λ db. IsNoQuery files of.tense db ⊎ OverQuery of.tense files (IsRefusedBehind need (digest_of files) after) db))
-      → (IsQueryAbove files task → OverDatabase of.civil files (OverQuery of.tense files (IsAboveLimits of.way need cap)))
+      → (HasFailedFile run.seen files task → ⊥) → (IsDatabaseRefused files task → IsNoDatabase files (civil_by of)) → (IsQueryRefused files task → OverDatabase (civil_by of) files (λ db. IsNoQuery files (language_by of) db ⊎ OverQuery (language_by of) files (IsRefusedBehind need (digest_of files) after) db))
+      → (IsQueryAbove files task → OverDatabase (civil_by of) files (λ db. IsQueryTooLarge files (language_by of) db ⊎ OverQuery (language_by of) files (IsAboveLimits of.way need cap) db))
       → (ended : Status) → IsReason ended task files run.seen run.taken → EndsComplete ended task files run.taken
   asked_so task of need cap after free still failed database query above =
       comes_so task files run.seen run.taken
-      (λ h. database_stands texts of need (queries of.tense) one files cap after free (database h))
-      (λ h. query_stands texts of need (queries of.tense) one files cap after free (query h))
-      (λ h. limits_stand texts of need (queries of.tense) one files cap after free (above h))
+      (λ h. database_stands texts of need (queries (language_by of)) one files cap after free (database h))
+      (λ h. query_stands texts of need (queries (language_by of)) one files cap after free (query h))
+      (λ h. limits_stand texts of need (queries (language_by of)) one files cap after free (above h))
       failed still.sink
 
   -- a run of a lawful task whose counts stood still is complete
   pub complete : (task : Task) → IsLawfulTask task files → HaveStoodStill task run → (ended : Status) → IsReason ended task files run.seen run.taken → EndsComplete ended task files run.taken
-  complete (ask of cap canon) lawful still =
+  complete (ask of cap canon called) lawful still =
       let free = asking of files (IsAnswerable of.way canon cap) (IsFree of.way (canon_need canon) (Some cap) None (digest_of files)) (free_answer rows of.way canon cap (digest_of files)) lawful in
-      asked_so (ask of cap canon) of (canon_need canon) (Some cap) None free still (none_failed still.files.0 still.files.1.0) (λ h. h) (λ h. h) (λ h. h)
+      asked_so (ask of cap canon called) of (canon_need canon) (Some cap) None free still (none_failed still.files.0 still.files.1.0) (λ h. h) (λ h. h) (λ h. h)
   complete (decide of cap dates) lawful still =
       let free = asking of files (HasFewCells of.way cap) (IsFree of.way None (Some cap) None (digest_of files)) (λ db q few. free_plain of.way (Some cap) None (digest_of files) db q None refl few) lawful in
       asked_so (decide of cap dates) of None (Some cap) None free still (none_failed still.files.0 still.files.1.0) (λ h. h) (λ h. h) (λ h. h)
@@ -399,7 +445,7 @@ module _ (texts : DatabaseTexts) (queries : (tense : Bool) → QueryTexts tense)
       comes_so (check database civil) files run.seen run.taken
       (λ h. elim h [
         | inl long ↦ no_longer (length files.database) lawful.says.short long
-        | inr fault ↦ texts.faultless (plain_if civil files.database) lawful.db fault.0 lawful.says.is fault.1
+        | inr fault ↦ texts.faultless (plain_by (usual_by civil) files.database) lawful.db fault.0 lawful.says.is fault.1
       ]) (λ h. h) (λ h. h)
       (λ h. still.files.0 h) still.sink
   complete (lint of) lawful still =
@@ -412,7 +458,7 @@ module _ (texts : DatabaseTexts) (queries : (tense : Bool) → QueryTexts tense)
       still.sink
   complete (watch database query changes cap way auto) lawful still =
       comes_so (watch database query changes cap way auto) files run.seen run.taken
-      (watch_database texts (queries false) edits files cap way auto lawful) (watch_query texts (queries false) edits files cap way auto lawful) (watch_limits texts (queries false) edits files cap way auto lawful)
+      (watch_database texts (queries FirstOrder) edits files cap way auto lawful) (watch_query texts (queries FirstOrder) edits files cap way auto lawful) (watch_limits texts (queries FirstOrder) edits files cap way auto lawful)
       (λ failed. elim failed [
         | inl first ↦ none_failed still.files.0 still.files.1.0 first
         | inr over ↦ still.files.1.1.0 over.holds.holds.holds
@@ -422,7 +468,7 @@ module _ (texts : DatabaseTexts) (queries : (tense : Bool) → QueryTexts tense)
       comes_so (sample seed size) files run.seen run.taken (λ h. h) (λ h. h) (λ h. h) (λ h. h) still.sink
 
 -- over a shelf that tells its files
-pub complete_run : DatabaseTexts → ((tense : Bool) → QueryTexts tense) → ((tense : Bool) → PlacedTexts tense) → EditTexts → OneToken → OneRowCount → (task : Task) (held : List File) (run : Run) → IsRunOf task held run → IsLawfulTask task (contents_of held task) → HaveStoodStill task run → IsComplete task (contents_of held task) run
+pub complete_run : DatabaseTexts → ((language : QueryLanguage) → QueryTexts language) → ((tense : Bool) → PlacedTexts tense) → EditTexts → OneToken → OneRowCount → (task : Task) (held : List File) (run : Run) → IsRunOf task held run → IsLawfulTask task (contents_of held task) → HaveStoodStill task run → IsComplete task (contents_of held task) run
 complete_run texts queries placed edits one rows task held run is lawful still =
     let cause : HasTaskReason task run = subst (λ t. HasReasonFor t run) is.spelled (run_cause (task_asked run) run is.may_happen.outcome is.may_happen.due is.may_happen.ends) in
     complete texts queries placed edits one rows (contents_of held task) run task lawful still run.ended (subst (λ files. IsReason run.ended task files run.seen run.taken) (cause.told held is.told) cause.is)

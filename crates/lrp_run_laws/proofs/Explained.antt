@@ -8,7 +8,7 @@ use Rattle.lrp_run_laws.specs.Reasons.{IsReason}
 use Rattle.lrp_outputs.specs.Outcomes.{Outcome, refused_with, line_of}
 use Rattle.lrp_top.specs.Seen.{ShelfSeen, SinkSeen}
 use Rattle.lrp_outputs.specs.declared.refusal.Refusal.{Refusal}
-use Rattle.lrp_outputs.specs.declared.refusal.Refusal.TheVariants.{Usage, ReadDatabase, LongDatabase, Database, ReadQuery, LongQuery, Query, PeriodLimit, BoundLimit, TokenForm, TokenShape, TokenStale, Cells, Head, CanonRows, Watch, Memory}
+use Rattle.lrp_outputs.specs.declared.refusal.Refusal.TheVariants.{Usage, ReadDatabase, LongDatabase, Database, ReadQuery, LongQuery, Query, Formulas, Depth, PeriodLimit, BoundLimit, TokenForm, TokenShape, TokenStale, Cells, Head, CanonRows, Watch, Memory}
 use Rattle.lrp_outputs.specs.declared.watch_refusal.WatchRefusal.TheVariants as watch
 use Rattle.lrp_outputs.specs.declared.status.Status.TheVariants as status
 
@@ -22,6 +22,8 @@ is_memory (Database fault) e = cc
 is_memory ReadQuery e = cc
 is_memory LongQuery e = cc
 is_memory (Query fault) e = cc
+is_memory Formulas e = cc
+is_memory Depth e = cc
 is_memory PeriodLimit e = cc
 is_memory BoundLimit e = cc
 is_memory TokenForm e = cc

@@ -13,8 +13,8 @@ use Rattle.lrp_model.proofs.ColumnCounts.{times_more, texts_more, one_more, none
 use Rattle.lrp_model.specs.Texts.{Text, in_order}
 use Rattle.lrp_model.specs.Checked.{plain_question}
 use Rattle.lrp_model.specs.DatabaseReading.{IsDatabase}
-use Rattle.lrp_model.specs.QueryReading.{IsQuery}
-use Rattle.lrp_model.specs.RawQueries.{RawQuestion}
+use Rattle.lrp_model.specs.QueryReading.{IsFile, IsQuery}
+use Rattle.lrp_model.specs.RawQueries.{RawFileView, RawQuestion}
 use Rattle.lrp_model.specs.DataTexts.{IsDataText}
 use Rattle.lrp_model.specs.Domains.{all_texts, domain}
 use Rattle.lrp_model.specs.Limits.{greatest_number}
@@ -27,8 +27,12 @@ use Rattle.lrp_run_laws.specs.Contents.{Contents, SaysQuestion, SaysRelations}
 use Rattle.lrp_run_laws.specs.Following.{IsFollowed, IsShortWindow, IsUnfinished}
 use Rattle.lrp_tense.specs.Expanding.{expanded_question}
 use Rattle.lrp_tense.specs.TenseReading.{IsTenseQuery}
-use Rattle.lrp_top.specs.Written.{plain_if}
+use Rattle.lrp_top.specs.Written.{plain_by, query_plain}
 use Rattle.lrp_top.specs.Resuming.{IsResumed}
+use Rattle.lrp_top.specs.declared.language.QueryLanguage.{QueryLanguage}
+use Rattle.lrp_top.specs.declared.language.QueryLanguage.TheVariants.{FirstOrder, Temporal, Wide}
+use Rattle.lrp_wide.specs.Inlining.{expanded_file}
+use Rattle.lrp_civil.specs.declared.values.CivilText.{CivilText}
 use Rattle.lrp_run_laws.proofs.Alike.{WholeTuples, shaped}
 use Rattle.lrp_run_laws.proofs.Complete.{OneToken}
 
@@ -113,9 +117,11 @@ HaveDataTexts db q = AllByRecursion (λ entry. IsDataText entry.1) (all_texts db
 -- what two files say has data texts
 pub have_texts : ((database query : List ℕ) (relations : List Relation) (q : RawQuestion) → IsDatabase database relations → IsQuery query q → HaveDataTexts relations (plain_question q))
     → ((database query : List ℕ) (relations : List Relation) (q : RawQuestion) → IsDatabase database relations → IsTenseQuery query q → HaveDataTexts relations (plain_question (expanded_question q)))
-    → (tense civil : Bool) (files : Contents) (db : List Relation) (q : Question) → SaysRelations civil files db → SaysQuestion tense files db q → HaveDataTexts db q
-have_texts texts expanded false civil files db q says said = subst (HaveDataTexts db) (sym said.is.plain) (texts (plain_if civil files.database) files.query db said.is.raw says.is said.is.query)
-have_texts texts expanded true civil files db q says said = subst (HaveDataTexts db) (sym said.is.plain) (expanded (plain_if civil files.database) files.query db said.is.written says.is said.is.query)
+    → ((database file : List ℕ) (relations : List Relation) (f : RawFileView) → IsDatabase database relations → IsFile file f → HaveDataTexts relations (plain_question (expanded_file relations f)))
+    → (language : QueryLanguage) (civil : Option CivilText) (files : Contents) (db : List Relation) (q : Question) → SaysRelations civil files db → SaysQuestion language files db q → HaveDataTexts db q
+have_texts texts expanded wide FirstOrder civil files db q says said = subst (HaveDataTexts db) (sym said.is.plain) (texts (plain_by civil files.database) files.query db said.is.raw says.is said.is.query)
+have_texts texts expanded wide Temporal civil files db q says said = subst (HaveDataTexts db) (sym said.is.plain) (expanded (plain_by civil files.database) files.query db said.is.written says.is said.is.query)
+have_texts texts expanded wide (Wide dates) civil files db q says said = subst (HaveDataTexts db) (sym said.is.plain) (wide (plain_by civil files.database) (query_plain dates files.query) db said.is.file says.is said.is.is)
 
 module _ (ordered : SameInOrder) (db : List Relation) (q : Question) (texts : HaveDataTexts db q) where
   of_domain : (s : Sort) (t : Text) → Contains (domain db q s) t → IsDataText t

@@ -16,8 +16,8 @@ use Rattle.lrp_model.specs.declared.relations.Relation.{Relation}
 use Rattle.lrp_kept.specs.KeptForm.{is_kept}
 use Rattle.lrp_token.specs.Files.{files_digest}
 use Rattle.lrp_model.specs.Printed.{database_bytes}
-use Rattle.lrp_model.specs.QueryReading.{IsQuery, IsQueryFault}
-use Rattle.lrp_model.specs.RawQueries.{RawQuestion}
+use Rattle.lrp_model.specs.QueryReading.{IsFile, IsFileFault, IsQuery, IsQueryFault}
+use Rattle.lrp_model.specs.RawQueries.{RawFileView, RawQuestion}
 use Rattle.lrp_model.specs.Sorting.{IsSortFault}
 use Rattle.lrp_model.specs.declared.faults.QueryFault.{QueryFault}
 use Rattle.lrp_tense.specs.Expanding.{expanded_question}
@@ -37,12 +37,17 @@ use Rattle.lrp_top.specs.Steps.{Behind, Then}
 use Rattle.lrp_top.specs.Telling.{TellsNumber, TellsPage, TellsPlan, TellsRanges, TellsRelations, TellsWitness}
 use Rattle.lrp_model.specs.DatabaseReading.{IsDatabase}
 use Rattle.lrp_top.specs.Watched.{AreEditsRead, IsFormFit, IsWatched}
-use Rattle.lrp_top.specs.Written.{IsSortedAs, plain_if}
+use Rattle.lrp_top.specs.Written.{IsFaultyAs, IsOverIn, IsSortedAs, plain_by, query_plain}
+use Rattle.lrp_top.specs.Languages.{civil_by, language_by, usual_by, usual_language}
+use Rattle.lrp_top.specs.declared.language.QueryLanguage.{QueryLanguage}
+use Rattle.lrp_top.specs.declared.language.QueryLanguage.TheVariants.{FirstOrder, Temporal, Wide}
+use Rattle.lrp_wide.specs.WideSorting.{IsFileSortFault}
+use Rattle.lrp_wide.specs.Limits.{HasTooMany, IsTooDeep}
 use Rattle.lrp_outputs.specs.declared.head.HeadNeed.{HeadNeed}
 use Rattle.lrp_outputs.specs.declared.head.HeadNeed.TheVariants as needs
 use Rattle.lrp_outputs.specs.declared.head.HeadNeed.TheVariants.{Canon}
 use Rattle.lrp_outputs.specs.declared.refusal.Refusal.{Refusal}
-use Rattle.lrp_outputs.specs.declared.refusal.Refusal.TheVariants.{Usage, ReadDatabase, LongDatabase, Database, ReadQuery, LongQuery, Query, PeriodLimit, BoundLimit, TokenForm, TokenShape, TokenStale, Cells, Head, CanonRows, Watch, Memory}
+use Rattle.lrp_outputs.specs.declared.refusal.Refusal.TheVariants.{Usage, ReadDatabase, LongDatabase, Database, ReadQuery, LongQuery, Query, Formulas, Depth, PeriodLimit, BoundLimit, TokenForm, TokenShape, TokenStale, Cells, Head, CanonRows, Watch, Memory}
 use Rattle.lrp_outputs.specs.declared.watch_refusal.WatchRefusal.TheVariants as refusal
 use Rattle.lrp_outputs.specs.declared.status.Status.{Status}
 use Rattle.lrp_outputs.specs.declared.status.Status.TheVariants as status
@@ -57,8 +62,8 @@ use Rattle.lrp_run_laws.proofs.Watches.{OneEditsFault, edits_agree, form_fit_agr
 pub record Known : Type 0 where
   pub databases : DatabaseTexts
   pub database_fault : OneDatabaseFault
-  pub queries : (tense : Bool) → QueryTexts tense
-  pub query_fault : (tense : Bool) → OneQueryFault tense
+  pub queries : (language : QueryLanguage) → QueryTexts language
+  pub query_fault : (language : QueryLanguage) → OneQueryFault language
   pub placed : (tense : Bool) → PlacedTexts tense
   pub report : OneReport
   pub edits : EditTexts
@@ -85,26 +90,64 @@ one_unsorted db raw other f g same a b = first_is f g (sym a ∙ subst (λ r. Is
 pub plain_faults : ((bytes : List ℕ) (q other : RawQuestion) → IsQuery bytes q → IsQuery bytes other → q ≡ other)
     → ((bytes : List ℕ) (q : RawQuestion) (fault : QueryFault) → IsQuery bytes q → IsQueryFault bytes fault → ⊥)
     → ((bytes : List ℕ) (fault other : QueryFault) → IsQueryFault bytes fault → IsQueryFault bytes other → fault ≡ other)
-    → OneQueryFault false
-plain_faults one none fault db bytes f g (inl a) (inl b) = fault bytes f g a b
-plain_faults one none fault db bytes f g (inl a) (inr b) = absurd (none bytes b.raw f b.query a)
-plain_faults one none fault db bytes f g (inr a) (inl b) = absurd (none bytes a.raw g a.query b)
-plain_faults one none fault db bytes f g (inr a) (inr b) = one_unsorted db a.raw b.raw f g (one bytes a.raw b.raw a.query b.query) a.unsorted b.unsorted
+    → OneQueryFault FirstOrder
+plain_faults one none fault = record { fault = alike; few = λ db bytes f is over. over; shallow = λ db bytes f is over. over; limit = λ db bytes many deep. many }
+  where
+    alike : (db : List Relation) (bytes : List ℕ) (f g : QueryFault) → IsFaultyAs FirstOrder db bytes f → IsFaultyAs FirstOrder db bytes g → f ≡ g
+    alike db bytes f g (inl a) (inl b) = fault bytes f g a b
+    alike db bytes f g (inl a) (inr b) = absurd (none bytes b.raw f b.query a)
+    alike db bytes f g (inr a) (inl b) = absurd (none bytes a.raw g a.query b)
+    alike db bytes f g (inr a) (inr b) = one_unsorted db a.raw b.raw f g (one bytes a.raw b.raw a.query b.query) a.unsorted b.unsorted
 
 -- and so has one with them
 pub tense_faults : ((bytes : List ℕ) (q other : RawQuestion) → IsTenseQuery bytes q → IsTenseQuery bytes other → q ≡ other)
     → ((bytes : List ℕ) (q : RawQuestion) (fault : QueryFault) → IsTenseQuery bytes q → IsTenseQueryFault bytes fault → ⊥)
     → ((bytes : List ℕ) (fault other : QueryFault) → IsTenseQueryFault bytes fault → IsTenseQueryFault bytes other → fault ≡ other)
-    → OneQueryFault true
-tense_faults one none fault db bytes f g (inl a) (inl b) = fault bytes f g a b
-tense_faults one none fault db bytes f g (inl a) (inr b) = absurd (none bytes b.written f b.query a)
-tense_faults one none fault db bytes f g (inr a) (inl b) = absurd (none bytes a.written g a.query b)
-tense_faults one none fault db bytes f g (inr a) (inr b) =
-    one_unsorted db (expanded_question a.written) (expanded_question b.written) f g (ap expanded_question (one bytes a.written b.written a.query b.query)) a.unsorted b.unsorted
+    → OneQueryFault Temporal
+tense_faults one none fault = record { fault = alike; few = λ db bytes f is over. over; shallow = λ db bytes f is over. over; limit = λ db bytes many deep. many }
+  where
+    alike : (db : List Relation) (bytes : List ℕ) (f g : QueryFault) → IsFaultyAs Temporal db bytes f → IsFaultyAs Temporal db bytes g → f ≡ g
+    alike db bytes f g (inl a) (inl b) = fault bytes f g a b
+    alike db bytes f g (inl a) (inr b) = absurd (none bytes b.written f b.query a)
+    alike db bytes f g (inr a) (inl b) = absurd (none bytes a.written g a.query b)
+    alike db bytes f g (inr a) (inr b) =
+        one_unsorted db (expanded_question a.written) (expanded_question b.written) f g (ap expanded_question (one bytes a.written b.written a.query b.query)) a.unsorted b.unsorted
 
-pub each_fault : OneQueryFault false → OneQueryFault true → (tense : Bool) → OneQueryFault tense
-each_fault plain operators false = plain
-each_fault plain operators true = operators
+-- a file has one earliest sort fault
+one_earliest : (db : List Relation) (file other : RawFileView) (f g : QueryFault) → file ≡ other → IsFileSortFault db file f → IsFileSortFault db other g → f ≡ g
+one_earliest db file other f g same a b = first_is f g (sym a ∙ subst (λ r. IsFileSortFault db r g) (sym same) b)
+  where
+    first_is : (f g : QueryFault) → Some f ≡ Some g → f ≡ g
+    first_is f g e = cc
+
+-- and so has a file of the wide language, which is refused for a limit only where it has none
+pub wide_faults : ((bytes : List ℕ) (f other : RawFileView) → IsFile bytes f → IsFile bytes other → f ≡ other)
+    → ((bytes : List ℕ) (f : RawFileView) (fault : QueryFault) → IsFile bytes f → IsFileFault bytes fault → ⊥)
+    → ((bytes : List ℕ) (fault other : QueryFault) → IsFileFault bytes fault → IsFileFault bytes other → fault ≡ other)
+    → (civil : Bool) → OneQueryFault (Wide civil)
+wide_faults one none fault civil = record { fault = alike; few = few; shallow = shallow; limit = limit }
+  where
+    alike : (db : List Relation) (bytes : List ℕ) (f g : QueryFault) → IsFaultyAs (Wide civil) db bytes f → IsFaultyAs (Wide civil) db bytes g → f ≡ g
+    alike db bytes f g (inl a) (inl b) = fault (query_plain civil bytes) f g a b
+    alike db bytes f g (inl a) (inr b) = absurd (none (query_plain civil bytes) b.file f b.is a)
+    alike db bytes f g (inr a) (inl b) = absurd (none (query_plain civil bytes) a.file g a.is b)
+    alike db bytes f g (inr a) (inr b) = one_earliest db a.file b.file f g (one (query_plain civil bytes) a.file b.file a.is b.is) a.unsorted b.unsorted
+
+    few : (db : List Relation) (bytes : List ℕ) (f : QueryFault) → IsFaultyAs (Wide civil) db bytes f → IsOverIn HasTooMany (Wide civil) db bytes → ⊥
+    few db bytes f (inl a) over = none (query_plain civil bytes) over.file f over.is a
+    few db bytes f (inr a) over = a.small.few (subst (HasTooMany db) (one (query_plain civil bytes) over.file a.file over.is a.is) over.over)
+
+    shallow : (db : List Relation) (bytes : List ℕ) (f : QueryFault) → IsFaultyAs (Wide civil) db bytes f → IsOverIn IsTooDeep (Wide civil) db bytes → ⊥
+    shallow db bytes f (inl a) over = none (query_plain civil bytes) over.file f over.is a
+    shallow db bytes f (inr a) over = a.small.shallow (subst (IsTooDeep db) (one (query_plain civil bytes) over.file a.file over.is a.is) over.over).deep
+
+    limit : (db : List Relation) (bytes : List ℕ) → IsOverIn HasTooMany (Wide civil) db bytes → IsOverIn IsTooDeep (Wide civil) db bytes → ⊥
+    limit db bytes many deep = deep.over.few (subst (HasTooMany db) (one (query_plain civil bytes) many.file deep.file many.is deep.is) many.over)
+
+pub each_fault : OneQueryFault FirstOrder → OneQueryFault Temporal → ((civil : Bool) → OneQueryFault (Wide civil)) → (language : QueryLanguage) → OneQueryFault language
+each_fault plain operators wide FirstOrder = plain
+each_fault plain operators wide Temporal = operators
+each_fault plain operators wide (Wide civil) = wide civil
 
 -- the bytes that are read of a file are these
 abbrev ReadsOnly : ShelfSeen → Identifier → List ℕ → Type 0
@@ -125,7 +168,7 @@ module _ (known : Known) (of : FilesAsked) (need : Option HeadNeed) (files : Con
     (S : List ℕ → List ℕ → Type 0) (Next Later : Source (List Relation) → Source Question → Plan → Outcome → Type 0) where
   -- what is due behind two plans agrees
   abbrev Finish : Type 0
-  Finish = (d : Source (List Relation)) (q : Source Question) → d.bytes ≡ files.database → q.bytes ≡ files.query → SaysRelations of.civil files d.says → SaysQuestion of.tense files d.says q.says → IsWithinLimits (plan_by of.way d.says q.says) d.says q.says
+  Finish = (d : Source (List Relation)) (q : Source Question) → d.bytes ≡ files.database → q.bytes ≡ files.query → SaysRelations (civil_by of) files d.says → SaysQuestion (language_by of) files d.says q.says → IsWithinLimits (plan_by of.way d.says q.says) d.says q.says
       → (p r : Plan) → SameText p r → (o v : Outcome) → Next d q p o → Later d q r v → Lasting o → Lasting v → Agree S o v
 
   module _ (finish : Finish) where
@@ -135,33 +178,33 @@ module _ (known : Known) (of : FilesAsked) (need : Option HeadNeed) (files : Con
     abbrev Replanned : Source (List Relation) → Source Question → Outcome → Type 0
     Replanned d q = Then (IsPlannedAs of.way need d.says q.says) (Later d q)
 
-    behind_query : (d : Source (List Relation)) (q : Source Question) → d.bytes ≡ files.database → q.bytes ≡ files.query → SaysRelations of.civil files d.says → SaysQuestion of.tense files d.says q.says
+    behind_query : (d : Source (List Relation)) (q : Source Question) → d.bytes ≡ files.database → q.bytes ≡ files.query → SaysRelations (civil_by of) files d.says → SaysQuestion (language_by of) files d.says q.says
         → (o v : Outcome) → Planned d q o → Replanned d q v → Lasting o → Lasting v → Agree S o v
     behind_query d q db qb says said = then_agree (IsPlannedAs of.way need d.says q.says) (IsPlannedAs of.way need d.says q.says) (Next d q) (Later d q) SameText S
         (planned_agree of.way need d.says q.says)
         (λ p r i j same. finish d q db qb says said (planned_within of.way need d.says q.says p i) p r same)
 
-    queried : (d : Source (List Relation)) (q e : Source Question) → d.bytes ≡ files.database → SaysRelations of.civil files d.says → IsQueryRead of.tense d.says seen of.query (Ok q) → q ≡ e
+    queried : (d : Source (List Relation)) (q e : Source Question) → d.bytes ≡ files.database → SaysRelations (civil_by of) files d.says → IsQueryRead (language_by of) d.says seen of.query (Ok q) → q ≡ e
         → (o v : Outcome) → Planned d q o → Replanned d e v → Lasting o → Lasting v → Agree S o v
     queried d q e db says i same o v n m lo lv =
-        let is = subst (λ (b : List ℕ). (q.bytes ≡ b) × (length b ≤ 16777216) × IsSortedAs of.tense d.says b q.says) (third i.bytes i.told) i.is in
+        let is = subst (λ (b : List ℕ). (q.bytes ≡ b) × (length b ≤ 16777216) × IsSortedAs (language_by of) d.says b q.says) (third i.bytes i.told) i.is in
         behind_query d q db is.0 says (record { short = is.1; is = is.2 }) o v n (subst (λ x. Replanned d x v) (sym same) m) lo lv
 
-    behind_database : (d : Source (List Relation)) → d.bytes ≡ files.database → SaysRelations of.civil files d.says
-        → (o v : Outcome) → Then (IsQueryRead of.tense d.says seen of.query) (Planned d) o → Then (IsQueryRead of.tense d.says further of.query) (Replanned d) v → Lasting o → Lasting v → Agree S o v
-    behind_database d db says = then_agree (IsQueryRead of.tense d.says seen of.query) (IsQueryRead of.tense d.says further of.query) (Planned d) (Replanned d) (λ q e. q ≡ e) S
-        (query_agree of.tense (known.queries of.tense) (known.query_fault of.tense) d.says files.query seen further of.query third fourth)
+    behind_database : (d : Source (List Relation)) → d.bytes ≡ files.database → SaysRelations (civil_by of) files d.says
+        → (o v : Outcome) → Then (IsQueryRead (language_by of) d.says seen of.query) (Planned d) o → Then (IsQueryRead (language_by of) d.says further of.query) (Replanned d) v → Lasting o → Lasting v → Agree S o v
+    behind_database d db says = then_agree (IsQueryRead (language_by of) d.says seen of.query) (IsQueryRead (language_by of) d.says further of.query) (Planned d) (Replanned d) (λ q e. q ≡ e) S
+        (query_agree (language_by of) (known.queries (language_by of)) (known.query_fault (language_by of)) d.says files.query seen further of.query third fourth)
         (λ q e i j same. queried d q e db says i same)
 
-    databased : (d e : Source (List Relation)) → IsDatabaseRead of.civil seen of.database (Ok d) → d ≡ e
-        → (o v : Outcome) → Then (IsQueryRead of.tense d.says seen of.query) (Planned d) o → Then (IsQueryRead of.tense e.says further of.query) (Replanned e) v → Lasting o → Lasting v → Agree S o v
+    databased : (d e : Source (List Relation)) → IsDatabaseRead (civil_by of) seen of.database (Ok d) → d ≡ e
+        → (o v : Outcome) → Then (IsQueryRead (language_by of) d.says seen of.query) (Planned d) o → Then (IsQueryRead (language_by of) e.says further of.query) (Replanned e) v → Lasting o → Lasting v → Agree S o v
     databased d e i same o v n m lo lv =
-        let is = subst (λ (b : List ℕ). (d.bytes ≡ b) × (length b ≤ 16777216) × IsDatabase (plain_if of.civil b) d.says) (first i.bytes i.told) i.is in
-        behind_database d is.0 (record { short = is.1; is = is.2 }) o v n (subst (λ (x : Source (List Relation)). Then (IsQueryRead of.tense x.says further of.query) (Replanned x) v) (sym same) m) lo lv
+        let is = subst (λ (b : List ℕ). (d.bytes ≡ b) × (length b ≤ 16777216) × IsDatabase (plain_by (civil_by of) b) d.says) (first i.bytes i.told) i.is in
+        behind_database d is.0 (record { short = is.1; is = is.2 }) o v n (subst (λ (x : Source (List Relation)). Then (IsQueryRead (language_by of) x.says further of.query) (Replanned x) v) (sym same) m) lo lv
 
     pub asked_agree : (o v : Outcome) → IsPlannedFor of need seen Next o → IsPlannedFor of need further Later v → Lasting o → Lasting v → Agree S o v
-    asked_agree = then_agree (IsDatabaseRead of.civil seen of.database) (IsDatabaseRead of.civil further of.database) (λ d. Then (IsQueryRead of.tense d.says seen of.query) (Planned d)) (λ d. Then (IsQueryRead of.tense d.says further of.query) (Replanned d)) (λ d e. d ≡ e) S
-        (database_agree known.databases known.database_fault of.civil files.database seen further of.database first second)
+    asked_agree = then_agree (IsDatabaseRead (civil_by of) seen of.database) (IsDatabaseRead (civil_by of) further of.database) (λ d. Then (IsQueryRead (language_by of) d.says seen of.query) (Planned d)) (λ d. Then (IsQueryRead (language_by of) d.says further of.query) (Replanned d)) (λ d e. d ≡ e) S
+        (database_agree known.databases known.database_fault (civil_by of) files.database seen further of.database first second)
         (λ d e i j same. databased d e i same)
 
 -- ---- what is due behind the plan
@@ -173,13 +216,13 @@ counted_agree way db q cap Tells S same = then_agree (IsCounted way db q cap) (I
     (λ a b i j done. output_agree Tells Tells S same)
 
 -- the rows of the canonical answer are counted behind that, and then it is told
-canonical_agree : (known : Known) (way : Planning) (db : List Relation) (q : Question) (cap : ℕ)
-    → (o v : Outcome) → Then (IsCounted way db q cap) (λ done. Then (AreRowsCounted db q cap) (λ counted. IsOutput (IsCanonicalText db q))) o → Then (IsCounted way db q cap) (λ done. Then (AreRowsCounted db q cap) (λ counted. IsOutput (IsCanonicalText db q))) v → Lasting o → Lasting v → Agree (λ a b. a ≡ b) o v
-canonical_agree known way db q cap =
-    let Told : Outcome → Type 0 = IsOutput (IsCanonicalText db q) in
+canonical_agree : (known : Known) (called : Identifier) (way : Planning) (db : List Relation) (q : Question) (cap : ℕ)
+    → (o v : Outcome) → Then (IsCounted way db q cap) (λ done. Then (AreRowsCounted db q cap) (λ counted. IsOutput (IsCanonicalText called db q))) o → Then (IsCounted way db q cap) (λ done. Then (AreRowsCounted db q cap) (λ counted. IsOutput (IsCanonicalText called db q))) v → Lasting o → Lasting v → Agree (λ a b. a ≡ b) o v
+canonical_agree known called way db q cap =
+    let Told : Outcome → Type 0 = IsOutput (IsCanonicalText called db q) in
     then_agree (IsCounted way db q cap) (IsCounted way db q cap) (λ done. Then (AreRowsCounted db q cap) (λ counted. Told)) (λ done. Then (AreRowsCounted db q cap) (λ counted. Told)) Counted (λ a b. a ≡ b) (cells_agree way db q cap)
     (λ a b i j done. then_agree (AreRowsCounted db q cap) (AreRowsCounted db q cap) (λ counted. Told) (λ counted. Told) Counted (λ a b. a ≡ b) (rows_agree known.rows db q cap)
-    (λ a b i j done. output_agree (IsCanonicalText db q) (IsCanonicalText db q) (λ a b. a ≡ b) (one_canonical known.text db db q q (own_answers db q))))
+    (λ a b i j done. output_agree (IsCanonicalText called db q) (IsCanonicalText called db q) (λ a b. a ≡ b) (one_canonical known.text called db db q q (own_answers db q))))
 
 -- the page begins before that
 listed_agree : (known : Known) (way : Planning) (digest : List ℕ) (db : List Relation) (q : Question) (after : Option Text) (cap : ℕ) (Tells : Option Tuple → List ℕ → Type 0) → ((t : Option Tuple) (a b : List ℕ) → Tells t a → Tells t b → a ≡ b)
@@ -213,16 +256,16 @@ module _ (known : Known) (files : Contents) (seen further : ShelfSeen) (database
       (form_fit_agree auto q.says) (λ a b i j done. form_agree db q.says)
 
   abbrev AfterRead : ShelfSeen → Source (List Relation) → Outcome → Type 0
-  AfterRead of d = Then (IsQueryRead false d.says of query) (AfterQuery of d.says)
+  AfterRead of d = Then (IsQueryRead FirstOrder d.says of query) (AfterQuery of d.says)
 
   read_done : (d : Source (List Relation)) (o v : Outcome) → AfterRead seen d o → AfterRead further d v → Lasting o → Lasting v → Agree Same o v
-  read_done d = then_agree (IsQueryRead false d.says seen query) (IsQueryRead false d.says further query) (AfterQuery seen d.says) (AfterQuery further d.says) (λ q e. q ≡ e) Same
-      (query_agree false (known.queries false) (known.query_fault false) d.says files.query seen further query third fourth)
+  read_done d = then_agree (IsQueryRead FirstOrder d.says seen query) (IsQueryRead FirstOrder d.says further query) (AfterQuery seen d.says) (AfterQuery further d.says) (λ q e. q ≡ e) Same
+      (query_agree FirstOrder (known.queries FirstOrder) (known.query_fault FirstOrder) d.says files.query seen further query third fourth)
       (λ q e i j same o v n m. query_done d.says q o v n (subst (λ x. AfterQuery further d.says x v) (sym same) m))
 
   pub watch_agree : (o v : Outcome) → IsWatchedFor seen database query edits cap way auto o → IsWatchedFor further database query edits cap way auto v → Lasting o → Lasting v → Agree Same o v
-  watch_agree = then_agree (IsDatabaseRead false seen database) (IsDatabaseRead false further database) (AfterRead seen) (AfterRead further) (λ d e. d ≡ e) Same
-      (database_agree known.databases known.database_fault false files.database seen further database first second)
+  watch_agree = then_agree (IsDatabaseRead None seen database) (IsDatabaseRead None further database) (AfterRead seen) (AfterRead further) (λ d e. d ≡ e) Same
+      (database_agree known.databases known.database_fault None files.database seen further database first second)
       (λ d e i j same o v n m. read_done d o v n (subst (λ (x : Source (List Relation)). AfterRead further x v) (sym same) m))
 
 -- ---- the tasks
@@ -243,7 +286,7 @@ module _ (known : Known) (seen further : ShelfSeen) (held more : List File) (tol
   -- a task that asks a query
   asked_alike : (of : FilesAsked) (need : Option HeadNeed) (S : List ℕ → List ℕ → Type 0) (Next : Source (List Relation) → Source Question → Plan → Outcome → Type 0)
       → contents_at held of ≡ contents_at more of
-      → ((d : Source (List Relation)) (q : Source Question) → d.bytes ≡ content_of held of.database → q.bytes ≡ content_of held of.query → SaysRelations of.civil (contents_at held of) d.says → SaysQuestion of.tense (contents_at held of) d.says q.says → IsWithinLimits (plan_by of.way d.says q.says) d.says q.says
+      → ((d : Source (List Relation)) (q : Source Question) → d.bytes ≡ content_of held of.database → q.bytes ≡ content_of held of.query → SaysRelations (civil_by of) (contents_at held of) d.says → SaysQuestion (language_by of) (contents_at held of) d.says q.says → IsWithinLimits (plan_by of.way d.says q.says) d.says q.says
       → (p r : Plan) → SameText p r → (o v : Outcome) → Next d q p o → Next d q r v → Lasting o → Lasting v → Agree S o v)
       → (o v : Outcome) → IsPlannedFor of need seen Next o → IsPlannedFor of need further Next v → Lasting o → Lasting v → Agree S o v
   asked_alike of need S Next same finish =
@@ -253,12 +296,12 @@ module _ (known : Known) (seen further : ShelfSeen) (held more : List File) (tol
       S Next Next finish
 
   due_alike : (task : Task) → Alike task
-  due_alike (ask of cap true) same =
-      asked_alike of (Some Canon) (λ a b. a ≡ b) (IsAnswered of.way true cap) same
-      (λ d q db qb says said limits p r one. canonical_agree known of.way d.says q.says cap)
-  due_alike (ask of cap false) same =
-      asked_alike of None (AreOneOutput (ask of cap false) (contents_at held of)) (IsAnswered of.way false cap) same
-      (λ d q db qb says said limits p r one. counted_agree of.way d.says q.says cap (IsAnswerText d.says q.says) (AreOneOutput (ask of cap false) (contents_at held of))
+  due_alike (ask of cap true called) same =
+      asked_alike of (Some Canon) (λ a b. a ≡ b) (IsAnswered of.way true called cap) same
+      (λ d q db qb says said limits p r one. canonical_agree known called of.way d.says q.says cap)
+  due_alike (ask of cap false called) same =
+      asked_alike of None (AreOneOutput (ask of cap false called) (contents_at held of)) (IsAnswered of.way false called cap) same
+      (λ d q db qb says said limits p r one. counted_agree of.way d.says q.says cap (IsAnswerText called d.says q.says) (AreOneOutput (ask of cap false called) (contents_at held of))
       (λ a b x y. record { db = d.says; says = says; holds = record { q = q.says; says = said; holds = record { limits = limits; holds = (x, y) } } }))
   due_alike (decide of cap dates) same =
       asked_alike of None (λ a b. a ≡ b) (IsDecided of.way dates cap) same
@@ -277,12 +320,12 @@ module _ (known : Known) (seen further : ShelfSeen) (held more : List File) (tol
       asked_alike of None (λ a b. a ≡ b) IsExplained same
       (λ d q db qb says said limits p r one. output_agree (TellsPlan p) (TellsPlan r) (λ a b. a ≡ b) (λ a b x y. x ∙ one ∙ sym y))
   due_alike (check database civil) same =
-      then_agree (IsDatabaseRead civil seen database) (IsDatabaseRead civil further database) (λ d. IsOutput (TellsRelations d.says)) (λ d. IsOutput (TellsRelations d.says)) (λ d e. d ≡ e) (λ a b. a ≡ b)
-      (database_agree known.databases known.database_fault civil (content_of held database) seen further database
+      then_agree (IsDatabaseRead (usual_by civil) seen database) (IsDatabaseRead (usual_by civil) further database) (λ d. IsOutput (TellsRelations d.says)) (λ d. IsOutput (TellsRelations d.says)) (λ d e. d ≡ e) (λ a b. a ≡ b)
+      (database_agree known.databases known.database_fault (usual_by civil) (content_of held database) seen further database
       (reads_only seen held database (content_of held database) told refl) (reads_only further more database (content_of held database) again (ap (λ (c : Contents). c.database) same)))
       (λ d e i j one. output_agree (TellsRelations d.says) (TellsRelations e.says) (λ a b. a ≡ b) (λ a b x y. x.0 ∙ ap (λ (s : Source (List Relation)). database_bytes s.says) one ∙ sym y.0))
   due_alike (lint of) same =
-      lint_agree known.databases known.database_fault known.placed known.query_fault known.report of (content_of held of.database) (named_content held of.query) seen further
+      lint_agree known.databases known.database_fault known.placed (λ tense. known.query_fault (usual_language tense)) known.report of (content_of held of.database) (named_content held of.query) seen further
       (reads_only seen held of.database (content_of held of.database) told refl) (reads_only further more of.database (content_of held of.database) again (ap (λ (c : Contents). c.database) same))
       (named_reads seen held of.query (named_content held of.query) told refl) (named_reads further more of.query (named_content held of.query) again (ap (λ (c : Contents). c.query) same))
   due_alike (watch database query edits cap way auto) same =
@@ -291,7 +334,7 @@ module _ (known : Known) (seen further : ShelfSeen) (held more : List File) (tol
       (reads_only seen held query (content_of held query) told refl) (reads_only further more query (content_of held query) again (ap (λ (c : Contents). c.query) same))
       (reads_only seen held edits (content_of held edits) told refl) (reads_only further more edits (content_of held edits) again (ap (λ (c : Contents). c.edits) same))
   due_alike (sample seed size) same =
-      output_agree (TellsSample seed size) (TellsSample seed size) (λ a b. a ≡ b) (one_sample known.databases (known.queries false) known.rank known.tuples known.cells known.count seed size)
+      output_agree (TellsSample seed size) (TellsSample seed size) (λ a b. a ≡ b) (one_sample known.databases (known.queries FirstOrder) known.rank known.tuples known.cells known.count seed size)
 
 -- ---- the runs
 
@@ -305,6 +348,8 @@ lasting_of (Err (Database fault)) h = tt
 lasting_of (Err ReadQuery) h = h
 lasting_of (Err LongQuery) h = tt
 lasting_of (Err (Query fault)) h = tt
+lasting_of (Err Formulas) h = tt
+lasting_of (Err Depth) h = tt
 lasting_of (Err PeriodLimit) h = tt
 lasting_of (Err BoundLimit) h = tt
 lasting_of (Err TokenForm) h = tt
@@ -335,6 +380,8 @@ one_line task files (Database fault) = refl
 one_line task files ReadQuery = refl
 one_line task files LongQuery = refl
 one_line task files (Query fault) = refl
+one_line task files Formulas = refl
+one_line task files Depth = refl
 one_line task files PeriodLimit = refl
 one_line task files BoundLimit = refl
 one_line task files TokenForm = refl

@@ -1,5 +1,5 @@
 -- Why a run of a watch ended as it did.
-use Rattle.std.proofs.Common.{◌≡◌, inl, inr, ◌≤◌, ◌||◌, ℕ, Bool, true, false, List, length, sym, ap, ap₂, subst, ◌∙◌, Result, Ok, Err}
+use Rattle.std.proofs.Common.{◌≡◌, inl, inr, ◌≤◌, ◌||◌, ℕ, Bool, true, List, None, length, sym, ap, ap₂, subst, ◌∙◌, Result, Ok, Err}
 use Rattle.lrp_io.specs.Files.{content_of}
 use Rattle.lrp_words.specs.Commands.{Task}
 use Rattle.lrp_words.specs.Commands.Task.{watch as watching}
@@ -17,9 +17,10 @@ use Rattle.lrp_top.specs.Seen.{ShelfSeen, AreBytesOf}
 use Rattle.lrp_top.specs.Sources.{Source}
 use Rattle.lrp_top.specs.Steps.{Behind, Then}
 use Rattle.lrp_top.specs.Watched.{AreEditsRead, AreEditsReadOf, IsFormFit, IsWatched}
-use Rattle.lrp_top.specs.Written.{IsSortedAs, plain_if}
+use Rattle.lrp_top.specs.Written.{IsSortedAs, plain_by}
+use Rattle.lrp_top.specs.declared.language.QueryLanguage.TheVariants.{FirstOrder}
 use Rattle.lrp_outputs.specs.declared.refusal.Refusal.{Refusal}
-use Rattle.lrp_outputs.specs.declared.refusal.Refusal.TheVariants.{ReadDatabase, LongDatabase, Database, ReadQuery, LongQuery, Query, Watch, Memory}
+use Rattle.lrp_outputs.specs.declared.refusal.Refusal.TheVariants.{ReadDatabase, LongDatabase, Database, ReadQuery, LongQuery, Query, Formulas, Depth, Watch, Memory}
 use Rattle.lrp_outputs.specs.declared.watch_refusal.WatchRefusal.TheVariants as watch
 use Rattle.lrp_run_laws.specs.Contents.{Contents, Keeping, SaysQuestion, SaysRelations, SaysTheseEdits, Watching}
 use Rattle.lrp_run_laws.proofs.Cases.{some_bytes}
@@ -30,8 +31,8 @@ three database query edits = record { database = database; query = query; edits 
 
 -- a database and a query over it in kept form are what files say
 record Kept (auto : Bool) (files : Contents) (db : List Relation) (q : Question) : Type 0 where
-  database : SaysRelations false files db
-  query : SaysQuestion false files db q
+  database : SaysRelations None files db
+  query : SaysQuestion FirstOrder files db q
   fit : (is_kept q || auto) ≡ true
 
 keeping : (auto : Bool) (files : Contents) (db : List Relation) (q : Question) → Kept auto files db q → (Holds : List Relation → Question → Type 0) → Holds db q → Keeping auto files Holds
@@ -75,12 +76,12 @@ module _ (database query edits : Identifier) (cap : ℕ) (way : Planning) (auto 
     unread : (outcome : Outcome) → ((e : List ℕ) → OutcomeFor W seen (three d b e) outcome) → Explained W seen outcome
     unread outcome is = let some = some_bytes seen.files edits in explained_by outcome some.0 some.1 (is some.0)
 
-    module _ (db : List Relation) (short : length d ≤ 16777216) (is_database : IsDatabase (plain_if false d) db) where
-      relations : (e : List ℕ) → SaysRelations false (three d b e) db
+    module _ (db : List Relation) (short : length d ≤ 16777216) (is_database : IsDatabase (plain_by None d) db) where
+      relations : (e : List ℕ) → SaysRelations None (three d b e) db
       relations e = record { short = short; is = is_database }
 
       -- the query is looked at
-      kept_as : (q : Question) → length b ≤ 16777216 → IsSortedAs false db b q → (outcome : Outcome) (r : Result (Unit {0}) Refusal) → IsFormFit auto q r → Behind r (λ kept. Then (AreEditsRead db seen edits) (IsWatched (is_kept q) way db q cap)) outcome → Explained W seen outcome
+      kept_as : (q : Question) → length b ≤ 16777216 → IsSortedAs FirstOrder db b q → (outcome : Outcome) (r : Result (Unit {0}) Refusal) → IsFormFit auto q r → Behind r (λ kept. Then (AreEditsRead db seen edits) (IsWatched (is_kept q) way db q cap)) outcome → Explained W seen outcome
       kept_as q few sorted outcome (Ok done) kept next =
           let files = three d b next.is.bytes in
           explained_by outcome next.is.bytes next.is.told
@@ -91,23 +92,25 @@ module _ (database query edits : Identifier) (cap : ℕ) (way : Planning) (auto 
       kept_as q few sorted outcome (Err _) is next = absurd is
 
       -- its file is read
-      queried_as : (outcome : Outcome) (r : Result (Source Question) Refusal) → IsQueryReadOf false db seen query b r
+      queried_as : (outcome : Outcome) (r : Result (Source Question) Refusal) → IsQueryReadOf FirstOrder db seen query b r
           → Behind r (λ q. Then (IsFormFit auto q.says) (λ kept. Then (AreEditsRead db seen edits) (IsWatched (is_kept q.says) way db q.says cap))) outcome → Explained W seen outcome
       queried_as outcome (Ok q) is next = kept_as q.says is.1 is.2 outcome next.first next.is next.next
       queried_as outcome (Err ReadQuery) is next = subst (Explained W seen) (sym next) (unread _ (λ e. λ taken line. inl (inr (record { db = db; says = relations e; holds = is }))))
       queried_as outcome (Err LongQuery) is next = subst (Explained W seen) (sym next) (unread _ (λ e. λ taken line. record { db = db; says = relations e; holds = inl (inl is.0) }))
       queried_as outcome (Err (Query fault)) is next = subst (Explained W seen) (sym next) (unread _ (λ e. λ taken line. record { db = db; says = relations e; holds = inl (inr (fault, is.1)) }))
+      queried_as outcome (Err Formulas) is next = absurd is.1
+      queried_as outcome (Err Depth) is next = absurd is.1
       queried_as outcome (Err Memory) is next = subst (Explained W seen) (sym next) (unread _ (λ e. λ taken line. line))
       queried_as outcome (Err _) is next = absurd is
 
   -- the file of the database is read
   abbrev AfterDatabase : Source (List Relation) → Outcome → Type 0
-  AfterDatabase d = Then (IsQueryRead false d.says seen query) (λ q. Then (IsFormFit auto q.says) (λ kept. Then (AreEditsRead d.says seen edits) (IsWatched (is_kept q.says) way d.says q.says cap)))
+  AfterDatabase d = Then (IsQueryRead FirstOrder d.says seen query) (λ q. Then (IsFormFit auto q.says) (λ kept. Then (AreEditsRead d.says seen edits) (IsWatched (is_kept q.says) way d.says q.says cap)))
 
   alone : (d : List ℕ) → AreBytesOf seen database d → (outcome : Outcome) → ((b e : List ℕ) → OutcomeFor W seen (three d b e) outcome) → Explained W seen outcome
   alone d told outcome is = let some = some_bytes seen.files query in unread d some.0 told some.1 outcome (is some.0)
 
-  read_as : (d : List ℕ) → AreBytesOf seen database d → (outcome : Outcome) (r : Result (Source (List Relation)) Refusal) → IsDatabaseReadOf false seen database d r → Behind r AfterDatabase outcome → Explained W seen outcome
+  read_as : (d : List ℕ) → AreBytesOf seen database d → (outcome : Outcome) (r : Result (Source (List Relation)) Refusal) → IsDatabaseReadOf None seen database d r → Behind r AfterDatabase outcome → Explained W seen outcome
   read_as d told outcome (Ok db) is next = queried_as d next.is.bytes told next.is.told db.says is.1 is.2 outcome next.first next.is.is next.next
   read_as d told outcome (Err ReadDatabase) is next = subst (Explained W seen) (sym next) (alone d told _ (λ b e. λ taken line. inl (inl is)))
   read_as d told outcome (Err LongDatabase) is next = subst (Explained W seen) (sym next) (alone d told _ (λ b e. λ taken line. inl (inl is.0)))

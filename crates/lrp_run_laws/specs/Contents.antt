@@ -1,5 +1,5 @@
 -- What the files of a task say.
-use Rattle.std.specs.Prelude.{◌≡◌, ℕ, ◌≤◌, Bool, true, false, ◌||◌, List, [], length, Option, Some, None}
+use Rattle.std.specs.Prelude.{◌≡◌, ℕ, ◌≤◌, Bool, true, ◌||◌, List, [], length, Option, Some, None}
 use Rattle.lrp_io.specs.Files.{content_of}
 use Rattle.lrp_io.specs.declared.shelf.File.{File}
 use Rattle.lrp_words.specs.Commands.{FilesAsked, FilesLinted, Task}
@@ -17,7 +17,11 @@ use Rattle.lrp_edits.specs.declared.edits.Edit.{Edit}
 use Rattle.lrp_kept.specs.KeptForm.{is_kept}
 use Rattle.lrp_token.specs.Files.{files_digest}
 use Rattle.lrp_top.specs.Seen.{ShelfSeen}
-use Rattle.lrp_top.specs.Written.{IsPlacedAs, IsSortedAs, plain_if}
+use Rattle.lrp_top.specs.Written.{IsPlacedAs, IsSortedAs, plain_by}
+use Rattle.lrp_top.specs.Languages.{civil_by, language_by, usual_by}
+use Rattle.lrp_top.specs.declared.language.QueryLanguage.{QueryLanguage}
+use Rattle.lrp_top.specs.declared.language.QueryLanguage.TheVariants.{FirstOrder}
+use Rattle.lrp_civil.specs.declared.values.CivilText.{CivilText}
 use Rattle.lrp_model.specs.Limits.{most_bytes}
 
 -- the bytes of its files
@@ -40,7 +44,7 @@ named_content held (Some name) = content_of held name
 
 -- those that files hold; a task that reads no query or no edits has no bytes of them
 abbrev pub contents_of : List File → Task → Contents
-contents_of held (ask of cap canon) = contents_at held of
+contents_of held (ask of cap canon called) = contents_at held of
 contents_of held (decide of cap dates) = contents_at held of
 contents_of held (list of from to limit after json cap) = contents_at held of
 contents_of held (count of from to cap) = contents_at held of
@@ -60,25 +64,25 @@ abbrev pub digest_of : Contents → List ℕ
 digest_of files = files_digest files.database files.query
 
 -- the database's bytes are at most 16,777,216 and the text of these relations
-pub record SaysRelations (civil : Bool) (files : Contents) (db : List Relation) : Type 0 where
+pub record SaysRelations (civil : Option CivilText) (files : Contents) (db : List Relation) : Type 0 where
   pub short : length files.database ≤ most_bytes
-  pub is : IsDatabase (plain_if civil files.database) db
+  pub is : IsDatabase (plain_by civil files.database) db
 
 -- the query's bytes are at most 16,777,216 and the text of this query, which is well-sorted over the relations
-pub record SaysQuestion (tense : Bool) (files : Contents) (db : List Relation) (q : Question) : Type 0 where
+pub record SaysQuestion (language : QueryLanguage) (files : Contents) (db : List Relation) (q : Question) : Type 0 where
   pub short : length files.query ≤ most_bytes
-  pub is : IsSortedAs tense db files.query q
+  pub is : IsSortedAs language db files.query q
 
 -- there is a database, and of its relations this holds
-pub record OverDatabase (civil : Bool) (files : Contents) (Holds : List Relation → Type 0) : Type 0 where
+pub record OverDatabase (civil : Option CivilText) (files : Contents) (Holds : List Relation → Type 0) : Type 0 where
   pub db : List Relation
   pub says : SaysRelations civil files db
   pub holds : Holds db
 
 -- there is a query over the relations, and of it this holds
-pub record OverQuery (tense : Bool) (files : Contents) (Holds : List Relation → Question → Type 0) (db : List Relation) : Type 0 where
+pub record OverQuery (language : QueryLanguage) (files : Contents) (Holds : List Relation → Question → Type 0) (db : List Relation) : Type 0 where
   pub q : Question
-  pub says : SaysQuestion tense files db q
+  pub says : SaysQuestion language files db q
   pub holds : Holds db q
 
 -- the query is within the limits where it is planned by this way, and of it this holds
@@ -88,7 +92,7 @@ pub record WhereWithinLimits (way : Planning) (Holds : List Relation → Questio
 
 -- there are a database and a query over it within the limits where it is planned by this way, and of them this holds
 abbrev pub Asking : FilesAsked → Contents → (List Relation → Question → Type 0) → Type 0
-Asking of files Holds = OverDatabase of.civil files (OverQuery of.tense files (WhereWithinLimits of.way Holds))
+Asking of files Holds = OverDatabase (civil_by of) files (OverQuery (language_by of) files (WhereWithinLimits of.way Holds))
 
 -- the query's bytes are at most 16,777,216 and the text of a query that is well-sorted over the relations, and that with its places is this one
 pub record SaysPlaced (tense : Bool) (files : Contents) (db : List Relation) (raw : RawQuestion) : Type 0 where
@@ -108,7 +112,7 @@ OverNamed (Some name) tense files Holds db = OverPlaced tense files Holds db
 
 -- there are a database and, where one is named, a query over it, and of them this holds
 abbrev pub Linting : FilesLinted → Contents → (List Relation → Option RawQuestion → Type 0) → Type 0
-Linting of files Holds = OverDatabase of.civil files (OverNamed of.query of.tense files Holds)
+Linting of files Holds = OverDatabase (usual_by of.civil) files (OverNamed of.query of.tense files Holds)
 
 -- the edits' bytes are at most 16,777,216 and the text of these edits of the relations
 pub record SaysTheseEdits (files : Contents) (db : List Relation) (edits : List Edit) : Type 0 where
@@ -128,7 +132,7 @@ pub record OverEdits (files : Contents) (Holds : List Relation → Question → 
 
 -- there are a database and a query over it in kept form, or in any where the flag is set, and of them this holds
 abbrev pub Keeping : Bool → Contents → (List Relation → Question → Type 0) → Type 0
-Keeping auto files Holds = OverDatabase false files (OverQuery false files (WhereFit auto Holds))
+Keeping auto files Holds = OverDatabase None files (OverQuery FirstOrder files (WhereFit auto Holds))
 
 -- and edits of the database
 abbrev pub Watching : Bool → Contents → (List Relation → Question → List Edit → Type 0) → Type 0

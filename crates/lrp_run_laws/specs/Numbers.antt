@@ -9,6 +9,7 @@ use Rattle.lrp_outputs.specs.RangeLines.{count_line}
 use Rattle.lrp_outputs.specs.declared.status.Status.TheVariants as status
 use Rattle.lrp_run_laws.specs.Contents.{contents_at, SaysQuestion, SaysRelations}
 use Rattle.lrp_run_laws.specs.Runs.{IsRunOf, Run, WroteAll}
+use Rattle.lrp_top.specs.Languages.{civil_by, language_by}
 
 -- a run that asks how many answers a window has, over files that say these relations and this query, ended with Done
 pub record HasToldNumber (run : Run) (db : List Relation) (q : Question) (from to : ℤ) : Type 0 where
@@ -16,8 +17,8 @@ pub record HasToldNumber (run : Run) (db : List Relation) (q : Question) (from t
   pub cap : ℕ
   pub held : List File
   pub is : IsRunOf (count of from to cap) held run
-  pub relations : SaysRelations of.civil (contents_at held of) db
-  pub question : SaysQuestion of.tense (contents_at held of) db q
+  pub relations : SaysRelations (civil_by of) (contents_at held of) db
+  pub question : SaysQuestion (language_by of) (contents_at held of) db q
   pub done : run.ended ≡ status.Done
 
 -- the third wrote the sum of the numbers that the first two wrote

@@ -17,7 +17,7 @@ IsDecidedByFiles _ = Unit {0}
 
 -- two outputs are one: for `ask` without a canonical answer both are answer texts of what the files ask, and for every other task they are equal
 abbrev pub AreOneOutput : Task → Contents → List ℕ → List ℕ → Type 0
-AreOneOutput (ask of cap false) files text other = Asking of files (λ db q. IsAnswerText db q text × IsAnswerText db q other)
+AreOneOutput (ask of cap false called) files text other = Asking of files (λ db q. IsAnswerText called db q text × IsAnswerText called db q other)
 AreOneOutput _ files text other = text ≡ other
 
 -- the texts of two runs that ended with this status: refusals are equal

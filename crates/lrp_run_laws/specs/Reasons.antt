@@ -1,5 +1,5 @@
 -- For each status why a run ended so.
-use Rattle.std.specs.Prelude.{◌≡◌, ◌⊎◌, ℕ, ◌<◌, Bool, false, ◌||◌, List, length, Option, Some, None}
+use Rattle.std.specs.Prelude.{◌≡◌, ◌⊎◌, ℕ, ◌<◌, ◌≤◌, false, ◌||◌, List, length, Option, Some, None}
 use Rattle.lrp_io.specs.Causes.{Rose}
 use Rattle.lrp_words.specs.Commands.{FilesAsked, Task}
 use Rattle.lrp_words.specs.Commands.Task.{ask, decide, list, count, ranges, explain, check, lint, watch, sample}
@@ -25,7 +25,12 @@ use Rattle.lrp_outputs.specs.declared.head.HeadNeed.TheVariants.{Canon}
 use Rattle.lrp_top.specs.Heads.{IsMetBy, canon_need}
 use Rattle.lrp_top.specs.Resuming.{IsStale, shape_of}
 use Rattle.lrp_top.specs.Seen.{ShelfSeen, SinkSeen, HasFailed}
-use Rattle.lrp_top.specs.Written.{IsFaultyAs, plain_if}
+use Rattle.lrp_top.specs.Written.{IsFaultyAs, IsOverIn, plain_by}
+use Rattle.lrp_top.specs.Languages.{civil_by, language_by, usual_by, usual_language}
+use Rattle.lrp_top.specs.declared.language.QueryLanguage.{QueryLanguage}
+use Rattle.lrp_top.specs.declared.language.QueryLanguage.TheVariants.{FirstOrder}
+use Rattle.lrp_wide.specs.Limits.{HasTooMany, IsTooDeep}
+use Rattle.lrp_civil.specs.declared.values.CivilText.{CivilText}
 use Rattle.lrp_outputs.specs.declared.refusal.Refusal.TheVariants as refusal
 use Rattle.lrp_outputs.specs.declared.status.Status.{Status}
 use Rattle.lrp_outputs.specs.declared.status.Status.TheVariants as status
@@ -34,21 +39,21 @@ use Rattle.lrp_run_laws.specs.Tasks.{PassesLimit}
 use Rattle.lrp_run_laws.specs.Runs.{Run, task_asked, WroteAll, WroteOutput}
 use Rattle.lrp_model.specs.Limits.{most_bytes, greatest_number}
 
--- of a task that reads a database: this holds of whether times are civil ones
-abbrev pub OfDatabase : (Bool → Type 0) → Task → Type 0
-OfDatabase Holds (ask of cap canon) = Holds of.civil
-OfDatabase Holds (decide of cap dates) = Holds of.civil
-OfDatabase Holds (list of from to limit after json cap) = Holds of.civil
-OfDatabase Holds (count of from to cap) = Holds of.civil
-OfDatabase Holds (ranges of from to limit json cap) = Holds of.civil
-OfDatabase Holds (explain of) = Holds of.civil
-OfDatabase Holds (check database civil) = Holds civil
-OfDatabase Holds (lint of) = Holds of.civil
+-- of a task that reads a database: this holds of the civil values that its text may have
+abbrev pub OfDatabase : (Option CivilText → Type 0) → Task → Type 0
+OfDatabase Holds (ask of cap canon called) = Holds (civil_by of)
+OfDatabase Holds (decide of cap dates) = Holds (civil_by of)
+OfDatabase Holds (list of from to limit after json cap) = Holds (civil_by of)
+OfDatabase Holds (count of from to cap) = Holds (civil_by of)
+OfDatabase Holds (ranges of from to limit json cap) = Holds (civil_by of)
+OfDatabase Holds (explain of) = Holds (civil_by of)
+OfDatabase Holds (check database civil) = Holds (usual_by civil)
+OfDatabase Holds (lint of) = Holds (usual_by of.civil)
 OfDatabase Holds _ = ⊥
 
 -- of a task that asks a query: this holds of its files, of what its head needs, of the token and of the cap
 abbrev pub OfQuery : (FilesAsked → Option HeadNeed → Option Text → Option ℕ → Type 0) → Task → Type 0
-OfQuery Holds (ask of cap canon) = Holds of (canon_need canon) None (Some cap)
+OfQuery Holds (ask of cap canon called) = Holds of (canon_need canon) None (Some cap)
 OfQuery Holds (decide of cap dates) = Holds of None None (Some cap)
 OfQuery Holds (list of from to limit after json cap) = Holds of None after (Some cap)
 OfQuery Holds (count of from to cap) = Holds of (Some needs.Count) None (Some cap)
@@ -57,12 +62,12 @@ OfQuery Holds (explain of) = Holds of None None None
 OfQuery Holds _ = ⊥
 
 -- the database's bytes are too many, or their text has a fault
-abbrev pub IsNoDatabase : Contents → Bool → Type 0
-IsNoDatabase files civil = (most_bytes < length files.database) ⊎ ((fault : DbFault) × IsDatabaseFault (plain_if civil files.database) fault)
+abbrev pub IsNoDatabase : Contents → Option CivilText → Type 0
+IsNoDatabase files civil = (most_bytes < length files.database) ⊎ ((fault : DbFault) × IsDatabaseFault (plain_by civil files.database) fault)
 
 -- the query's bytes are too many, or their text or its sorts have a fault
-abbrev pub IsNoQuery : Contents → Bool → List Relation → Type 0
-IsNoQuery files tense db = (most_bytes < length files.query) ⊎ ((fault : QueryFault) × IsFaultyAs tense db files.query fault)
+abbrev pub IsNoQuery : Contents → QueryLanguage → List Relation → Type 0
+IsNoQuery files language db = (most_bytes < length files.query) ⊎ ((fault : QueryFault) × IsFaultyAs language db files.query fault)
 
 -- the edits' bytes are too many, or their text has a fault
 abbrev pub AreNoEdits : Contents → List Relation → Question → Type 0
@@ -98,7 +103,7 @@ IsAboveLimits way need cap db q = (greatest_number < period db q.body) ⊎ (grea
 
 -- there is no database; or, for a watch, there are one and a query over it in kept form, or in any where that is asked for, and there are no edits
 abbrev pub IsDatabaseRefused : Contents → Task → Type 0
-IsDatabaseRefused files (watch database query edits cap way auto) = IsNoDatabase files false ⊎ Keeping auto files (AreNoEdits files)
+IsDatabaseRefused files (watch database query edits cap way auto) = IsNoDatabase files None ⊎ Keeping auto files (AreNoEdits files)
 IsDatabaseRefused files task = OfDatabase (IsNoDatabase files) task
 
 -- this holds of the name of a query's file, and there is one
@@ -108,30 +113,34 @@ WhereNamed (Some name) Holds = Holds name
 
 -- there is no query over the database; or there is, and the head or the token is refused, or for a watch its form
 abbrev pub IsQueryRefused : Contents → Task → Type 0
-IsQueryRefused files (watch database query edits cap way auto) = OverDatabase false files (λ db. IsNoQuery files false db ⊎ OverQuery false files (λ db q. (is_kept q || auto) ≡ false) db)
-IsQueryRefused files (lint of) = OverDatabase of.civil files (λ db. WhereNamed of.query (λ name. IsNoQuery files of.tense db))
-IsQueryRefused files task = OfQuery (λ of need after cap. OverDatabase of.civil files (λ db. IsNoQuery files of.tense db ⊎ OverQuery of.tense files (IsRefusedBehind need (digest_of files) after) db)) task
+IsQueryRefused files (watch database query edits cap way auto) = OverDatabase None files (λ db. IsNoQuery files FirstOrder db ⊎ OverQuery FirstOrder files (λ db q. (is_kept q || auto) ≡ false) db)
+IsQueryRefused files (lint of) = OverDatabase (usual_by of.civil) files (λ db. WhereNamed of.query (λ name. IsNoQuery files (usual_language of.tense) db))
+IsQueryRefused files task = OfQuery (λ of need after cap. OverDatabase (civil_by of) files (λ db. IsNoQuery files (language_by of) db ⊎ OverQuery (language_by of) files (IsRefusedBehind need (digest_of files) after) db)) task
 
--- there is a query over the database, and it is above a limit, or for a watch some edit is
+-- the query's text is within the length, and what it says has too many formulas or one that is too deep
+abbrev pub IsQueryTooLarge : Contents → QueryLanguage → List Relation → Type 0
+IsQueryTooLarge files language db = (length files.query ≤ most_bytes) × (IsOverIn HasTooMany language db files.query ⊎ IsOverIn IsTooDeep language db files.query)
+
+-- over the database the query is too large, or there is a query, and it is above a limit, or for a watch some edit is
 abbrev pub IsQueryAbove : Contents → Task → Type 0
 IsQueryAbove files (watch database query edits cap way auto) = Watching auto files (PassesLimit way cap)
-IsQueryAbove files task = OfQuery (λ of need after cap. OverDatabase of.civil files (OverQuery of.tense files (IsAboveLimits of.way need cap))) task
+IsQueryAbove files task = OfQuery (λ of need after cap. OverDatabase (civil_by of) files (λ db. IsQueryTooLarge files (language_by of) db ⊎ OverQuery (language_by of) files (IsAboveLimits of.way need cap) db)) task
 
 -- the count of faults of the database's name rose; or there is a database, and that of the query's name rose
-abbrev pub HasFailedOneOf : ShelfSeen → Contents → Bool → Identifier → Identifier → Type 0
+abbrev pub HasFailedOneOf : ShelfSeen → Contents → Option CivilText → Identifier → Identifier → Type 0
 HasFailedOneOf seen files civil database query = HasFailed seen database ⊎ OverDatabase civil files (λ db. HasFailed seen query)
 
 -- a file of the task failed
 abbrev pub HasFailedFile : ShelfSeen → Contents → Task → Type 0
-HasFailedFile seen files (ask of cap canon) = HasFailedOneOf seen files of.civil of.database of.query
-HasFailedFile seen files (decide of cap dates) = HasFailedOneOf seen files of.civil of.database of.query
-HasFailedFile seen files (list of from to limit after json cap) = HasFailedOneOf seen files of.civil of.database of.query
-HasFailedFile seen files (count of from to cap) = HasFailedOneOf seen files of.civil of.database of.query
-HasFailedFile seen files (ranges of from to limit json cap) = HasFailedOneOf seen files of.civil of.database of.query
-HasFailedFile seen files (explain of) = HasFailedOneOf seen files of.civil of.database of.query
+HasFailedFile seen files (ask of cap canon called) = HasFailedOneOf seen files (civil_by of) of.database of.query
+HasFailedFile seen files (decide of cap dates) = HasFailedOneOf seen files (civil_by of) of.database of.query
+HasFailedFile seen files (list of from to limit after json cap) = HasFailedOneOf seen files (civil_by of) of.database of.query
+HasFailedFile seen files (count of from to cap) = HasFailedOneOf seen files (civil_by of) of.database of.query
+HasFailedFile seen files (ranges of from to limit json cap) = HasFailedOneOf seen files (civil_by of) of.database of.query
+HasFailedFile seen files (explain of) = HasFailedOneOf seen files (civil_by of) of.database of.query
 HasFailedFile seen files (check database civil) = HasFailed seen database
-HasFailedFile seen files (lint of) = HasFailed seen of.database ⊎ OverDatabase of.civil files (λ db. WhereNamed of.query (HasFailed seen))
-HasFailedFile seen files (watch database query edits cap way auto) = HasFailedOneOf seen files false database query ⊎ Keeping auto files (λ db q. HasFailed seen edits)
+HasFailedFile seen files (lint of) = HasFailed seen of.database ⊎ OverDatabase (usual_by of.civil) files (λ db. WhereNamed of.query (HasFailed seen))
+HasFailedFile seen files (watch database query edits cap way auto) = HasFailedOneOf seen files None database query ⊎ Keeping auto files (λ db q. HasFailed seen edits)
 HasFailedFile seen files (sample seed size) = ⊥
 
 -- why a run of the task ended so; want of memory has no cause, and its line is written

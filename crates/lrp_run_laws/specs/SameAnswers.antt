@@ -10,6 +10,8 @@ use Rattle.lrp_model.specs.declared.relations.Relation.{Relation}
 use Rattle.lrp_outputs.specs.declared.status.Status.TheVariants as status
 use Rattle.lrp_run_laws.specs.Contents.{contents_at, SaysQuestion, SaysRelations}
 use Rattle.lrp_run_laws.specs.Runs.{IsRunOf, Run, WroteAll}
+use Rattle.lrp_top.specs.Languages.{civil_by, language_by}
+use Rattle.lrp_model.specs.Texts.{Identifier}
 
 -- the queries, each over its relations, have one head and the same answers
 pub record HaveSameAnswers (db further : List Relation) (q r : Question) : Type 0 where
@@ -17,13 +19,13 @@ pub record HaveSameAnswers (db further : List Relation) (q r : Question) : Type 
   pub answers : (tuple : Tuple) → IsAnswer db q tuple ↔ IsAnswer further r tuple
 
 -- a run that asks for the canonical answer by some way of planning, over files that say these relations and this query, ended with Done
-pub record HasToldCanonical (run : Run) (db : List Relation) (q : Question) : Type 0 where
+pub record HasToldCanonical (run : Run) (called : Identifier) (db : List Relation) (q : Question) : Type 0 where
   pub of : FilesAsked
   pub cap : ℕ
   pub held : List File
-  pub is : IsRunOf (ask of cap true) held run
-  pub relations : SaysRelations of.civil (contents_at held of) db
-  pub question : SaysQuestion of.tense (contents_at held of) db q
+  pub is : IsRunOf (ask of cap true called) held run
+  pub relations : SaysRelations (civil_by of) (contents_at held of) db
+  pub question : SaysQuestion (language_by of) (contents_at held of) db q
   pub done : run.ended ≡ status.Done
 
 -- both wrote the same bytes, and nothing else

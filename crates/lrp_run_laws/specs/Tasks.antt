@@ -8,7 +8,7 @@ use Rattle.lrp_model.specs.Formulas.{Question}
 use Rattle.lrp_model.specs.Rows.{Tuple}
 use Rattle.lrp_model.specs.Plans.{IsPlan}
 use Rattle.lrp_model.specs.Sorts.{time_count}
-use Rattle.lrp_model.specs.Texts.{Text}
+use Rattle.lrp_model.specs.Texts.{Identifier, Text}
 use Rattle.lrp_model.specs.declared.plans.Plan.{Plan}
 use Rattle.lrp_model.specs.declared.plans.Planning.{Planning}
 use Rattle.lrp_model.specs.declared.relations.Relation.{Relation}
@@ -25,6 +25,7 @@ use Rattle.lrp_top.specs.Heads.{IsMetBy}
 use Rattle.lrp_top.specs.Resuming.{IsResumed}
 use Rattle.lrp_top.specs.Sampled.{TellsSample}
 use Rattle.lrp_top.specs.Telling.{TellsFindings, TellsNumber, TellsPage, TellsPlan, TellsRanges, TellsRelations, TellsWitness}
+use Rattle.lrp_top.specs.Languages.{usual_by}
 use Rattle.lrp_run_laws.specs.Contents.{Contents, digest_of, OverDatabase, Asking, Linting, Watching}
 
 -- ---- lawful tasks
@@ -57,19 +58,19 @@ pub record PassesLimit (way : Planning) (cap : ℕ) (db : List Relation) (q : Qu
   pub is : IsPassedBy (is_kept q) way db q edits cap number passed
 
 -- the text is that of all answers, as they come or in canonical form
-abbrev pub IsTextFor : Bool → List Relation → Question → List ℕ → Type 0
+abbrev pub IsTextFor : Bool → Identifier → List Relation → Question → List ℕ → Type 0
 IsTextFor false = IsAnswerText
 IsTextFor true = IsCanonicalText
 
 -- no refusal applies to the task; none ever does to the sample
 abbrev pub IsLawfulTask : Task → Contents → Type 0
-IsLawfulTask (ask of cap canon) files = Asking of files (IsAnswerable of.way canon cap)
+IsLawfulTask (ask of cap canon called) files = Asking of files (IsAnswerable of.way canon cap)
 IsLawfulTask (decide of cap dates) files = Asking of files (HasFewCells of.way cap)
 IsLawfulTask (list of from to limit after json cap) files = Asking of files (IsResumable of.way cap after (digest_of files))
 IsLawfulTask (count of from to cap) files = Asking of files (IsTellable needs.Count of.way cap)
 IsLawfulTask (ranges of from to limit json cap) files = Asking of files (IsTellable needs.Ranges of.way cap)
 IsLawfulTask (explain of) files = Asking of files (λ db q. Unit {0})
-IsLawfulTask (check database civil) files = OverDatabase civil files (λ db. Unit {0})
+IsLawfulTask (check database civil) files = OverDatabase (usual_by civil) files (λ db. Unit {0})
 IsLawfulTask (lint of) files = Linting of files (λ db asked. Unit {0})
 IsLawfulTask (watch database query edits cap way auto) files = Watching auto files (λ db q these. PassesLimit way cap db q these → ⊥)
 IsLawfulTask (sample seed size) files = Unit {0}
@@ -90,13 +91,13 @@ pub record TellsPlanOf (way : Planning) (output : List ℕ) (db : List Relation)
 
 -- the bytes are the task's output over the contents of its files
 abbrev pub IsOutputOf : Task → Contents → List ℕ → Type 0
-IsOutputOf (ask of cap canon) files output = Asking of files (λ db q. IsTextFor canon db q output)
+IsOutputOf (ask of cap canon called) files output = Asking of files (λ db q. IsTextFor canon called db q output)
 IsOutputOf (decide of cap dates) files output = Asking of files (λ db q. TellsWitness dates db q output)
 IsOutputOf (list of from to limit after json cap) files output = Asking of files (TellsPageBehind from to limit after of.civil json (digest_of files) output)
 IsOutputOf (count of from to cap) files output = Asking of files (λ db q. TellsNumber db q from to output)
 IsOutputOf (ranges of from to limit json cap) files output = Asking of files (λ db q. TellsRanges db q from to limit of.civil json output)
 IsOutputOf (explain of) files output = Asking of files (TellsPlanOf of.way output)
-IsOutputOf (check database civil) files output = OverDatabase civil files (λ db. TellsRelations db output)
+IsOutputOf (check database civil) files output = OverDatabase (usual_by civil) files (λ db. TellsRelations db output)
 IsOutputOf (lint of) files output = Linting of files (λ db asked. TellsFindings db asked output)
 IsOutputOf (watch database query edits cap way auto) files output = Watching auto files (λ db q these. TellsLeastsBy (is_kept q) way db q these cap output)
 IsOutputOf (sample seed size) files output = TellsSample seed size output

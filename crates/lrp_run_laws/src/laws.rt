@@ -1,11 +1,14 @@
 // What holds of whole runs: each law is the contract of a function that does nothing but call the laws that it rests on.
-ghost use Rattle.std.specs.Prelude.{◌≡◌, ◌≤ℤ◌, ◌+ℤ◌, ℕ, ℤ, Bool, List, Option, pos};
+ghost use Rattle.std.specs.Prelude.{◌≡◌, ◌≤ℤ◌, ◌+ℤ◌, ℕ, ℤ, List, Option, pos};
 ghost use Rattle.lrp_io.specs.declared.shelf.File.{File};
 ghost use Rattle.lrp_words.specs.Commands.{Task};
 ghost use Rattle.lrp_model.specs.Formulas.{Question};
 ghost use Rattle.lrp_model.specs.Rows.{Tuple};
 ghost use Rattle.lrp_model.specs.Sorts.{time_count};
+ghost use Rattle.lrp_model.specs.Texts.{Identifier};
 ghost use Rattle.lrp_model.specs.declared.relations.Relation.{Relation};
+ghost use Rattle.lrp_civil.specs.declared.values.CivilText.{CivilText};
+ghost use Rattle.lrp_top.specs.declared.language.QueryLanguage.{QueryLanguage};
 ghost use Rattle.lrp_top.specs.Canonical.{HasCanonicalRows};
 ghost use Rattle.lrp_run_laws.specs.Contents.{Contents, contents_of, digest_of, SaysQuestion, SaysRelations};
 ghost use Rattle.lrp_run_laws.specs.Tasks.{IsLawfulTask};
@@ -26,10 +29,11 @@ use lrp_model::{
     tuples_are_times_and_texts,
 };
 use lrp_reading_laws::{
-    databases_have_no_fault, databases_have_one_fault, expanded_texts_are_data_texts,
+    databases_have_no_fault, databases_have_one_fault, expanded_files_have_data_texts,
+    expanded_texts_are_data_texts, files_have_no_fault, files_have_one_fault,
     queries_have_no_fault, queries_have_one_fault, read_texts_are_data_texts,
     tense_queries_have_no_fault, tense_queries_have_one_fault, texts_are_of_one_database,
-    texts_are_of_one_query, well_sorted_queries_have_no_fault,
+    texts_are_of_one_file, texts_are_of_one_query, well_sorted_queries_have_no_fault,
 };
 use lrp_tense::texts_are_one_query;
 
@@ -53,6 +57,8 @@ pub fn lawful_runs_are_complete()
     queries_have_no_fault();
     texts_are_one_query();
     tense_queries_have_no_fault();
+    texts_are_of_one_file();
+    files_have_no_fault();
     well_sorted_queries_have_no_fault();
     edits_are_one();
     edits_have_no_fault();
@@ -80,6 +86,9 @@ pub fn runs_have_one_outcome()
     texts_are_one_query();
     tense_queries_have_no_fault();
     tense_queries_have_one_fault();
+    texts_are_of_one_file();
+    files_have_no_fault();
+    files_have_one_fault();
     well_sorted_queries_have_no_fault();
     edits_are_one();
     edits_have_no_fault();
@@ -106,18 +115,19 @@ pub fn row_counts_are_unique()
     answers_have_one_row_count();
 }
 
-/// Two runs that told the canonical answers of two queries, each over its own database, wrote the same bytes where the queries
+/// Two runs that told the canonical answers of two queries under one name, each over its own database, wrote the same bytes where the queries
 /// have one head and the same answers. So two runs that told the canonical answer of one query wrote the same bytes, by
 /// whichever ways of planning.
 pub fn equal_answers_equal_bytes()
-    ensures answers { (run other : Run) (db further : List Relation) (q r : Question)
-        → HasToldCanonical run db q
-        → HasToldCanonical other further r
+    ensures answers { (run other : Run) (called : Identifier) (db further : List Relation)
+        (q r : Question)
+        → HasToldCanonical run called db q
+        → HasToldCanonical other called further r
         → HaveSameAnswers db further q r
         → WroteAlike run other }
-    ensures plans { (run other : Run) (db : List Relation) (q : Question)
-        → HasToldCanonical run db q
-        → HasToldCanonical other db q
+    ensures plans { (run other : Run) (called : Identifier) (db : List Relation) (q : Question)
+        → HasToldCanonical run called db q
+        → HasToldCanonical other called db q
         → WroteAlike run other }
 {
     texts_are_of_one_database();
@@ -126,6 +136,8 @@ pub fn equal_answers_equal_bytes()
     queries_have_no_fault();
     texts_are_one_query();
     tense_queries_have_no_fault();
+    texts_are_of_one_file();
+    files_have_no_fault();
     well_sorted_queries_have_no_fault();
     answer_texts_are_unique();
 }
@@ -148,6 +160,8 @@ pub fn numbers_add_up()
     queries_have_no_fault();
     texts_are_one_query();
     tense_queries_have_no_fault();
+    texts_are_of_one_file();
+    files_have_no_fault();
     well_sorted_queries_have_no_fault();
     sizes_are_unique();
     sizes_add();
@@ -156,17 +170,18 @@ pub fn numbers_add_up()
 /// Of a page of what two files ask, behind which more is to come, the token of the last tuple and of these files is resumed
 /// just behind that tuple, and a page that is told for it goes on with the page.
 pub fn pages_follow()
-    ensures { (tense civil : Bool) (files : Contents) (db : List Relation) (q : Question)
-        (from to : ℤ)
+    ensures { (language : QueryLanguage) (civil : Option CivilText) (files : Contents)
+        (db : List Relation) (q : Question) (from to : ℤ)
         (after : Option Tuple) (limit : ℕ) (page : List Tuple) (end : Tuple)
         → SaysRelations civil files db
-        → SaysQuestion tense files db q
+        → SaysQuestion language files db q
         → IsShortWindow from to
         → IsUnfinished db q from to after limit page end
         → IsFollowed (digest_of files) db q from to after limit page end }
 {
     read_texts_are_data_texts();
     expanded_texts_are_data_texts();
+    expanded_files_have_data_texts();
     texts_in_order();
     tuples_are_times_and_texts();
     tokens_spell_one_tuple();

@@ -9,7 +9,7 @@ use Rattle.lrp_words.specs.declared.command.Command.{Command}
 use Rattle.lrp_words.specs.declared.command.Command.TheVariants.{Ask, Decide, List as Page, Count, Ranges, Explain, Check, Lint, Watch, Sample}
 use Rattle.lrp_top.specs.Due.{IsDueOf, IsLengthOrMemory, files_of}
 use Rattle.lrp_top.specs.Lengths.{TellsLength}
-use Rattle.lrp_top.specs.Questions.{HasWindow, IsAsked, IsServed, asked_of, need_of}
+use Rattle.lrp_top.specs.Questions.{IsProper, IsAsked, IsServed, asked_of, need_of}
 use Rattle.lrp_top.specs.Seen.{IsOverrun, ShelfSeen}
 use Rattle.lrp_top.specs.declared.asking.Asked.{Asked}
 
@@ -23,7 +23,7 @@ IsDueFor seen outcome asked = IsAsked asked.files (need_of asked.purpose) seen (
 
 -- what is due for the question is due for the command
 pub due_of_asked : (command : Command) (asked : Asked) (seen : ShelfSeen) (outcome : Outcome) → Some asked ≡ asked_of command → IsDueFor seen outcome asked → IsDueOf (task_of command) seen outcome
-due_of_asked (Ask files cap canon) asked seen outcome e h = same_asked (IsDueFor seen outcome) asked _ e h
+due_of_asked (Ask files cap canon name) asked seen outcome e h = same_asked (IsDueFor seen outcome) asked _ e h
 due_of_asked (Decide files cap dates) asked seen outcome e h = same_asked (IsDueFor seen outcome) asked _ e h
 due_of_asked (Page files from to limit after json cap) asked seen outcome e h = same_asked (IsDueFor seen outcome) asked _ e h
 due_of_asked (Count files from to cap) asked seen outcome e h = same_asked (IsDueFor seen outcome) asked _ e h
@@ -34,22 +34,22 @@ due_of_asked (Lint files) asked seen outcome e h = cc
 due_of_asked (Watch db query edits cap planning auto) asked seen outcome e h = cc
 due_of_asked (Sample seed size) asked seen outcome e h = cc
 
--- its window has ends where the command's numbers are in range
-pub asked_window : (command : Command) (asked : Asked) → Some asked ≡ asked_of command → IsInRange (task_of command) → HasWindow asked.purpose
-asked_window (Ask files cap canon) asked e h = same_asked (λ a. HasWindow a.purpose) _ asked (sym e) h
-asked_window (Decide files cap dates) asked e h = same_asked (λ a. HasWindow a.purpose) _ asked (sym e) h
-asked_window (Page files from to limit after json cap) asked e h = same_asked (λ a. HasWindow a.purpose) _ asked (sym e) h
-asked_window (Count files from to cap) asked e h = same_asked (λ a. HasWindow a.purpose) _ asked (sym e) h
-asked_window (Ranges files from to limit json cap) asked e h = same_asked (λ a. HasWindow a.purpose) _ asked (sym e) h
-asked_window (Explain files) asked e h = same_asked (λ a. HasWindow a.purpose) _ asked (sym e) h
-asked_window (Check db civil) asked e h = cc
-asked_window (Lint files) asked e h = cc
-asked_window (Watch db query edits cap planning auto) asked e h = cc
-asked_window (Sample seed size) asked e h = cc
+-- its window has ends, and its answers' relation a name, where what the command says is in range
+pub asked_proper : (command : Command) (asked : Asked) → Some asked ≡ asked_of command → IsInRange (task_of command) → IsProper asked.purpose
+asked_proper (Ask files cap canon name) asked e h = same_asked (λ a. IsProper a.purpose) _ asked (sym e) h
+asked_proper (Decide files cap dates) asked e h = same_asked (λ a. IsProper a.purpose) _ asked (sym e) h
+asked_proper (Page files from to limit after json cap) asked e h = same_asked (λ a. IsProper a.purpose) _ asked (sym e) h
+asked_proper (Count files from to cap) asked e h = same_asked (λ a. IsProper a.purpose) _ asked (sym e) h
+asked_proper (Ranges files from to limit json cap) asked e h = same_asked (λ a. IsProper a.purpose) _ asked (sym e) h
+asked_proper (Explain files) asked e h = same_asked (λ a. IsProper a.purpose) _ asked (sym e) h
+asked_proper (Check db civil) asked e h = cc
+asked_proper (Lint files) asked e h = cc
+asked_proper (Watch db query edits cap planning auto) asked e h = cc
+asked_proper (Sample seed size) asked e h = cc
 
 -- a question has files
 pub asked_files : (command : Command) (asked : Asked) → Some asked ≡ asked_of command → files_of (task_of command) ≡ [] → ⊥
-asked_files (Ask files cap canon) asked e none = cc
+asked_files (Ask files cap canon name) asked e none = cc
 asked_files (Decide files cap dates) asked e none = cc
 asked_files (Page files from to limit after json cap) asked e none = cc
 asked_files (Count files from to cap) asked e none = cc

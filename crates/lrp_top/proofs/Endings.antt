@@ -6,7 +6,7 @@ use Rattle.lrp_outputs.specs.Outcomes.{Outcome, refused_with, status_of, written
 use Rattle.lrp_outputs.specs.declared.status.Status.{Status}
 use Rattle.lrp_outputs.specs.declared.status.Status.TheVariants as status
 use Rattle.lrp_outputs.specs.declared.refusal.Refusal.{Refusal}
-use Rattle.lrp_outputs.specs.declared.refusal.Refusal.TheVariants.{Usage, ReadDatabase, LongDatabase, Database, ReadQuery, LongQuery, Query, PeriodLimit, BoundLimit, TokenForm, TokenShape, TokenStale, Cells, Head, CanonRows, Watch, Memory}
+use Rattle.lrp_outputs.specs.declared.refusal.Refusal.TheVariants.{Usage, ReadDatabase, LongDatabase, Database, ReadQuery, LongQuery, Query, Formulas, Depth, PeriodLimit, BoundLimit, TokenForm, TokenShape, TokenStale, Cells, Head, CanonRows, Watch, Memory}
 use Rattle.lrp_outputs.specs.declared.watch_refusal.WatchRefusal.TheVariants as watch
 use Rattle.lrp_top.specs.Ends.{Ends}
 use Rattle.lrp_top.specs.Seen.{SinkSeen}
@@ -20,6 +20,8 @@ refused_whole (Database fault) e = cc
 refused_whole ReadQuery e = cc
 refused_whole LongQuery e = cc
 refused_whole (Query fault) e = cc
+refused_whole Formulas e = cc
+refused_whole Depth e = cc
 refused_whole PeriodLimit e = cc
 refused_whole BoundLimit e = cc
 refused_whole TokenForm e = cc

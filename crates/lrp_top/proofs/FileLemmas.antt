@@ -6,11 +6,13 @@ use Rattle.lrp_io.specs.declared.shelf.File.{File}
 use Rattle.lrp_model.specs.Formulas.{Question}
 use Rattle.lrp_model.specs.Texts.{Identifier}
 use Rattle.lrp_model.specs.declared.relations.Relation.{Relation}
+use Rattle.lrp_civil.specs.declared.values.CivilText.{CivilText}
 use Rattle.lrp_edits.specs.declared.edits.Edit.{Edit}
 use Rattle.lrp_top.specs.Due.{IsQueryRead, IsQueryReadOf, IsDatabaseRead, IsDatabaseReadOf}
 use Rattle.lrp_top.specs.Seen.{ShelfSeen, AreBytesOf, IsOverrun}
 use Rattle.lrp_top.specs.Sources.{Source}
 use Rattle.lrp_top.specs.Watched.{AreEditsRead, AreEditsReadOf}
+use Rattle.lrp_top.specs.declared.language.QueryLanguage.{QueryLanguage}
 use Rattle.lrp_outputs.specs.declared.refusal.Refusal.{Refusal}
 use Rattle.lrp_outputs.specs.declared.refusal.Refusal.TheVariants.{ReadDatabase, LongDatabase, ReadQuery, LongQuery, Watch, Memory}
 use Rattle.lrp_outputs.specs.declared.watch_refusal.WatchRefusal.TheVariants as watch
@@ -43,35 +45,35 @@ long_bytes None name h = let r = of_length 16777217 in (r.0, λ held e. absurd (
 long_bytes (Some held) name h = (content_of held name, (λ other e. ap (λ k. content_of k name) (same_held held other e)), h held refl)
 
 -- what is so of bytes, whatever is seen, is so of those of a file
-pub read_of : (civil : Bool) (seen : ShelfSeen) (name : Identifier) (bytes : List ℕ) (result : Result (Source (List Relation)) Refusal) → AreBytesOf seen name bytes → ((s : ShelfSeen) (n : Identifier) → IsDatabaseReadOf civil s n bytes result) → IsDatabaseRead civil seen name result
+pub read_of : (civil : Option CivilText) (seen : ShelfSeen) (name : Identifier) (bytes : List ℕ) (result : Result (Source (List Relation)) Refusal) → AreBytesOf seen name bytes → ((s : ShelfSeen) (n : Identifier) → IsDatabaseReadOf civil s n bytes result) → IsDatabaseRead civil seen name result
 read_of civil seen name bytes result told each = record { bytes = bytes; told = told; is = each seen name }
 
-pub asked_of : (tense : Bool) (db : List Relation) (seen : ShelfSeen) (name : Identifier) (bytes : List ℕ) (result : Result (Source Question) Refusal) → AreBytesOf seen name bytes → ((s : ShelfSeen) (n : Identifier) → IsQueryReadOf tense db s n bytes result) → IsQueryRead tense db seen name result
-asked_of tense db seen name bytes result told each = record { bytes = bytes; told = told; is = each seen name }
+pub asked_of : (language : QueryLanguage) (db : List Relation) (seen : ShelfSeen) (name : Identifier) (bytes : List ℕ) (result : Result (Source Question) Refusal) → AreBytesOf seen name bytes → ((s : ShelfSeen) (n : Identifier) → IsQueryReadOf language db s n bytes result) → IsQueryRead language db seen name result
+asked_of language db seen name bytes result told each = record { bytes = bytes; told = told; is = each seen name }
 
 pub edits_read_of : (db : List Relation) (seen : ShelfSeen) (name : Identifier) (bytes : List ℕ) (result : Result (List Edit) Refusal) → AreBytesOf seen name bytes → ((s : ShelfSeen) (n : Identifier) → AreEditsReadOf db s n bytes result) → AreEditsRead db seen name result
 edits_read_of db seen name bytes result told each = record { bytes = bytes; told = told; is = each seen name }
 
 -- a database or a query that is too long
-pub long_database : (civil : Bool) (seen : ShelfSeen) (name : Identifier) → ((held : List File) → seen.files ≡ Some held → 16777216 < length (content_of held name)) → seen.may_be name ≡ true → 16777216 < seen.given → IsDatabaseRead civil seen name (Err LongDatabase)
+pub long_database : (civil : Option CivilText) (seen : ShelfSeen) (name : Identifier) → ((held : List File) → seen.files ≡ Some held → 16777216 < length (content_of held name)) → seen.may_be name ≡ true → 16777216 < seen.given → IsDatabaseRead civil seen name (Err LongDatabase)
 long_database civil seen name h named many = let l = long_bytes seen.files name h in record { bytes = l.0; told = l.1; is = (l.2, record { named = named; many = many }) }
 
-pub long_query : (tense : Bool) (relations : List Relation) (seen : ShelfSeen) (name : Identifier) → ((held : List File) → seen.files ≡ Some held → 16777216 < length (content_of held name)) → seen.may_be name ≡ true → 16777216 < seen.given → IsQueryRead tense relations seen name (Err LongQuery)
-long_query tense relations seen name h named many = let l = long_bytes seen.files name h in record { bytes = l.0; told = l.1; is = (l.2, record { named = named; many = many }) }
+pub long_query : (language : QueryLanguage) (relations : List Relation) (seen : ShelfSeen) (name : Identifier) → ((held : List File) → seen.files ≡ Some held → 16777216 < length (content_of held name)) → seen.may_be name ≡ true → 16777216 < seen.given → IsQueryRead language relations seen name (Err LongQuery)
+long_query language relations seen name h named many = let l = long_bytes seen.files name h in record { bytes = l.0; told = l.1; is = (l.2, record { named = named; many = many }) }
 
 -- a file that was not read, and want of memory
-pub unread_database : (civil : Bool) (seen : ShelfSeen) (name : Identifier) → Rose (seen.faults_before name) (seen.faults name) → IsDatabaseRead civil seen name (Err ReadDatabase)
+pub unread_database : (civil : Option CivilText) (seen : ShelfSeen) (name : Identifier) → Rose (seen.faults_before name) (seen.faults name) → IsDatabaseRead civil seen name (Err ReadDatabase)
 unread_database civil seen name rose = let b = some_bytes seen.files name in record { bytes = b.0; told = b.1; is = rose }
 
-pub no_memory : (civil : Bool) (seen : ShelfSeen) (name : Identifier) → IsDatabaseRead civil seen name (Err Memory)
+pub no_memory : (civil : Option CivilText) (seen : ShelfSeen) (name : Identifier) → IsDatabaseRead civil seen name (Err Memory)
 no_memory civil seen name = let b = some_bytes seen.files name in record { bytes = b.0; told = b.1; is = tt }
 
 -- the same of a query
-pub unread_query : (tense : Bool) (relations : List Relation) (seen : ShelfSeen) (name : Identifier) → Rose (seen.faults_before name) (seen.faults name) → IsQueryRead tense relations seen name (Err ReadQuery)
-unread_query tense relations seen name rose = let b = some_bytes seen.files name in record { bytes = b.0; told = b.1; is = rose }
+pub unread_query : (language : QueryLanguage) (relations : List Relation) (seen : ShelfSeen) (name : Identifier) → Rose (seen.faults_before name) (seen.faults name) → IsQueryRead language relations seen name (Err ReadQuery)
+unread_query language relations seen name rose = let b = some_bytes seen.files name in record { bytes = b.0; told = b.1; is = rose }
 
-pub no_query_memory : (tense : Bool) (relations : List Relation) (seen : ShelfSeen) (name : Identifier) → IsQueryRead tense relations seen name (Err Memory)
-no_query_memory tense relations seen name = let b = some_bytes seen.files name in record { bytes = b.0; told = b.1; is = tt }
+pub no_query_memory : (language : QueryLanguage) (relations : List Relation) (seen : ShelfSeen) (name : Identifier) → IsQueryRead language relations seen name (Err Memory)
+no_query_memory language relations seen name = let b = some_bytes seen.files name in record { bytes = b.0; told = b.1; is = tt }
 
 -- the same of edits
 pub long_edits : (db : List Relation) (seen : ShelfSeen) (name : Identifier) → ((held : List File) → seen.files ≡ Some held → 16777216 < length (content_of held name)) → seen.may_be name ≡ true → 16777216 < seen.given → AreEditsRead db seen name (Err (Watch watch.Long))

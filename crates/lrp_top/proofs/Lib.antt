@@ -11,6 +11,8 @@ pub mod HeadCounts
 pub mod KeptTexts
 pub mod Listed
 pub mod Lists
+pub mod KeepingLemmas
+pub mod PagingLemmas
 pub mod Plannable
 pub mod QuestionLemmas
 pub mod ReadingLemmas
@@ -18,4 +20,5 @@ pub mod ResumeLemmas
 pub mod SampleLemmas
 pub mod StepLemmas
 pub mod WatchLemmas
+pub mod WideLemmas
 pub mod LintLemmas

@@ -13,6 +13,7 @@ use Rattle.lrp_outputs.specs.Outcomes.{Outcome}
 use Rattle.lrp_outputs.specs.declared.refusal.Refusal.{Refusal}
 use Rattle.lrp_words.specs.Commands.{FilesLinted}
 use Rattle.lrp_top.specs.Due.{IsDatabaseRead, IsLinted, IsLintedBy, IsLintedOver, IsNamedRead, IsOutput, IsPlacedReadOf, IsQueryRead}
+use Rattle.lrp_top.specs.Languages.{usual_by, usual_language}
 use Rattle.lrp_top.specs.Questions.{IsSaidBy}
 use Rattle.lrp_top.specs.Seen.{ShelfSeen, AreBytesOf}
 use Rattle.lrp_top.specs.Sources.{Source}
@@ -32,7 +33,7 @@ pub lint_refused : (db : List Relation) (IsRead : Result (Option RawQuestion) Re
 lint_refused db IsRead refusal is = record { first = Err refusal; is = is; next = refl }
 
 -- and so is that of a query's file
-pub lint_unread : (tense : Bool) (db : List Relation) (seen : ShelfSeen) (name : Identifier) (refusal : Refusal) → IsQueryRead tense db seen name (Err refusal) → IsLintedOver tense db seen (Some name) (Err refusal)
+pub lint_unread : (tense : Bool) (db : List Relation) (seen : ShelfSeen) (name : Identifier) (refusal : Refusal) → IsQueryRead (usual_language tense) db seen name (Err refusal) → IsLintedOver tense db seen (Some name) (Err refusal)
 lint_unread tense db seen name refusal h = record { first = Err refusal; is = record { bytes = h.bytes; told = h.told; is = h.is }; next = refl }
 
 -- what is due of bytes, whatever is seen, is due of those of a file
@@ -54,17 +55,17 @@ named_since tense db seen files before None result h e l = h
 named_since tense db seen files before (Some name) (Ok None) h e l = absurd h.is
 named_since tense db seen files before (Some name) (Ok (Some raw)) h e l = record { bytes = h.bytes; told = λ held f. h.told held (sym e ∙ f); is = h.is }
 named_since tense db seen files before (Some name) (Err refusal) h e l =
-    let read : IsQueryRead tense db seen name (Err refusal) = record { bytes = h.bytes; told = h.told; is = h.is } in
-    let later = asked_since tense db seen files before name (Err refusal) read e (l name) in
+    let read : IsQueryRead (usual_language tense) db seen name (Err refusal) = record { bytes = h.bytes; told = h.told; is = h.is } in
+    let later = asked_since (usual_language tense) db seen files before name (Err refusal) read e (l name) in
     record { bytes = later.bytes; told = later.told; is = later.is }
 
 -- a look over a database that was read before
 pub lint_since : (of : FilesLinted) (seen : ShelfSeen) (files : Option (List File)) (before : Identifier → ℕ) (d : Source (List Relation)) (db : List Relation) (query : Option Identifier) (outcome : Outcome) → db ≡ d.says → query ≡ of.query
-    → IsDatabaseRead of.civil (since files before seen) of.database (Ok d) → IsLintedOver of.tense db seen query outcome → files ≡ seen.files → ((name : Identifier) → before name ≤ seen.faults_before name) → IsLinted of (since files before seen) outcome
+    → IsDatabaseRead (usual_by of.civil) (since files before seen) of.database (Ok d) → IsLintedOver of.tense db seen query outcome → files ≡ seen.files → ((name : Identifier) → before name ≤ seen.faults_before name) → IsLinted of (since files before seen) outcome
 lint_since of seen files before d db query outcome same named read h e l =
     let over : IsLintedOver of.tense d.says seen of.query outcome = subst (λ x. IsLintedOver of.tense x seen of.query outcome) same (subst (λ q. IsLintedOver of.tense db seen q outcome) named h) in
     record { first = Ok d; is = read; next = record { first = over.first; is = named_since of.tense d.says seen files before of.query over.first over.is e l; next = over.next } }
 
 -- and one without a query
-pub lint_alone : (of : FilesLinted) (seen : ShelfSeen) (d : Source (List Relation)) (outcome : Outcome) → of.query ≡ None → IsDatabaseRead of.civil seen of.database (Ok d) → IsOutput (TellsFindings d.says None) outcome → IsLinted of seen outcome
+pub lint_alone : (of : FilesLinted) (seen : ShelfSeen) (d : Source (List Relation)) (outcome : Outcome) → of.query ≡ None → IsDatabaseRead (usual_by of.civil) seen of.database (Ok d) → IsOutput (TellsFindings d.says None) outcome → IsLinted of seen outcome
 lint_alone of seen d outcome none read told = record { first = Ok d; is = read; next = subst (λ q. IsLintedOver of.tense d.says seen q outcome) (sym none) (record { first = Ok None; is = refl; next = told }) }

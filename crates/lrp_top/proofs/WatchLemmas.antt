@@ -1,5 +1,5 @@
 -- A watch: what is refused first, and what is due behind that.
-use Rattle.std.proofs.Common.{◌≡◌, ◌∙◌, ◌||◌, ℕ, ◌≤◌, Bool, true, false, List, Option, Result, Ok, Err, arith, refl, sym}
+use Rattle.std.proofs.Common.{◌≡◌, ◌∙◌, ◌||◌, ℕ, ◌≤◌, Bool, true, List, Option, None, Result, Ok, Err, arith, refl, sym}
 use Rattle.std.specs.List.{AllByRecursion}
 use Rattle.lrp_io.specs.Causes.{Rose}
 use Rattle.lrp_io.specs.declared.shelf.File.{File}
@@ -23,6 +23,7 @@ use Rattle.lrp_top.specs.Seen.{ShelfSeen}
 use Rattle.lrp_top.specs.Sources.{Source}
 use Rattle.lrp_top.specs.Watched.{AreEditsRead, AreEditsReadOf, IsFormFit, IsPassedBy, IsWatched}
 use Rattle.lrp_top.specs.declared.files.QueryFile.{QueryFile}
+use Rattle.lrp_top.specs.declared.language.QueryLanguage.TheVariants.{FirstOrder}
 use Rattle.lrp_outputs.specs.declared.refusal.Refusal.{Refusal}
 use Rattle.lrp_outputs.specs.declared.refusal.Refusal.TheVariants.{Watch, Memory as want}
 use Rattle.lrp_outputs.specs.declared.watch_refusal.WatchRefusal.TheVariants as watch
@@ -31,7 +32,7 @@ use Rattle.lrp_top.proofs.QuestionLemmas.{since}
 -- ---- files that were read before
 
 -- a query that was read is read, whatever is seen afterwards
-pub asked_before : (db : List Relation) (middle seen : ShelfSeen) (name : Identifier) (query : Source Question) → IsQueryRead false db middle name (Ok query) → seen.files ≡ middle.files → IsQueryRead false db seen name (Ok query)
+pub asked_before : (db : List Relation) (middle seen : ShelfSeen) (name : Identifier) (query : Source Question) → IsQueryRead FirstOrder db middle name (Ok query) → seen.files ≡ middle.files → IsQueryRead FirstOrder db seen name (Ok query)
 asked_before db middle seen name query h e = record { bytes = h.bytes; told = λ held f. h.told held (sym e ∙ f); is = h.is }
 
 rose_later : (a b c : ℕ) → a ≤ b → Rose b c → Rose a c
@@ -56,11 +57,11 @@ edits_since db seen files before name result h e l = record {
 -- ---- what is due
 
 -- a watch that is refused behind its database, its query, the form of it, or its edits
-module _ (seen : ShelfSeen) (database query edits : Identifier) (cap : ℕ) (way : Planning) (auto : Bool) (d : Source (List Relation)) (read : IsDatabaseRead false seen database (Ok d)) where
-  pub refused_query : (refusal : Refusal) → IsQueryRead false d.says seen query (Err refusal) → IsWatchedFor seen database query edits cap way auto (Err refusal)
+module _ (seen : ShelfSeen) (database query edits : Identifier) (cap : ℕ) (way : Planning) (auto : Bool) (d : Source (List Relation)) (read : IsDatabaseRead None seen database (Ok d)) where
+  pub refused_query : (refusal : Refusal) → IsQueryRead FirstOrder d.says seen query (Err refusal) → IsWatchedFor seen database query edits cap way auto (Err refusal)
   refused_query refusal a = record { first = Ok d; is = read; next = record { first = Err refusal; is = a; next = refl } }
 
-  module _ (q : Source Question) (asked : IsQueryRead false d.says seen query (Ok q)) where
+  module _ (q : Source Question) (asked : IsQueryRead FirstOrder d.says seen query (Ok q)) where
     pub refused_form : (refusal : Refusal) → IsFormFit auto q.says (Err refusal) → IsWatchedFor seen database query edits cap way auto (Err refusal)
     refused_form refusal f = record { first = Ok d; is = read; next = record { first = Ok q; is = asked; next = record { first = Err refusal; is = f; next = refl } } }
 
@@ -75,7 +76,7 @@ module _ (seen : ShelfSeen) (database query edits : Identifier) (cap : ℕ) (way
 -- ---- what is asked for
 
 -- a query that was read, and edits of the database, can be decided anew
-pub can_be_decided : (db : List Relation) (seen : ShelfSeen) (name : Identifier) (file : QueryFile) (es : List Edit) → IsQueryRead false db seen name (Ok (query_source file)) → IsFit db file → AllByRecursion (IsEditOf db) es → CanBeDecidedAnew db (question_of file.query) es
+pub can_be_decided : (db : List Relation) (seen : ShelfSeen) (name : Identifier) (file : QueryFile) (es : List Edit) → IsQueryRead FirstOrder db seen name (Ok (query_source file)) → IsFit db file → AllByRecursion (IsEditOf db) es → CanBeDecidedAnew db (question_of file.query) es
 can_be_decided db seen name file es asked fit lawful =
     let sorted = asked.is.2 in
     record {

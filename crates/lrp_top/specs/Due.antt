@@ -28,11 +28,15 @@ use Rattle.lrp_top.specs.Sources.{Source, FromFile}
 use Rattle.lrp_top.specs.Steps.{Then}
 use Rattle.lrp_top.specs.Telling.{TellsFindings, TellsNumber, TellsPage, TellsPlan, TellsRanges, TellsRelations, TellsWitness}
 use Rattle.lrp_top.specs.Watched.{AreEditsRead, IsFormFit, IsWatched}
-use Rattle.lrp_top.specs.Written.{IsFaultyAs, IsPlacedAs, IsSortedAs, plain_if}
+use Rattle.lrp_top.specs.Written.{IsFaultyAs, IsPlacedAs, IsSortedAs, IsOverIn, plain_by}
+use Rattle.lrp_top.specs.Languages.{civil_by, language_by, usual_by, usual_language}
+use Rattle.lrp_top.specs.declared.language.QueryLanguage.{QueryLanguage}
+use Rattle.lrp_civil.specs.declared.values.CivilText.{CivilText}
+use Rattle.lrp_wide.specs.Limits.{HasTooMany, IsTooDeep}
 use Rattle.lrp_outputs.specs.declared.head.HeadNeed.{HeadNeed}
 use Rattle.lrp_outputs.specs.declared.head.HeadNeed.TheVariants as needs
 use Rattle.lrp_outputs.specs.declared.refusal.Refusal.{Refusal}
-use Rattle.lrp_outputs.specs.declared.refusal.Refusal.TheVariants.{Usage, ReadDatabase, LongDatabase, Database, ReadQuery, LongQuery, Query, PeriodLimit, BoundLimit, Cells, CanonRows, Watch, Memory}
+use Rattle.lrp_outputs.specs.declared.refusal.Refusal.TheVariants.{Usage, ReadDatabase, LongDatabase, Database, ReadQuery, LongQuery, Query, Formulas, Depth, PeriodLimit, BoundLimit, Cells, CanonRows, Watch, Memory}
 use Rattle.lrp_outputs.specs.declared.watch_refusal.WatchRefusal.TheVariants as watch_refusal
 use Rattle.lrp_outputs.specs.declared.status.Status.{Status}
 use Rattle.lrp_model.specs.Limits.{most_bytes}
@@ -40,36 +44,38 @@ use Rattle.lrp_model.specs.Limits.{most_bytes}
 -- ---- the steps
 
 -- the file of the database is read. Ok: its bytes, and the relations that its text means. Refused: its count of faults rose, it is too long, or its text has a fault; or want of memory
-abbrev pub IsDatabaseReadOf : Bool → ShelfSeen → Identifier → List ℕ → Result (Source (List Relation)) Refusal → Type 0
-IsDatabaseReadOf civil seen name bytes (Ok database) = (database.bytes ≡ bytes) × (length bytes ≤ most_bytes) × IsDatabase (plain_if civil bytes) database.says
+abbrev pub IsDatabaseReadOf : Option CivilText → ShelfSeen → Identifier → List ℕ → Result (Source (List Relation)) Refusal → Type 0
+IsDatabaseReadOf civil seen name bytes (Ok database) = (database.bytes ≡ bytes) × (length bytes ≤ most_bytes) × IsDatabase (plain_by civil bytes) database.says
 IsDatabaseReadOf civil seen name bytes (Err ReadDatabase) = HasFailed seen name
 IsDatabaseReadOf civil seen name bytes (Err LongDatabase) = (most_bytes < length bytes) × IsOverrun seen name
-IsDatabaseReadOf civil seen name bytes (Err (Database fault)) = (length bytes ≤ most_bytes) × IsDatabaseFault (plain_if civil bytes) fault
+IsDatabaseReadOf civil seen name bytes (Err (Database fault)) = (length bytes ≤ most_bytes) × IsDatabaseFault (plain_by civil bytes) fault
 IsDatabaseReadOf civil seen name bytes (Err Memory) = Unit {0}
 IsDatabaseReadOf civil seen name bytes (Err _) = ⊥
 
 -- the same for some bytes, which are the file's where the files are told
-abbrev pub IsDatabaseRead : Bool → ShelfSeen → Identifier → Result (Source (List Relation)) Refusal → Type 0
+abbrev pub IsDatabaseRead : Option CivilText → ShelfSeen → Identifier → Result (Source (List Relation)) Refusal → Type 0
 IsDatabaseRead civil seen name = FromFile seen name (IsDatabaseReadOf civil seen name)
 
--- the file of the query is read. Ok: its bytes, and the query that they say, well-sorted over the relations. Refused: its count of faults rose, it is too long, or its text or its sorts have a fault; or want of memory
-abbrev pub IsQueryReadOf : Bool → List Relation → ShelfSeen → Identifier → List ℕ → Result (Source Question) Refusal → Type 0
-IsQueryReadOf tense db seen name bytes (Ok query) = (query.bytes ≡ bytes) × (length bytes ≤ most_bytes) × IsSortedAs tense db bytes query.says
-IsQueryReadOf tense db seen name bytes (Err ReadQuery) = HasFailed seen name
-IsQueryReadOf tense db seen name bytes (Err LongQuery) = (most_bytes < length bytes) × IsOverrun seen name
-IsQueryReadOf tense db seen name bytes (Err (Query fault)) = (length bytes ≤ most_bytes) × IsFaultyAs tense db bytes fault
-IsQueryReadOf tense db seen name bytes (Err Memory) = Unit {0}
-IsQueryReadOf tense db seen name bytes (Err _) = ⊥
+-- the file of the query is read. Ok: its bytes, and the query that they say, well-sorted over the relations. Refused: its count of faults rose, it is too long, its text has a fault, its expanded query has too many formulas or one that is too deep, or its sorts have a fault; or want of memory
+abbrev pub IsQueryReadOf : QueryLanguage → List Relation → ShelfSeen → Identifier → List ℕ → Result (Source Question) Refusal → Type 0
+IsQueryReadOf language db seen name bytes (Ok query) = (query.bytes ≡ bytes) × (length bytes ≤ most_bytes) × IsSortedAs language db bytes query.says
+IsQueryReadOf language db seen name bytes (Err ReadQuery) = HasFailed seen name
+IsQueryReadOf language db seen name bytes (Err LongQuery) = (most_bytes < length bytes) × IsOverrun seen name
+IsQueryReadOf language db seen name bytes (Err (Query fault)) = (length bytes ≤ most_bytes) × IsFaultyAs language db bytes fault
+IsQueryReadOf language db seen name bytes (Err Formulas) = (length bytes ≤ most_bytes) × IsOverIn HasTooMany language db bytes
+IsQueryReadOf language db seen name bytes (Err Depth) = (length bytes ≤ most_bytes) × IsOverIn IsTooDeep language db bytes
+IsQueryReadOf language db seen name bytes (Err Memory) = Unit {0}
+IsQueryReadOf language db seen name bytes (Err _) = ⊥
 
 -- the same for some bytes, which are the file's where the files are told
-abbrev pub IsQueryRead : Bool → List Relation → ShelfSeen → Identifier → Result (Source Question) Refusal → Type 0
-IsQueryRead tense db seen name = FromFile seen name (IsQueryReadOf tense db seen name)
+abbrev pub IsQueryRead : QueryLanguage → List Relation → ShelfSeen → Identifier → Result (Source Question) Refusal → Type 0
+IsQueryRead language db seen name = FromFile seen name (IsQueryReadOf language db seen name)
 
 -- the query is read with its places. Ok: it, well-sorted over the relations, with temporal operators written out. Refused: as a query is
 abbrev pub IsPlacedReadOf : Bool → List Relation → ShelfSeen → Identifier → List ℕ → Result (Option RawQuestion) Refusal → Type 0
 IsPlacedReadOf tense db seen name bytes (Ok None) = ⊥
 IsPlacedReadOf tense db seen name bytes (Ok (Some raw)) = (length bytes ≤ most_bytes) × IsPlacedAs tense db bytes raw
-IsPlacedReadOf tense db seen name bytes (Err refusal) = IsQueryReadOf tense db seen name bytes (Err refusal)
+IsPlacedReadOf tense db seen name bytes (Err refusal) = IsQueryReadOf (usual_language tense) db seen name bytes (Err refusal)
 
 -- the same for some bytes, which are the file's where the files are told; without a name there is no query
 abbrev pub IsNamedRead : Bool → List Relation → ShelfSeen → Option Identifier → Result (Option RawQuestion) Refusal → Type 0
@@ -115,10 +121,10 @@ abbrev pub IsExplained : Source (List Relation) → Source Question → Plan →
 IsExplained d q p = IsOutput (TellsPlan p)
 
 -- the cells are counted, and then all answers are told; where the canonical answer is asked for, its rows are counted, and then it is told
-abbrev pub IsAnswered : Planning → Bool → ℕ → Source (List Relation) → Source Question → Plan → Outcome → Type 0
-IsAnswered way false cap d q p = Then (IsCounted way d.says q.says cap) (λ done. IsOutput (IsAnswerText d.says q.says))
-IsAnswered way true cap d q p =
-    Then (IsCounted way d.says q.says cap) (λ done. Then (AreRowsCounted d.says q.says cap) (λ counted. IsOutput (IsCanonicalText d.says q.says)))
+abbrev pub IsAnswered : Planning → Bool → Identifier → ℕ → Source (List Relation) → Source Question → Plan → Outcome → Type 0
+IsAnswered way false called cap d q p = Then (IsCounted way d.says q.says cap) (λ done. IsOutput (IsAnswerText called d.says q.says))
+IsAnswered way true called cap d q p =
+    Then (IsCounted way d.says q.says cap) (λ done. Then (AreRowsCounted d.says q.says cap) (λ counted. IsOutput (IsCanonicalText called d.says q.says)))
 
 -- the cells are counted, and then the least answer is told, or that there is none
 abbrev pub IsDecided : Planning → Bool → ℕ → Source (List Relation) → Source Question → Plan → Outcome → Type 0
@@ -143,12 +149,12 @@ IsRanged way civil from to limit json cap d q p = Then (IsCounted way d.says q.s
 -- a database is read, then a query over its relations, then the query is planned, whose head is to have what is needed, and then this is due
 abbrev pub IsPlannedFor : {B : Type 0} → FilesAsked → Option HeadNeed → ShelfSeen → (Source (List Relation) → Source Question → Plan → Result B Refusal → Type 0) → Result B Refusal → Type 0
 IsPlannedFor of need seen Next result =
-    Then (IsDatabaseRead of.civil seen of.database) (λ d. Then (IsQueryRead of.tense d.says seen of.query) (λ q. Then (IsPlannedAs of.way need d.says q.says) (Next d q))) result
+    Then (IsDatabaseRead (civil_by of) seen of.database) (λ d. Then (IsQueryRead (language_by of) d.says seen of.query) (λ q. Then (IsPlannedAs of.way need d.says q.says) (Next d q))) result
 
 -- a database is read, then a query over its relations, which is to be in kept form or may have another, then edits of the database, and then they are made
 abbrev pub IsWatchedFor : ShelfSeen → Identifier → Identifier → Identifier → ℕ → Planning → Bool → Outcome → Type 0
 IsWatchedFor seen database query edits cap way auto =
-    Then (IsDatabaseRead false seen database) (λ d. Then (IsQueryRead false d.says seen query) (λ q. Then (IsFormFit auto q.says) (λ fit. Then (AreEditsRead d.says seen edits) (IsWatched (is_kept q.says) way d.says q.says cap))))
+    Then (IsDatabaseRead None seen database) (λ d. Then (IsQueryRead (usual_language false) d.says seen query) (λ q. Then (IsFormFit auto q.says) (λ fit. Then (AreEditsRead d.says seen edits) (IsWatched (is_kept q.says) way d.says q.says cap))))
 
 -- the query is read so, and then it is told what is silently wrong in the database, and in the query where there is one
 abbrev pub IsLintedBy : List Relation → (Result (Option RawQuestion) Refusal → Type 0) → Outcome → Type 0
@@ -160,17 +166,17 @@ IsLintedOver tense db seen query = IsLintedBy db (IsNamedRead tense db seen quer
 
 -- a database is read, then a query over its relations where one is named, and then it is told what is silently wrong in them
 abbrev pub IsLinted : FilesLinted → ShelfSeen → Outcome → Type 0
-IsLinted of seen = Then (IsDatabaseRead of.civil seen of.database) (λ d. IsLintedOver of.tense d.says seen of.query)
+IsLinted of seen = Then (IsDatabaseRead (usual_by of.civil) seen of.database) (λ d. IsLintedOver of.tense d.says seen of.query)
 
 -- each task; the sample makes its own texts, and is refused for want of memory alone
 abbrev pub IsDueOf : Task → ShelfSeen → Outcome → Type 0
-IsDueOf (ask of cap canon) seen outcome = IsPlannedFor of (canon_need canon) seen (IsAnswered of.way canon cap) outcome
+IsDueOf (ask of cap canon called) seen outcome = IsPlannedFor of (canon_need canon) seen (IsAnswered of.way canon called cap) outcome
 IsDueOf (decide of cap dates) seen outcome = IsPlannedFor of None seen (IsDecided of.way dates cap) outcome
 IsDueOf (list of from to limit after json cap) seen outcome = IsPlannedFor of None seen (IsListed of.way of.civil from to limit after json cap) outcome
 IsDueOf (count of from to cap) seen outcome = IsPlannedFor of (Some needs.Count) seen (IsNumberTold of.way from to cap) outcome
 IsDueOf (ranges of from to limit json cap) seen outcome = IsPlannedFor of (Some needs.Ranges) seen (IsRanged of.way of.civil from to limit json cap) outcome
 IsDueOf (explain of) seen outcome = IsPlannedFor of None seen IsExplained outcome
-IsDueOf (check database civil) seen outcome = Then (IsDatabaseRead civil seen database) (λ d. IsOutput (TellsRelations d.says)) outcome
+IsDueOf (check database civil) seen outcome = Then (IsDatabaseRead (usual_by civil) seen database) (λ d. IsOutput (TellsRelations d.says)) outcome
 IsDueOf (lint of) seen outcome = IsLinted of seen outcome
 IsDueOf (watch database query edits cap way auto) seen outcome = IsWatchedFor seen database query edits cap way auto outcome
 IsDueOf (sample seed size) seen outcome = IsOutput (TellsSample seed size) outcome
@@ -184,7 +190,7 @@ query_named (Some name) = name ∷ []
 
 -- the names of the files that a task reads
 abbrev pub files_of : Task → List Identifier
-files_of (ask of cap canon) = of.database ∷ of.query ∷ []
+files_of (ask of cap canon called) = of.database ∷ of.query ∷ []
 files_of (decide of cap dates) = of.database ∷ of.query ∷ []
 files_of (list of from to limit after json cap) = of.database ∷ of.query ∷ []
 files_of (count of from to cap) = of.database ∷ of.query ∷ []

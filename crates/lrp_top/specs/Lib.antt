@@ -13,9 +13,12 @@ pub mod Canonical
 pub mod Watched
 pub mod Heads
 pub mod Due
+pub mod Languages
+-- What is promised of databases that are read once, and of questions to them.
+pub mod Questions
+pub mod Keeping
 -- What functions inside say to one another.
 pub mod Lengths
 pub mod Standing
 pub mod Refusals
-pub mod Questions
 pub mod Samples

@@ -2,14 +2,16 @@
 use Rattle.std.specs.Prelude.{◌≡◌, ◌≤ℤ◌, ℕ, pos, Bool, true, false, List, Option, Some, None, Result, Ok, Err, map}
 use Rattle.std.specs.List.{AllByRecursion}
 use Rattle.lrp_model.specs.Formulas.{Question as Queried, form_of, question_of}
+use Rattle.lrp_model.specs.Names.{IsName}
 use Rattle.lrp_model.specs.Pages.{IsPage}
 use Rattle.lrp_model.specs.Rows.{Tuple}
 use Rattle.lrp_model.specs.Sorts.{time_count}
 use Rattle.lrp_model.specs.QueryReading.{IsQuery}
-use Rattle.lrp_model.specs.RawQueries.{RawQuestion}
+use Rattle.lrp_model.specs.RawQueries.{RawQuestion, raw_question_of}
 use Rattle.lrp_model.specs.TestPoints.{points}
 use Rattle.lrp_model.specs.Tuples.{in_head_order}
 use Rattle.lrp_model.specs.declared.faults.QueryRead.{QueryRead}
+use Rattle.lrp_model.specs.declared.faults.QueryRead.TheVariants as unread
 use Rattle.lrp_model.specs.Steps.{Steps}
 use Rattle.lrp_model.specs.declared.plans.Plan.{Plan}
 use Rattle.lrp_model.specs.declared.plans.Planning.{Planning}
@@ -46,7 +48,14 @@ use Rattle.lrp_top.specs.declared.files.QueryFile.{QueryFile}
 use Rattle.lrp_outputs.specs.declared.head.HeadNeed.{HeadNeed}
 use Rattle.lrp_outputs.specs.declared.head.HeadNeed.TheVariants as needs
 use Rattle.lrp_outputs.specs.declared.refusal.Refusal.{Refusal}
-use Rattle.lrp_outputs.specs.declared.refusal.Refusal.TheVariants.{Memory}
+use Rattle.lrp_outputs.specs.declared.refusal.Refusal.TheVariants.{Depth, Formulas, Memory, Query}
+use Rattle.lrp_top.specs.Written.{IsFaultyAs, IsOverIn, IsWideSaid}
+use Rattle.lrp_top.specs.declared.language.QueryLanguage.{QueryLanguage}
+use Rattle.lrp_top.specs.declared.language.QueryLanguage.TheVariants.{FirstOrder, Temporal, Wide}
+use Rattle.lrp_wide.specs.Limits.{HasTooMany, IsTooDeep}
+use Rattle.lrp_wide.specs.declared.checking.WideRead.{WideRead}
+use Rattle.lrp_wide.specs.declared.checking.WideRead.TheVariants as wide
+use Rattle.lrp_model.specs.declared.raw.RawQuery.{RawQuery}
 use Rattle.lrp_top.specs.declared.purpose.Paging.{Paging}
 use Rattle.lrp_top.specs.declared.purpose.Purpose.{Purpose}
 use Rattle.lrp_top.specs.declared.purpose.Purpose.TheVariants as purpose
@@ -101,6 +110,37 @@ abbrev pub IsUnreadAs : Bool → List ℕ → QueryRead → Type 0
 IsUnreadAs false = IsUnread
 IsUnreadAs true = IsTenseUnread
 
+-- the bytes say this query in a language, in which all that first-order logic hasn't is written out
+abbrev pub IsSaidIn : QueryLanguage → List Relation → List ℕ → RawQuestion → Type 0
+IsSaidIn FirstOrder db = IsSaidBy false
+IsSaidIn Temporal db = IsSaidBy true
+IsSaidIn (Wide civil) db = IsWideSaid civil db
+
+-- why the bytes say none: their text has a fault, or in the wide language its own sorts have one, or the query is too large
+abbrev pub IsUnreadIn : QueryLanguage → List Relation → List ℕ → Refusal → Type 0
+IsUnreadIn language db bytes (Query fault) = IsFaultyAs language db bytes fault
+IsUnreadIn language db bytes Formulas = IsOverIn HasTooMany language db bytes
+IsUnreadIn language db bytes Depth = IsOverIn IsTooDeep language db bytes
+IsUnreadIn language db bytes Memory = Unit {0}
+IsUnreadIn language db bytes _ = ⊥
+
+-- this query with its places, unless memory ran out
+abbrev pub IsRawOrMemory : RawQuestion → Result RawQuery Refusal → Type 0
+IsRawOrMemory raw (Ok made) = raw_question_of made ≡ raw
+IsRawOrMemory raw (Err refusal) = IsMemory refusal
+
+-- why a text says no query, as a refusal of the program
+abbrev pub unread_refusal : QueryRead → Refusal
+unread_refusal (unread.Fault fault) = Query fault
+unread_refusal unread.Memory = Memory
+
+-- a refusal of the wide language's expansion, as one of the program
+abbrev pub refused_as : WideRead → Refusal
+refused_as (wide.Fault fault) = Query fault
+refused_as wide.Formulas = Formulas
+refused_as wide.Depth = Depth
+refused_as wide.Memory = Memory
+
 -- what holds of a query that was read over a database: it is settled, the points of its tests have periods, and its head can be that of a relation that is read
 pub record IsFit (db : List Relation) (file : QueryFile) : Type 0 where
   pub settled : IsSettled db (question_of file.query)
@@ -140,7 +180,7 @@ done_as (Err refusal) = Err refusal
 -- what is due for a purpose, where the query is planned by this way
 abbrev pub IsServed : Planning → Purpose → Source (List Relation) → Source Queried → Plan → Outcome → Type 0
 IsServed way purpose.Plan = IsExplained
-IsServed way (purpose.Answer cap canon) = IsAnswered way canon cap
+IsServed way (purpose.Answer cap canon name) = IsAnswered way canon name.now cap
 IsServed way (purpose.Witness cap dates) = IsDecided way dates cap
 IsServed way (purpose.Page paging) = IsListed way paging.civil paging.from paging.to paging.limit (after_text paging.after) paging.json paging.cap
 IsServed way (purpose.Count counting) = IsNumberTold way counting.from counting.to counting.cap
@@ -148,7 +188,7 @@ IsServed way (purpose.Ranges ranging) = IsRanged way ranging.civil ranging.from 
 
 -- what the head needs for a purpose, where it needs something
 abbrev pub need_of : Purpose → Option HeadNeed
-need_of (purpose.Answer cap canon) = canon_need canon
+need_of (purpose.Answer cap canon name) = canon_need canon
 need_of (purpose.Count counting) = Some needs.Count
 need_of (purpose.Ranges ranging) = Some needs.Ranges
 need_of _ = None
@@ -158,16 +198,17 @@ abbrev pub IsPageOf : Answer → Paging → Option Tuple → List Spot → Bool 
 IsPageOf answer paging after spots more =
     IsPage (InAnswer answer.head.columns answer.domain answer.store) paging.from paging.to after paging.limit (map (answer_tuple answer) spots) more
 
--- the ends of its window, where it has one
-abbrev pub HasWindow : Purpose → Type 0
-HasWindow (purpose.Page paging) = IsEnd paging.civil paging.from × IsEnd paging.civil paging.to
-HasWindow (purpose.Count counting) = IsEnd counting.civil counting.from × IsEnd counting.civil counting.to
-HasWindow (purpose.Ranges ranging) = IsEnd ranging.civil ranging.from × IsEnd ranging.civil ranging.to
-HasWindow _ = Unit {0}
+-- what holds of a purpose that words ask for: the name of its answers' relation is a name, and the ends of its window are ends
+abbrev pub IsProper : Purpose → Type 0
+IsProper (purpose.Answer cap canon name) = IsName name.now
+IsProper (purpose.Page paging) = IsEnd paging.civil paging.from × IsEnd paging.civil paging.to
+IsProper (purpose.Count counting) = IsEnd counting.civil counting.from × IsEnd counting.civil counting.to
+IsProper (purpose.Ranges ranging) = IsEnd ranging.civil ranging.from × IsEnd ranging.civil ranging.to
+IsProper _ = Unit {0}
 
 -- the question that a command asks, where it asks one: of which files, and for what
 abbrev pub asked_of : Command → Option Asked
-asked_of (Ask files cap canon) = Some (record { files = files; purpose = purpose.Answer cap canon })
+asked_of (Ask files cap canon name) = Some (record { files = files; purpose = purpose.Answer cap canon name })
 asked_of (Decide files cap dates) = Some (record { files = files; purpose = purpose.Witness cap dates })
 asked_of (Page files from to limit after json cap) = Some (record { files = files; purpose = purpose.Page (record { from = from; to = to; limit = limit; after = after; json = json; cap = cap; civil = files.civil }) })
 asked_of (Count files from to cap) = Some (record { files = files; purpose = purpose.Count (record { from = from; to = to; cap = cap; civil = files.civil }) })

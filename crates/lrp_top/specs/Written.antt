@@ -1,5 +1,5 @@
--- What the texts of a database and a query say, by how they are written: with civil values or without, and with temporal operators or without.
-use Rattle.std.specs.Prelude.{◌≡◌, ◌↔◌, ◌⊎◌, ℕ, Bool, true, false, List}
+-- What the texts of a database and a query say, by how they are written: with civil values or without, and in which language the query is.
+use Rattle.std.specs.Prelude.{◌≡◌, ◌↔◌, ◌⊎◌, ℕ, Bool, true, false, List, [], Option, None, Some}
 use Rattle.lrp_model.specs.Checked.{plain_question}
 use Rattle.lrp_model.specs.Formulas.{Question}
 use Rattle.lrp_model.specs.Rows.{Tuple}
@@ -9,7 +9,17 @@ use Rattle.lrp_model.specs.Satisfaction.{IsAnswer}
 use Rattle.lrp_model.specs.Sorting.{IsWellSorted, IsSortFault}
 use Rattle.lrp_model.specs.declared.faults.QueryFault.{QueryFault}
 use Rattle.lrp_model.specs.declared.relations.Relation.{Relation}
-use Rattle.lrp_civil.specs.PlainText.{plain_of}
+use Rattle.lrp_civil.specs.PlainText.{plain_of, plain_as}
+use Rattle.lrp_civil.specs.declared.values.CivilText.{CivilText}
+use Rattle.lrp_civil.specs.declared.values.CivilText.TheVariants.{WideQuery}
+use Rattle.lrp_top.specs.declared.language.QueryLanguage.{QueryLanguage}
+use Rattle.lrp_top.specs.declared.language.QueryLanguage.TheVariants.{FirstOrder, Temporal, Wide}
+use Rattle.lrp_model.specs.RawQueries.{RawFileView}
+use Rattle.lrp_model.specs.QueryReading.{IsFile, IsFileFault}
+use Rattle.lrp_wide.specs.Inlining.{expanded_file}
+use Rattle.lrp_wide.specs.Limits.{IsSmall}
+use Rattle.lrp_wide.specs.Meaning.{IsWideAnswer}
+use Rattle.lrp_wide.specs.WideSorting.{IsWellSortedFile, IsFileSortFault, own_faults}
 use Rattle.lrp_tense.specs.Expanding.{expanded_question}
 use Rattle.lrp_tense.specs.Laws.{IsTenseAnswer}
 use Rattle.lrp_tense.specs.TenseReading.{IsTenseQuery, IsTenseQueryFault}
@@ -20,6 +30,16 @@ use Rattle.lrp_tense.specs.TenseReading.{IsTenseQuery, IsTenseQueryFault}
 abbrev pub plain_if : Bool → List ℕ → List ℕ
 plain_if false bytes = bytes
 plain_if true bytes = plain_of bytes
+
+-- the same where the text has civil values of a kind, if any
+abbrev pub plain_by : Option CivilText → List ℕ → List ℕ
+plain_by None bytes = bytes
+plain_by (Some kind) bytes = plain_as kind bytes
+
+-- the text that a query of the wide language is read from: where times are civil ones, its plain text
+abbrev pub query_plain : Bool → List ℕ → List ℕ
+query_plain false bytes = bytes
+query_plain true bytes = plain_as WideQuery bytes
 
 -- ---- queries
 
@@ -38,10 +58,28 @@ pub record IsTenseSorted (db : List Relation) (bytes : List ℕ) (q : Question) 
   pub plain : q ≡ plain_question (expanded_question written)
   pub answers : (tuple : Tuple) → IsAnswer db q tuple ↔ IsTenseAnswer db written tuple
 
--- the one or the other: the flag says whether queries may have temporal operators
-abbrev pub IsSortedAs : Bool → List Relation → List ℕ → Question → Type 0
-IsSortedAs false = IsSorted
-IsSortedAs true = IsTenseSorted
+-- the bytes are a file of the wide language that is within the limits and well-sorted over the relations, and without its places its query is this one; its answers are those of the file by its own meaning
+pub record IsWideSorted (civil : Bool) (db : List Relation) (bytes : List ℕ) (q : Question) : Type 0 where
+  pub file : RawFileView
+  pub is : IsFile (query_plain civil bytes) file
+  pub small : IsSmall db file
+  pub sorted : IsWellSortedFile db file
+  pub plain : q ≡ plain_question (expanded_file db file)
+  pub answers : (tuple : Tuple) → IsAnswer db q tuple ↔ IsWideAnswer db file tuple
+
+-- the bytes are a file of the wide language that is within the limits and has no sort fault of its own, and with its places the query that stands for it is this one
+pub record IsWideSaid (civil : Bool) (db : List Relation) (bytes : List ℕ) (raw : RawQuestion) : Type 0 where
+  pub file : RawFileView
+  pub is : IsFile (query_plain civil bytes) file
+  pub small : IsSmall db file
+  pub sorted : own_faults db file ≡ []
+  pub written : raw ≡ expanded_file db file
+
+-- by the language of the query
+abbrev pub IsSortedAs : QueryLanguage → List Relation → List ℕ → Question → Type 0
+IsSortedAs FirstOrder = IsSorted
+IsSortedAs Temporal = IsTenseSorted
+IsSortedAs (Wide civil) = IsWideSorted civil
 
 -- the bytes are a query that is well-sorted over the relations, and with its places it is this one
 pub record IsPlacedQuery (db : List Relation) (bytes : List ℕ) (raw : RawQuestion) : Type 0 where
@@ -72,7 +110,26 @@ pub record IsTenseUnsortedBy (db : List Relation) (bytes : List ℕ) (fault : Qu
   pub query : IsTenseQuery bytes written
   pub unsorted : IsSortFault db (expanded_question written) fault
 
+-- the bytes are a file of the wide language within the limits that has this sort fault over the relations
+pub record IsWideUnsortedBy (civil : Bool) (db : List Relation) (bytes : List ℕ) (fault : QueryFault) : Type 0 where
+  pub file : RawFileView
+  pub is : IsFile (query_plain civil bytes) file
+  pub small : IsSmall db file
+  pub unsorted : IsFileSortFault db file fault
+
+-- the bytes are a file of the wide language whose expanded query has too many formulas, or else one that is too deep
+pub record IsTooLarge (civil : Bool) (db : List Relation) (bytes : List ℕ) (Over : List Relation → RawFileView → Type 0) : Type 0 where
+  pub file : RawFileView
+  pub is : IsFile (query_plain civil bytes) file
+  pub over : Over db file
+
+abbrev pub IsOverIn : (List Relation → RawFileView → Type 0) → QueryLanguage → List Relation → List ℕ → Type 0
+IsOverIn Over FirstOrder db bytes = ⊥
+IsOverIn Over Temporal db bytes = ⊥
+IsOverIn Over (Wide civil) db bytes = IsTooLarge civil db bytes Over
+
 -- the text has this one fault, or it is a query with this one sort fault
-abbrev pub IsFaultyAs : Bool → List Relation → List ℕ → QueryFault → Type 0
-IsFaultyAs false db bytes fault = IsQueryFault bytes fault ⊎ IsUnsortedBy db bytes fault
-IsFaultyAs true db bytes fault = IsTenseQueryFault bytes fault ⊎ IsTenseUnsortedBy db bytes fault
+abbrev pub IsFaultyAs : QueryLanguage → List Relation → List ℕ → QueryFault → Type 0
+IsFaultyAs FirstOrder db bytes fault = IsQueryFault bytes fault ⊎ IsUnsortedBy db bytes fault
+IsFaultyAs Temporal db bytes fault = IsTenseQueryFault bytes fault ⊎ IsTenseUnsortedBy db bytes fault
+IsFaultyAs (Wide civil) db bytes fault = IsFileFault (query_plain civil bytes) fault ⊎ IsWideUnsortedBy civil db bytes fault

@@ -17,8 +17,13 @@ pub fn asked_by(command: Command<'_>) -> Option<Asked<'_>>
     ensures { result ≡ asked_of command.entry }
 {
     match command {
-        Command::Ask { files, cap, canon } => {
-            let purpose = Purpose::Answer { cap, canon };
+        Command::Ask {
+            files,
+            cap,
+            canon,
+            name,
+        } => {
+            let purpose = Purpose::Answer { cap, canon, name };
             Some(Asked { files, purpose })
         }
         Command::Decide { files, cap, dates } => {

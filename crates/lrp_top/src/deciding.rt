@@ -1,10 +1,11 @@
 // The decision: what the words ask for, before the first byte is written.
 ghost use Rattle.std.specs.Prelude.{◌≡◌, [], None};
 ghost use Rattle.std.specs.List.{AllByRecursion};
+ghost use Rattle.lrp_top.specs.Languages.{usual_by};
 ghost use Rattle.lrp_top.specs.Due.{IsDue, IsDueOf, IsDatabaseRead, IsOutput, IsLengthOrMemory, files_named, files_of};
 ghost use Rattle.lrp_top.specs.Lengths.{TellsLength};
 ghost use Rattle.lrp_outputs.specs.Outputs.{told};
-ghost use Rattle.lrp_top.specs.Questions.{HasWindow, IsAsked, IsServed, asked_of, need_of};
+ghost use Rattle.lrp_top.specs.Questions.{IsProper, IsAsked, IsServed, asked_of, need_of};
 ghost use Rattle.lrp_top.specs.Seen.{IsOverrun};
 ghost use Rattle.lrp_top.specs.Steps.{Then};
 ghost use Rattle.lrp_top.specs.Telling.{TellsRelations};
@@ -12,7 +13,7 @@ ghost use Rattle.lrp_words.specs.Commands.{task_of};
 ghost use Rattle.lrp_words.specs.Ranges.{IsInRange};
 
 use crate::asking::{Asked, asked_by};
-use crate::files::database_of;
+use crate::files::usual_database;
 use crate::linting::lint;
 use crate::question::question_of;
 use crate::sampling::sample;
@@ -106,11 +107,11 @@ fn check<F: Shelf>(
     civil: bool,
     shelf: &mut F,
 ) -> Result<Output, Refusal>
-    ensures due { Then (IsDatabaseRead civil (⟦<F as Watched>⟧.seen shelf.old shelf.new)
+    ensures due { Then (IsDatabaseRead (usual_by civil) (⟦<F as Watched>⟧.seen shelf.old shelf.new)
         database.now) (λ d. IsOutput (TellsRelations d.says)) (told result) }
     ensures long { TellsLength (⟦<F as Watched>⟧.seen shelf.old shelf.new) (told result) }
 {
-    match database_of(alloc, database, civil, shelf) {
+    match usual_database(alloc, database, civil, shelf) {
         Ok(file) => {
             databases_read_back();
             Ok(Output::Relations(file.into_relations()))
@@ -121,7 +122,7 @@ fn check<F: Shelf>(
 
 /// What is told of a query over a database for a purpose.
 fn answer_to<F: Shelf>(alloc: Global, asked: &Asked<'_>, shelf: &mut F) -> Result<Output, Refusal>
-    requires window { HasWindow asked.now.purpose }
+    requires proper { IsProper asked.now.purpose }
     ensures due { IsAsked asked.now.files (need_of asked.now.purpose)
         (⟦<F as Watched>⟧.seen shelf.old shelf.new)
         (IsServed asked.now.files.planning asked.now.purpose) (told result) }

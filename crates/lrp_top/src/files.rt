@@ -3,17 +3,22 @@ ghost use Rattle.std.specs.Prelude.{◌≡◌, ◌≤◌, IfOk, List as ListOf, 
 ghost use Rattle.std.specs.List.{AllByRecursion};
 ghost use Rattle.lrp_edits.specs.EditMeaning.{IsEditOf};
 ghost use Rattle.lrp_top.specs.Due.{IsDatabaseRead, IsQueryRead};
+ghost use Rattle.lrp_top.specs.Languages.{civil_by, language_by, usual_by};
 ghost use Rattle.lrp_top.specs.Lengths.{TellsLength};
 ghost use Rattle.lrp_top.specs.Questions.{IsFit, asked_as, read_as};
 ghost use Rattle.lrp_top.specs.Watched.{AreEditsRead};
+ghost use Rattle.lrp_words.specs.Commands.{asked_files};
 
+use crate::language::{QueryLanguage, civil_of, language_of, usual_civil};
 use crate::reading::{database_in, edits_in, query_in};
 use crate::seeing::Watched;
+use lrp_civil::CivilText;
 use lrp_database::Database;
 use lrp_edits::Edit;
 use lrp_io::{LoadFault, Shelf, load};
 use lrp_model::{List, Query};
 use lrp_outputs::{Refusal, WatchRefusal};
+use lrp_words::QuestionFiles;
 use std::alloc::Global;
 
 /// The bytes of a database's file, and the relations that they mean.
@@ -77,7 +82,7 @@ impl Drop for QueryFile {
 pub fn database_of<F: Shelf>(
     alloc: Global,
     name: &str,
-    civil: bool,
+    civil: Option<CivilText>,
     shelf: &mut F,
 ) -> Result<DatabaseFile, Refusal>
     ensures read { IsDatabaseRead civil (⟦<F as Watched>⟧.seen shelf.old shelf.new) name.now
@@ -99,10 +104,10 @@ pub fn query_of<F: Shelf>(
     alloc: Global,
     database: &Database,
     name: &str,
-    tense: bool,
+    language: QueryLanguage,
     shelf: &mut F,
 ) -> Result<QueryFile, Refusal>
-    ensures asked { IsQueryRead tense database.now
+    ensures asked { IsQueryRead language database.now
         (⟦<F as Watched>⟧.seen shelf.old shelf.new) name.now (asked_as result) }
     ensures long { TellsLength (⟦<F as Watched>⟧.seen shelf.old shelf.new) result }
     ensures fit { IfOk result (λ file. IsFit database.now file) }
@@ -110,11 +115,59 @@ pub fn query_of<F: Shelf>(
     ensures later { (other : ListOf ℕ) → F.faults shelf.old other ≤ F.faults shelf.new other }
 {
     match load(alloc, shelf, name) {
-        Ok(bytes) => query_in(alloc, database, bytes, tense),
+        Ok(bytes) => query_in(alloc, database, bytes, language),
         Err(LoadFault::Failed) => Err(Refusal::ReadQuery),
         Err(LoadFault::TooLong) => Err(Refusal::LongQuery),
         Err(LoadFault::Memory) => Err(Refusal::Memory),
     }
+}
+
+/// The database of a question's words.
+pub fn database_asked<F: Shelf>(
+    alloc: Global,
+    files: &QuestionFiles<'_>,
+    shelf: &mut F,
+) -> Result<DatabaseFile, Refusal>
+    ensures read { IsDatabaseRead (civil_by (asked_files files.now))
+        (⟦<F as Watched>⟧.seen shelf.old shelf.new) files.now.database.now (read_as result) }
+    ensures long { TellsLength (⟦<F as Watched>⟧.seen shelf.old shelf.new) result }
+    ensures files { F.files shelf.new ≡ F.files shelf.old }
+    ensures later { (other : ListOf ℕ) → F.faults shelf.old other ≤ F.faults shelf.new other }
+{
+    database_of(alloc, files.database, civil_of(files), shelf)
+}
+
+/// The query of a question's words, over a database.
+pub fn query_asked<F: Shelf>(
+    alloc: Global,
+    database: &Database,
+    files: &QuestionFiles<'_>,
+    shelf: &mut F,
+) -> Result<QueryFile, Refusal>
+    ensures asked { IsQueryRead (language_by (asked_files files.now)) database.now
+        (⟦<F as Watched>⟧.seen shelf.old shelf.new) files.now.query.now (asked_as result) }
+    ensures long { TellsLength (⟦<F as Watched>⟧.seen shelf.old shelf.new) result }
+    ensures fit { IfOk result (λ file. IsFit database.now file) }
+    ensures files { F.files shelf.new ≡ F.files shelf.old }
+    ensures later { (other : ListOf ℕ) → F.faults shelf.old other ≤ F.faults shelf.new other }
+{
+    query_of(alloc, database, files.query, language_of(files), shelf)
+}
+
+/// The database of a file where the words say no more than whether times are civil ones.
+pub fn usual_database<F: Shelf>(
+    alloc: Global,
+    name: &str,
+    civil: bool,
+    shelf: &mut F,
+) -> Result<DatabaseFile, Refusal>
+    ensures read { IsDatabaseRead (usual_by civil) (⟦<F as Watched>⟧.seen shelf.old shelf.new)
+        name.now (read_as result) }
+    ensures long { TellsLength (⟦<F as Watched>⟧.seen shelf.old shelf.new) result }
+    ensures files { F.files shelf.new ≡ F.files shelf.old }
+    ensures later { (other : ListOf ℕ) → F.faults shelf.old other ≤ F.faults shelf.new other }
+{
+    database_of(alloc, name, usual_civil(civil), shelf)
 }
 
 /// The edits of a file, over a database.

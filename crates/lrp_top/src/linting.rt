@@ -7,7 +7,7 @@ ghost use Rattle.lrp_top.specs.Lengths.{TellsLength};
 ghost use Rattle.lrp_top.specs.Seen.{ShelfSeen};
 ghost use Rattle.lrp_words.specs.Commands.{linted_files};
 
-use crate::files::database_of;
+use crate::files::usual_database;
 use crate::reading::raw_of;
 use crate::seeing::Watched;
 use lrp_database::Database;
@@ -27,7 +27,7 @@ pub fn lint<F: Shelf>(
         (told result) }
     ensures long { TellsLength (⟦<F as Watched>⟧.seen shelf.old shelf.new) (told result) }
 {
-    let file = database_of(alloc, files.database, files.civil, shelf)?;
+    let file = usual_database(alloc, files.database, files.civil, shelf)?;
     let database = file.into_relations();
     match files.query {
         Some(name) => lint_over(alloc, database, name, files.tense, shelf),

@@ -11,16 +11,29 @@ pub enum Purpose<'a> {
     /// Its plan.
     Plan,
     /// All of its answers, where no step has more than `cap` cells. With `canon` it is the canonical answer, where it has no
-    /// more than `cap` rows.
-    Answer { cap: u32, canon: bool },
+    /// more than `cap` rows. Its relation has this name.
+    Answer {
+        cap: u32,
+        canon: bool,
+        name: &'a str,
+    },
     /// Its least answer, where no step has more than `cap` cells. With `dates` its times are shown as dates.
-    Witness { cap: u32, dates: bool },
+    Witness {
+        cap: u32,
+        dates: bool,
+    },
     /// A page of its answers.
-    Page { paging: Paging<'a> },
+    Page {
+        paging: Paging<'a>,
+    },
     /// How many of its answers lie in a window.
-    Count { counting: Counting },
+    Count {
+        counting: Counting,
+    },
     /// Its answers in a window, as ranges.
-    Ranges { ranging: Ranging },
+    Ranges {
+        ranging: Ranging,
+    },
 }
 
 impl Purpose<'_> {

@@ -12,7 +12,7 @@ ghost use Rattle.lrp_top.specs.Heads.{IsHeadFit, IsHeadFor, IsMetBy};
 ghost use Rattle.lrp_top.specs.Lengths.{TellsLength};
 ghost use Rattle.lrp_top.specs.Questions.{IsAsked, IsMadeOf, IsReady};
 
-use crate::files::{DatabaseFile, QueryFile, database_of, query_of};
+use crate::files::{DatabaseFile, QueryFile, database_asked, query_asked};
 use crate::resuming::times_of;
 use crate::seeing::Watched;
 use lrp_database::Database;
@@ -42,6 +42,27 @@ impl Question {
         let Question { plan, query, .. } = self;
         (plan, query.into_query())
     }
+
+    /// Its database alone.
+    pub fn into_database(self) -> DatabaseFile
+        ensures { result ≡ self.database }
+    {
+        let Question { database, .. } = self;
+        database
+    }
+
+    /// Its database and its query.
+    pub fn into_files(self) -> (DatabaseFile, QueryFile)
+        ensures database { result.0 ≡ self.database }
+        ensures query { result.1 ≡ self.query }
+    {
+        let Question {
+            database,
+            query,
+            ..
+        } = self;
+        (database, query)
+    }
 }
 
 /// The question of a database's file and a query's file, or the first refusal of either, of a head without what is needed, or
@@ -59,8 +80,8 @@ pub fn question_of<F: Shelf>(
     ensures ready { IfOk result (λ question. IsReady question) }
     ensures head { IfOk result (λ question. IsHeadFor need question.query.query.head.columns) }
 {
-    let database = database_of(alloc, files.database, files.civil, shelf)?;
-    let query = query_of(alloc, &database.relations, files.query, files.tense, shelf)?;
+    let database = database_asked(alloc, files, shelf)?;
+    let query = query_asked(alloc, &database.relations, files, shelf)?;
     let plan = fit_plan(
         alloc,
         &database.relations,
@@ -77,7 +98,7 @@ pub fn question_of<F: Shelf>(
 }
 
 /// The plan of a query over a database, whose head has what is needed.
-fn fit_plan(
+pub fn fit_plan(
     alloc: Global,
     database: &Database,
     query: &Query,

@@ -1,6 +1,7 @@
 // A run: one decision, and then one writer.
 ghost use Rattle.std.specs.Prelude.{◌≡◌, []};
 ghost use Rattle.lrp_top.specs.Due.{IsRun, files_named};
+ghost use Rattle.lrp_top.specs.Ends.{Ends};
 ghost use Rattle.lrp_outputs.specs.Outcomes.{status_of};
 ghost use Rattle.lrp_outputs.specs.Outputs.{told};
 
@@ -22,8 +23,15 @@ pub fn run<F: Shelf, S: Sink>(alloc: Global, words: &[String], shelf: &mut F, ou
     ensures unread { files_named words.now ≡ [] → shelf.new ≡ shelf.old }
 {
     let outcome = due(alloc, words, shelf);
-    match write_outcome(out, &outcome) {
-        Ok(()) => status_after(&outcome),
+    tell(out, &outcome)
+}
+
+/// Writes an outcome's text, and gives the status that it ends with.
+pub fn tell<S: Sink>(out: &mut S, outcome: &Result<Output, Refusal>) -> Status
+    ensures { Ends (told outcome.now) (⟦<S as Filled>⟧.taken out.old out.new) result }
+{
+    match write_outcome(out, outcome) {
+        Ok(()) => status_after(outcome),
         Err(Failed) => Status::Write,
     }
 }

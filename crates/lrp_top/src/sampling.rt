@@ -9,6 +9,7 @@ ghost use Rattle.lrp_outputs.specs.Outputs.{sample_text, told};
 ghost use Rattle.lrp_top.specs.Sampled.{TellsSample};
 ghost use Rattle.lrp_top.specs.Samples.{IsSampleOrMemory};
 
+use crate::language::QueryLanguage;
 use crate::listing::gather;
 use crate::purpose::Paging;
 use crate::question::{Question, plan_of};
@@ -50,8 +51,8 @@ fn question_of(alloc: Global, seed: u32, size: u32) -> Result<Question, Refusal>
     sample_texts_are_read();
     sample_query_is_well_sorted();
     sample_is_within_limits();
-    let database = database_in(alloc, database, false)?;
-    let query = query_in(alloc, &database.relations, query, false)?;
+    let database = database_in(alloc, database, None)?;
+    let query = query_in(alloc, &database.relations, query, QueryLanguage::FirstOrder)?;
     let planning = Planning::Written;
     let plan = plan_of(alloc, &database.relations, &query.query, planning)?;
     Ok(Question {

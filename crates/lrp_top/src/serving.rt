@@ -3,6 +3,7 @@ ghost use Rattle.std.specs.Prelude.{◌≡◌, false, true, IfOk, List, ℕ};
 ghost use Rattle.lrp_eval.specs.Answered.{IsAnswerOf};
 ghost use Rattle.lrp_model.specs.DataTexts.{IsDomain};
 ghost use Rattle.lrp_model.specs.Formulas.{Question as Queried, question_of};
+ghost use Rattle.lrp_model.specs.Names.{IsName};
 ghost use Rattle.lrp_model.specs.Sorts.{time_count};
 ghost use Rattle.lrp_model.specs.Steps.{Steps};
 ghost use Rattle.lrp_model.specs.declared.relations.Relation.{Relation};
@@ -12,7 +13,7 @@ ghost use Rattle.lrp_top.specs.Canonical.{IsCanonicalText};
 ghost use Rattle.lrp_top.specs.Heads.{IsHeadFor, canon_need};
 ghost use Rattle.lrp_top.specs.Due.{AreRowsCounted, IsAnswered, IsCounted, IsDecided, IsOutput};
 ghost use Rattle.lrp_outputs.specs.Outputs.{least_of as least_tuple, told, witness_text};
-ghost use Rattle.lrp_top.specs.Questions.{HasWindow, IsReady, IsServed, database_source, done_as, need_of, query_source, question_steps};
+ghost use Rattle.lrp_top.specs.Questions.{IsProper, IsReady, IsServed, database_source, done_as, need_of, query_source, question_steps};
 ghost use Rattle.lrp_outputs.specs.First.{IsFirst};
 ghost use Rattle.lrp_top.specs.Steps.{Then};
 ghost use Rattle.lrp_top.specs.Telling.{TellsWitness};
@@ -25,7 +26,7 @@ use lrp_answer_text::answers_are_texts;
 use lrp_answers::Answer;
 use lrp_canon::canonical_within;
 use lrp_eval::{EvalFault, answer};
-use lrp_model::Memory;
+use lrp_model::{Memory, Name};
 use lrp_outputs::{
     Output, Refusal, WholeAnswer, Witness, WritablePlan, small_answers_have_room,
     spots_stand_for_tuples,
@@ -36,7 +37,7 @@ use std::alloc::Global;
 /// What is told of a question for a purpose, or the first refusal behind its plan.
 pub fn serve(alloc: Global, question: Question, purpose: &Purpose<'_>) -> Result<Output, Refusal>
     requires ready { IsReady question }
-    requires window { HasWindow purpose.now }
+    requires proper { IsProper purpose.now }
     requires head { IsHeadFor (need_of purpose.now) question.query.query.head.columns }
     ensures served { IsServed question.planning purpose.now (database_source question.database)
         (query_source question.query) question.plan (told result) }
@@ -46,7 +47,9 @@ pub fn serve(alloc: Global, question: Question, purpose: &Purpose<'_>) -> Result
             let (plan, query) = question.into_plan();
             Ok(Output::Plan(WritablePlan { plan, query }))
         }
-        Purpose::Answer { cap, canon } => whole_answer(alloc, &question, *cap, *canon),
+        Purpose::Answer { cap, canon, name } => {
+            named_answer(alloc, &question, *cap, *canon, name)
+        }
         Purpose::Witness { cap, dates } => witness(alloc, &question, *cap, *dates),
         Purpose::Page { paging } => page(alloc, question, paging),
         Purpose::Count { counting } => number(alloc, &question, counting),
@@ -75,49 +78,79 @@ pub fn answers(alloc: Global, question: &Question, cap: u32) -> Result<Answer, R
     }
 }
 
-/// All answers of a question, as they come or in canonical form, or the first refusal.
+/// All answers of a question as a relation of this name, as they come or in canonical form, or the first refusal.
+pub fn named_answer(
+    alloc: Global,
+    question: &Question,
+    cap: u32,
+    canon: bool,
+    name: &str,
+) -> Result<Output, Refusal>
+    requires ready { IsReady question.now }
+    requires name { IsName name.now }
+    requires head { IsHeadFor (canon_need canon) question.now.query.query.head.columns }
+    ensures due { IsAnswered question.now.planning canon name.now cap
+        (database_source question.now.database) (query_source question.now.query)
+        question.now.plan (told result) }
+{
+    match Name::new(alloc, name) {
+        Ok(name) => whole_answer(alloc, question, cap, canon, name),
+        Err(Memory) => Err(Refusal::Memory),
+    }
+}
+
+/// The same, of a name in memory of its own.
 fn whole_answer(
     alloc: Global,
     question: &Question,
     cap: u32,
     canon: bool,
+    name: Name,
 ) -> Result<Output, Refusal>
     requires ready { IsReady question.now }
+    requires name { IsName name }
     requires head { IsHeadFor (canon_need canon) question.now.query.query.head.columns }
-    ensures due { IsAnswered question.now.planning canon cap (database_source question.now.database)
-        (query_source question.now.query) question.now.plan (told result) }
+    ensures due { IsAnswered question.now.planning canon name cap
+        (database_source question.now.database) (query_source question.now.query) question.now.plan (told result) }
 {
     if canon {
-        canonical_answer(alloc, question, cap)
+        canonical_answer(alloc, question, cap, name)
     } else {
-        all_answers(alloc, question, cap)
+        all_answers(alloc, question, cap, name)
     }
 }
 
 /// All answers of a question, or the first step with too many cells.
-fn all_answers(alloc: Global, question: &Question, cap: u32) -> Result<Output, Refusal>
+fn all_answers(alloc: Global, question: &Question, cap: u32, name: Name) -> Result<Output, Refusal>
     requires ready { IsReady question.now }
-    ensures due { IsAnswered question.now.planning false cap (database_source question.now.database)
-        (query_source question.now.query) question.now.plan (told result) }
+    requires name { IsName name }
+    ensures due { IsAnswered question.now.planning false name cap
+        (database_source question.now.database) (query_source question.now.query) question.now.plan (told result) }
 {
     match answers(alloc, question, cap) {
         Ok(answer) => {
             answers_are_texts();
-            Ok(Output::Answer(WholeAnswer::new(answer)))
+            Ok(Output::Answer(WholeAnswer::new(answer, name)))
         }
         Err(refusal) => Err(refusal),
     }
 }
 
 /// The canonical answer of a question, or the first step with too many cells, or that it has too many rows.
-fn canonical_answer(alloc: Global, question: &Question, cap: u32) -> Result<Output, Refusal>
+fn canonical_answer(
+    alloc: Global,
+    question: &Question,
+    cap: u32,
+    name: Name,
+) -> Result<Output, Refusal>
     requires ready { IsReady question.now }
+    requires name { IsName name }
     requires head { time_count question.now.query.query.head.columns ≡ 1 }
-    ensures due { IsAnswered question.now.planning true cap (database_source question.now.database)
-        (query_source question.now.query) question.now.plan (told result) }
+    ensures due { IsAnswered question.now.planning true name cap
+        (database_source question.now.database) (query_source question.now.query) question.now.plan (told result) }
 {
     match answers(alloc, question, cap) {
-        Ok(answer) => canonical_text(alloc, question, answer, cap),
+        Ok(answer) => canonical_text(alloc, question, answer, cap, name),
         Err(refusal) => Err(refusal),
     }
 }
@@ -128,8 +161,10 @@ fn canonical_text(
     question: &Question,
     answer: Answer,
     cap: u32,
+    name: Name,
 ) -> Result<Output, Refusal>
     requires ready { IsReady question.now }
+    requires name { IsName name }
     requires head { time_count question.now.query.query.head.columns ≡ 1 }
     requires answers { IsAnswerOf (question_steps question.now)
         question.now.database.relations (question_of question.now.query.query) cap answer }
@@ -137,20 +172,20 @@ fn canonical_text(
     requires domain { IsDomain answer.domain }
     ensures due { Then (AreRowsCounted question.now.database.relations
         (question_of question.now.query.query) cap)
-        (λ counted. IsOutput (IsCanonicalText question.now.database.relations
+        (λ counted. IsOutput (IsCanonicalText name question.now.database.relations
         (question_of question.now.query.query))) (told result) }
 {
     floors_keep_bounds();
     answers_are_texts();
     match canonical_within(alloc, answer, cap) {
-        Ok(Some(answer)) => Ok(Output::Answer(WholeAnswer::new(answer))),
+        Ok(Some(answer)) => Ok(Output::Answer(WholeAnswer::new(answer, name))),
         Ok(None) => Err(Refusal::CanonRows { cap }),
         Err(Memory) => Err(Refusal::Memory),
     }
 }
 
 /// The least answer of a question, or the first step with too many cells.
-fn witness(alloc: Global, question: &Question, cap: u32, dates: bool) -> Result<Output, Refusal>
+pub fn witness(alloc: Global, question: &Question, cap: u32, dates: bool) -> Result<Output, Refusal>
     requires ready { IsReady question.now }
     ensures due { IsDecided question.now.planning dates cap (database_source question.now.database)
         (query_source question.now.query) question.now.plan (told result) }

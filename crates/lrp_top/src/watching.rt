@@ -11,6 +11,7 @@ ghost use Rattle.lrp_watch.specs.Anew.{CanBeDecidedAnew};
 ghost use Rattle.lrp_watch.specs.Watching.{CanBeWatched};
 
 use crate::files::{database_of, edits_of, query_of};
+use crate::language::QueryLanguage;
 use crate::seeing::Watched;
 use lrp_database::Database;
 use lrp_edits::Edit;
@@ -49,8 +50,14 @@ pub fn watch<F: Shelf>(
         files.now.query.now files.now.edits.now how.cap how.planning how.auto (told result) }
     ensures long { TellsLength (⟦<F as Watched>⟧.seen shelf.old shelf.new) (told result) }
 {
-    let database = database_of(alloc, files.database, false, shelf)?;
-    let query = query_of(alloc, &database.relations, files.query, false, shelf)?;
+    let database = database_of(alloc, files.database, None, shelf)?;
+    let query = query_of(
+        alloc,
+        &database.relations,
+        files.query,
+        QueryLanguage::FirstOrder,
+        shelf,
+    )?;
     looked_at(&query.query, how.auto)?;
     let edits = edits_of(alloc, &database.relations, files.edits, shelf)?;
     leasts(

@@ -1,5 +1,5 @@
-use Rattle.lrp_run_laws.proofs.Complete.{each_placed, each_texts, plain_placed, plain_texts, tense_placed, tense_texts}
-use Rattle.lrp_run_laws.proofs.One.{each_fault, plain_faults, runs_alike, tense_faults}
+use Rattle.lrp_run_laws.proofs.Complete.{each_placed, each_texts, plain_placed, plain_texts, tense_placed, tense_texts, wide_texts}
+use Rattle.lrp_run_laws.proofs.One.{each_fault, plain_faults, runs_alike, tense_faults, wide_faults}
 use Rattle.lrp_run_laws.proofs.laws.runs_have_one_outcome.Goals as goal
 
 pub returns : goal.returns
@@ -7,9 +7,11 @@ returns c = runs_alike (record {
   databases = record { one = c.texts_are_of_one_database.ensures; faultless = c.databases_have_no_fault.ensures };
   database_fault = c.databases_have_one_fault.ensures;
   queries = each_texts (plain_texts c.texts_are_of_one_query.ensures c.queries_have_no_fault.ensures c.well_sorted_queries_have_no_fault.ensures)
-      (tense_texts c.texts_are_one_query.ensures.one c.tense_queries_have_no_fault.ensures c.well_sorted_queries_have_no_fault.ensures);
+      (tense_texts c.texts_are_one_query.ensures.one c.tense_queries_have_no_fault.ensures c.well_sorted_queries_have_no_fault.ensures)
+      (λ civil. wide_texts c.texts_are_of_one_file.ensures c.files_have_no_fault.ensures civil);
   query_fault = each_fault (plain_faults c.texts_are_of_one_query.ensures c.queries_have_no_fault.ensures c.queries_have_one_fault.ensures)
-      (tense_faults c.texts_are_one_query.ensures.one c.tense_queries_have_no_fault.ensures c.tense_queries_have_one_fault.ensures);
+      (tense_faults c.texts_are_one_query.ensures.one c.tense_queries_have_no_fault.ensures c.tense_queries_have_one_fault.ensures)
+      (λ civil. wide_faults c.texts_are_of_one_file.ensures c.files_have_no_fault.ensures c.files_have_one_fault.ensures civil);
   placed = each_placed (plain_placed c.texts_are_of_one_query.ensures c.queries_have_no_fault.ensures c.well_sorted_queries_have_no_fault.ensures)
       (tense_placed c.texts_are_one_query.ensures.one c.tense_queries_have_no_fault.ensures c.well_sorted_queries_have_no_fault.ensures);
   report = c.findings_are_one.ensures;

@@ -2,11 +2,11 @@
 use Rattle.lrp_outputs.specs.Outputs.{told}
 use Rattle.lrp_top.specs.Due.{files_of}
 use Rattle.lrp_words.specs.Commands.{task_of}
-use Rattle.lrp_top.proofs.AskingLemmas.{asked_files, asked_window, due_of_asked, lengths_told}
+use Rattle.lrp_top.proofs.AskingLemmas.{asked_files, asked_proper, due_of_asked, lengths_told}
 use Rattle.lrp_top.proofs.deciding.carry_out.Goals as goal
 
 pub answer_to-requires : goal.answer_to-requires
-answer_to-requires g c = record { window = asked_window c.args.command c.in-Some.asked c.in-Some.ensures c.requires.range }
+answer_to-requires g c = record { proper = asked_proper c.args.command c.in-Some.asked c.in-Some.ensures c.requires.range }
 
 pub returns-in-Some-clause-due : goal.returns-in-Some-clause-due
 returns-in-Some-clause-due g c = due_of_asked c.args.command c.in-Some.asked _ (told c.answer_to.result) c.in-Some.ensures c.answer_to.ensures.due

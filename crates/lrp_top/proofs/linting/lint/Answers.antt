@@ -4,6 +4,7 @@ use Rattle.std.proofs.lemmas.Result.{err_from_is_err_and}
 use Rattle.lrp_lint.specs.Reports.{report_text}
 use Rattle.lrp_outputs.specs.Outputs.{told}
 use Rattle.lrp_words.specs.Commands.{after_text, linted_files}
+use Rattle.lrp_top.specs.Languages.{usual_by}
 use Rattle.lrp_top.specs.Questions.{database_source}
 use Rattle.lrp_top.specs.Telling.{TellsFindings}
 use Rattle.lrp_top.proofs.LintLemmas.{lint_alone, lint_since, report_told}
@@ -14,7 +15,7 @@ pub returns-in-Some-clause-due : goal.returns-in-Some-clause-due
 returns-in-Some-clause-due g c =
     let files = c.args.files.now in
     lint_since (linted_files files) _ _ _ (database_source c.in_ok-file.file) c.into_relations-database.result (Some c.in-Some.name.now) (told c.lint_over.result) c.into_relations-database.ensures (sym (ap after_text c.in-Some.is))
-    (read_before files.civil _ _ _ _ c.in_ok-file.ensures.read refl) c.lint_over.ensures.due (sym c.in_ok-file.ensures.files) c.in_ok-file.ensures.later
+    (read_before (usual_by files.civil) _ _ _ _ c.in_ok-file.ensures.read refl) c.lint_over.ensures.due (sym c.in_ok-file.ensures.files) c.in_ok-file.ensures.later
 
 pub returns-in-Some-clause-long : goal.returns-in-Some-clause-long
 returns-in-Some-clause-long g c = λ name over. c.lint_over.ensures.long name (record { named = over.named; many = over.many })

@@ -3,6 +3,7 @@ use Rattle.std.proofs.Common.{refl, sym}
 use Rattle.std.proofs.lemmas.Result.{err_from_is_err_and}
 use Rattle.lrp_model.specs.Formulas.{question_of}
 use Rattle.lrp_words.specs.Commands.{asked_files}
+use Rattle.lrp_top.specs.Languages.{civil_by, language_by}
 use Rattle.lrp_top.proofs.QuestionLemmas.{asked_since, plan_refused, planned_as, query_refused, question_read, read_before}
 use Rattle.lrp_top.specs.Questions.{IsMadeOf, database_source, query_source}
 use Rattle.lrp_top.proofs.question.question_of.Goals as goal
@@ -11,22 +12,22 @@ pub returns-in_err-query-clause-question : goal.returns-in_err-query-clause-ques
 returns-in_err-query-clause-question g c =
     let p = err_from_is_err_and c.from_residual-in_err-query.result c.from_residual-in_err-query.ensures.1 in
     rw (p.1, p.2) (query_refused (asked_files c.args.files.now) c.args.need _ (database_source c.in_ok-database.database) c.in_err-query.field-0.0 IsMadeOf
-    (read_before c.args.files.now.civil _ _ _ _ c.in_ok-database.ensures.read refl)
-    (asked_since c.args.files.now.tense _ _ _ _ _ _ c.in_err-query.ensures.asked (sym c.in_ok-database.ensures.files) (c.in_ok-database.ensures.later c.args.files.now.query.now)))
+    (read_before (civil_by (asked_files c.args.files.now)) _ _ _ _ c.in_ok-database.ensures.read refl)
+    (asked_since (language_by (asked_files c.args.files.now)) _ _ _ _ _ _ c.in_err-query.ensures.asked (sym c.in_ok-database.ensures.files) (c.in_ok-database.ensures.later c.args.files.now.query.now)))
 
 pub returns-in_err-plan-clause-question : goal.returns-in_err-plan-clause-question
 returns-in_err-plan-clause-question g c =
     let p = err_from_is_err_and c.from_residual-in_err-plan.result c.from_residual-in_err-plan.ensures.1 in
     rw (p.1, p.2) (plan_refused (asked_files c.args.files.now) c.args.need _ (database_source c.in_ok-database.database) (query_source c.in_ok-query.query) c.in_err-plan.field-0.0 IsMadeOf
-    (read_before c.args.files.now.civil _ _ _ _ c.in_ok-database.ensures.read refl)
-    (asked_since c.args.files.now.tense _ _ _ _ _ _ c.in_ok-query.ensures.asked (sym c.in_ok-database.ensures.files) (c.in_ok-database.ensures.later c.args.files.now.query.now))
+    (read_before (civil_by (asked_files c.args.files.now)) _ _ _ _ c.in_ok-database.ensures.read refl)
+    (asked_since (language_by (asked_files c.args.files.now)) _ _ _ _ _ _ c.in_ok-query.ensures.asked (sym c.in_ok-database.ensures.files) (c.in_ok-database.ensures.later c.args.files.now.query.now))
     c.in_err-plan.ensures.planned)
 
 pub returns-clause-question : goal.returns-clause-question
 returns-clause-question g c =
     question_read (asked_files c.args.files.now) c.args.need _ (database_source c.in_ok-database.database) (query_source c.in_ok-query.query) c.in_ok-plan.plan IsMadeOf _
-    (read_before c.args.files.now.civil _ _ _ _ c.in_ok-database.ensures.read refl)
-    (asked_since c.args.files.now.tense _ _ _ _ _ _ c.in_ok-query.ensures.asked (sym c.in_ok-database.ensures.files) (c.in_ok-database.ensures.later c.args.files.now.query.now))
+    (read_before (civil_by (asked_files c.args.files.now)) _ _ _ _ c.in_ok-database.ensures.read refl)
+    (asked_since (language_by (asked_files c.args.files.now)) _ _ _ _ _ _ c.in_ok-query.ensures.asked (sym c.in_ok-database.ensures.files) (c.in_ok-database.ensures.later c.args.files.now.query.now))
     c.in_ok-plan.ensures.planned (refl, refl, refl)
 
 pub returns-clause-long : goal.returns-clause-long

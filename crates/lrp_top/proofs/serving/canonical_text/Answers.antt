@@ -6,8 +6,8 @@ use Rattle.std.specs.List.{AllByRecursion}
 use Rattle.lrp_model.specs.AnswerTexts.{IsAnswerTextOf}
 use Rattle.lrp_model.specs.DataTexts.{IsDataText}
 use Rattle.lrp_model.specs.Formulas.{question_of}
-use Rattle.lrp_model.specs.Texts.{Ascends}
-use Rattle.lrp_answer_text.specs.AnswerText.{answer_text}
+use Rattle.lrp_model.specs.Texts.{Ascends, Identifier}
+use Rattle.lrp_answer_text.specs.AnswerText.{named_answer_text}
 use Rattle.lrp_spans.specs.Groups.{HoldsNumber}
 use Rattle.lrp_store.specs.Stores.{zone_count}
 use Rattle.lrp_canon.specs.Canonical.{HasCanonicalZones as HasStoredRows, HasMoreRows, IsCanonicalOf}
@@ -38,6 +38,7 @@ returns-in-Ok-Some c =
     let q = question_of c.args.question.now.query.query in
     let a = c.args.answer in
     let made = c.in-Ok-Some.answer in
+    let called = c.args.name in
     let is : IsCanonicalOf a.store made.store = subst (λ found. IfSome found (λ new. IsCanonicalOf a.store new.store)) c.in-Ok-Some.field-0-is c.in-Ok-Some.ensures.store in
     let head : made.head ≡ a.head = subst (λ found. IfSome found (λ new. new.head ≡ a.head)) c.in-Ok-Some.field-0-is c.in-Ok-Some.ensures.head in
     let domain : made.domain ≡ a.domain = subst (λ found. IfSome found (λ new. new.domain ≡ a.domain)) c.in-Ok-Some.field-0-is c.in-Ok-Some.ensures.domain in
@@ -55,16 +56,17 @@ returns-in-Ok-Some c =
           column = c.requires.head;
           period = made.store.period;
           least = period_named (HoldsNumber a.store) (HasNumber db q) sets made.store.period least;
-          text = subst (λ of. IsAnswerTextOf made.store.period db q (answer_text of)) (sym c.new.ensures) (c.answers_are_texts.ensures db q made (record {
-            store = is.canonical.valid;
-            ascends = subst Ascends (sym domain) c.requires.domain.ascends;
-            head = ap (λ h. h.columns) head ∙ c.requires.answers.head;
-            answers = answers_moved (question_steps c.args.question.now) db q c.args.cap a c.requires.answers made head domain is.same;
-            settled = is.canonical.settled;
-            room = is.room;
-            texts = subst (AllByRecursion IsDataText) (sym domain) c.requires.domain.whole;
-            columns = c.requires.ready.head;
-          }));
+          text = subst (λ (n : Identifier). IsAnswerTextOf called made.store.period db q (named_answer_text n c.new.result.answer)) (sym c.new.ensures.name)
+              (subst (λ of. IsAnswerTextOf called made.store.period db q (named_answer_text called of)) (sym c.new.ensures.answer) (c.answers_are_texts.ensures called db q made c.requires.name (record {
+                store = is.canonical.valid;
+                ascends = subst Ascends (sym domain) c.requires.domain.ascends;
+                head = ap (λ h. h.columns) head ∙ c.requires.answers.head;
+                answers = answers_moved (question_steps c.args.question.now) db q c.args.cap a c.requires.answers made head domain is.same;
+                settled = is.canonical.settled;
+                room = is.room;
+                texts = subst (AllByRecursion IsDataText) (sym domain) c.requires.domain.whole;
+                columns = c.requires.ready.head;
+              })));
         };
       };
     }

@@ -6,7 +6,7 @@ use Rattle.lrp_top.proofs.serving.serve.Goals as goal
 
 pub returns-in-Answer : goal.returns-in-Answer
 returns-in-Answer c = record {
-  served = subst (λ p. IsServed c.args.question.planning p (database_source c.args.question.database) (query_source c.args.question.query) c.args.question.plan (told c.whole_answer.result)) (sym c.in-Answer.is) c.whole_answer.ensures.due;
+  served = subst (λ p. IsServed c.args.question.planning p (database_source c.args.question.database) (query_source c.args.question.query) c.args.question.plan (told c.named_answer.result)) (sym c.in-Answer.is) c.named_answer.ensures.due;
 }
 
 pub returns-in-Witness : goal.returns-in-Witness

@@ -12,9 +12,9 @@ canonical_answer-requires-clause-head c = subst (λ canon. IsHeadFor (canon_need
 pub returns-then-canon : goal.returns-then-canon
 returns-then-canon c =
     let question = c.args.question.now in
-    record { due = subst (λ canon. IsAnswered question.planning canon c.args.cap (database_source question.database) (query_source question.query) question.plan (told c.canonical_answer.result)) (sym c.if-canon.true) c.canonical_answer.ensures.due }
+    record { due = subst (λ canon. IsAnswered question.planning canon c.args.name c.args.cap (database_source question.database) (query_source question.query) question.plan (told c.canonical_answer.result)) (sym c.if-canon.true) c.canonical_answer.ensures.due }
 
 pub returns-else-canon : goal.returns-else-canon
 returns-else-canon c =
     let question = c.args.question.now in
-    record { due = subst (λ canon. IsAnswered question.planning canon c.args.cap (database_source question.database) (query_source question.query) question.plan (told c.all_answers.result)) (sym c.if-canon.false) c.all_answers.ensures.due }
+    record { due = subst (λ canon. IsAnswered question.planning canon c.args.name c.args.cap (database_source question.database) (query_source question.query) question.plan (told c.all_answers.result)) (sym c.if-canon.false) c.all_answers.ensures.due }
