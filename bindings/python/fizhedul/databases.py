@@ -20,7 +20,8 @@ class Database:
     """Relations, as the text of a database says them.
 
     `text` is the text, or its bytes. With `civil`, times in it may be dates, and all windows and answers have dates.
-    Nothing is read before the first question; a fault of the text is then Refused, as `check` tells at once.
+    Nothing is read before the first question; a fault of the text is then Refused, as `check` tells at once. What was
+    read is kept for the next question, and the answers of a query that is listed page by page for the next page.
 
     >>> Database("relation bus(t: time) { (5+60n); }").check()
     'relation bus(t: time) {\\n  (5+60n);\\n}\\n'
@@ -29,6 +30,7 @@ class Database:
     def __init__(self, text: str | bytes, *, civil: bool = False) -> None:
         self.text = text.encode() if isinstance(text, str) else bytes(text)
         self.civil = civil
+        self.kept: engine.Kept | None = None
 
     @classmethod
     def from_rows(
@@ -72,27 +74,31 @@ class Database:
         *,
         plan: Literal["guarded", "written"] = "guarded",
         tense: bool = False,
+        wide: bool = False,
         cap: int | None = None,
     ) -> Query:
         """A query over these relations, by its text.
 
         `plan` says whether what stands after `not` is made under guards, or as it is written; `tense` that temporal
-        operators may stand in the text; `cap` how many cells a step may have before the question is refused.
+        operators may stand in the text; `wide` that it is in the wide language, with definitions before the query; `cap`
+        how many cells a step may have before the question is refused.
 
         >>> Database("relation bus(t: time) { (5+60n); }").query("{ t: time | bus(t) }").decide()
         (5,)
+        >>> text = "define late(t: time) as bus(t) and t != 5; { t: time | late(t) and t > 0 }"
+        >>> Database("relation bus(t: time) { (5+60n); }").query(text, wide=True).decide()
+        (65,)
         """
-        return Query(self, text, plan=plan, tense=tense, cap=cap)
+        return Query(self, text, plan=plan, tense=tense, wide=wide, cap=cap)
 
     def asked(self, words: Sequence[str], query: str | None = None) -> str:
         """What the engine writes for a command and its keys but those of files and of dates. Raises Refused."""
-        files = {NAME: self.text}
-        more = [f"db={NAME}"]
-        if query is not None:
-            files["query"] = query.encode()
-            more.append("query=query")
+        files = {} if query is None else {"query": query.encode()}
+        named = [f"db={NAME}", *(f"{name}={name}" for name in files)]
         civil = ["civil=yes"] if self.civil else []
-        return answered(engine.run([words[0], *more, *words[1:], *civil], files), files)
+        if self.kept is None:
+            self.kept = engine.Kept({NAME: self.text})
+        return answered(self.kept.run([words[0], *named, *words[1:], *civil], files), {NAME: self.text, **files})
 
 
 def open(path: str | os.PathLike[str], *, civil: bool = False) -> Database:

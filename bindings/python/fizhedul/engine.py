@@ -2,10 +2,11 @@
 
 import ctypes
 import os
-from collections.abc import Iterable, Mapping, Sequence
+from collections.abc import Callable, Iterable, Mapping, Sequence
 from functools import cache
 from pathlib import Path
-from typing import NamedTuple
+from threading import Lock
+from typing import Any, NamedTuple
 
 NAME = "libfizhedul.so.1"
 ROOM = 1 << 16
@@ -22,6 +23,12 @@ class Output(NamedTuple):
     text: bytes
 
 
+class Handle(ctypes.Structure):
+    """What the library has of files that it keeps, as `fizhedul.h` says."""
+
+    _fields_ = [("is_open", ctypes.c_uint8), ("memory", ctypes.c_void_p)]
+
+
 @cache
 def library() -> ctypes.CDLL:
     """The shared library, which is loaded once.
@@ -30,14 +37,17 @@ def library() -> ctypes.CDLL:
     """
     beside = Path(__file__).with_name(NAME)
     name = os.environ.get("FIZHEDUL_LIBRARY") or (str(beside) if beside.exists() else NAME)
+    size, text = ctypes.c_size_t, ctypes.c_char_p
+    handle = ctypes.POINTER(Handle)
+    call: list[Any] = [text, size, text, size, text, size, ctypes.POINTER(size)]
     try:
         loaded = ctypes.CDLL(name)
-        run_it = loaded.fizhedul_run
+        loaded.fizhedul_run.argtypes = call
+        loaded.fizhedul_open.argtypes = [text, size, handle]
+        loaded.fizhedul_ask.argtypes = [handle, *call]
+        loaded.fizhedul_close.argtypes = [handle]
     except (OSError, AttributeError) as fault:
         raise MissingLibrary(f"the shared library {name} can't be loaded: {fault}") from fault
-    size = ctypes.c_size_t
-    run_it.argtypes = [ctypes.c_char_p, size, ctypes.c_char_p, size, ctypes.c_char_p, size, ctypes.POINTER(size)]
-    run_it.restype = ctypes.c_int32
     return loaded
 
 
@@ -59,6 +69,16 @@ def packed(texts: Iterable[bytes]) -> bytes:
     return b"".join(len(text).to_bytes(8, "little") + text for text in texts)
 
 
+def packed_words(words: Iterable[str]) -> bytes:
+    """Words as the library takes them."""
+    return packed(word.encode("utf-8", "surrogateescape") for word in words)
+
+
+def packed_files(files: Mapping[str, bytes]) -> bytes:
+    """Files as the library takes them: of each its name, and then its bytes."""
+    return packed(part for name, text in files.items() for part in (name.encode("utf-8", "surrogateescape"), text))
+
+
 def run(words: Sequence[str], files: Mapping[str, bytes]) -> Output:
     """What the program writes for these words, over files that have the names in the words.
 
@@ -67,14 +87,45 @@ def run(words: Sequence[str], files: Mapping[str, bytes]) -> Output:
     >>> run(["check", "db=a"], {})
     Output(status=6, text=b'refused: read of database\\n')
     """
-    call = library().fizhedul_run
-    asked = packed(word.encode("utf-8", "surrogateescape") for word in words)
-    held = packed(part for name, text in files.items() for part in (name.encode("utf-8", "surrogateescape"), text))
-    length = ctypes.c_size_t()
-    room = ROOM
+    call, asked, held = library().fizhedul_run, packed_words(words), packed_files(files)
+    return told_by(lambda *out: int(call(asked, len(asked), held, len(held), *out)))
+
+
+def told_by(call: Callable[..., int]) -> Output:
+    """What a call tells, which is made again with more room where its text is longer than the room."""
+    length, room = ctypes.c_size_t(), ROOM
     while True:
         text = ctypes.create_string_buffer(room)
-        status = call(asked, len(asked), held, len(held), text, room, ctypes.byref(length))
+        status = call(text, room, ctypes.byref(length))
         if length.value <= room:
             return Output(status, text.raw[: length.value])
         room = length.value
+
+
+class Kept:
+    """Files that the library keeps from one question to the next, as what it reads of them. Threads may share it.
+
+    Raises MemoryError where the library is refused memory for the files.
+
+    >>> kept = Kept({"a": b"relation r(t: time) { (0+2n); }"})
+    >>> kept.run(["decide", "db=a", "query=q"], {"q": b"{ t: time | r(t) }"}).text
+    b'Answer\\n  (0)\\n'
+    """
+
+    def __init__(self, files: Mapping[str, bytes]) -> None:
+        self.library = library()
+        self.handle, self.lock = Handle(), Lock()
+        held = packed_files(files)
+        if self.library.fizhedul_open(held, len(held), ctypes.byref(self.handle)):
+            raise MemoryError("the library was refused memory for the files")
+
+    def run(self, words: Sequence[str], files: Mapping[str, bytes]) -> Output:
+        """What the program writes for these words over these files in front of those that are kept."""
+        call, asked, held = self.library.fizhedul_ask, packed_words(words), packed_files(files)
+        handle = ctypes.byref(self.handle)
+        with self.lock:
+            return told_by(lambda *out: int(call(handle, asked, len(asked), held, len(held), *out)))
+
+    def __del__(self) -> None:
+        if hasattr(self, "handle"):
+            self.library.fizhedul_close(ctypes.byref(self.handle))

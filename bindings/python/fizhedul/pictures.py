@@ -25,7 +25,8 @@ def svg_of_window(query: "Query", first: int, last: int, most: int) -> str:
     found = list(islice(query.list(first, last), most + 1))
     answers = [[value if isinstance(value, int) else str(value) for value in answer] for answer in found[:most]]
     period = max((step.period for step in query.explain()), default=0)
-    question = workbench("program").Question("database", "query", first, last, is_civil=civil, is_tense=query.tense)
+    keys = {"is_civil": civil, "is_tense": query.tense} | ({"is_wide": True} if query.wide else {})
+    question = workbench("program").Question("database", "query", first, last, **keys)
     picture = marks.laid_out(question, query.text, answers, len(found) > most, period=period)
     look = workbench("draw.look").Look(form="svg", with_dates=civil)
     drawn: str = svg.svg_of(picture, look, page.asset("picture.css"))

@@ -28,12 +28,13 @@ PAGE = 1000
 EPOCH = datetime(1970, 1, 1)
 DAY = 1440
 HEAD = re.compile(r"\{([^|]*)\|")
+TEXT_OR_COMMENT = re.compile(r'"(?:[^"\\\n]|\\.)*"|#[^\n]*')
 COLUMN = re.compile(r"(\w+)\s*:\s*(\w+)", re.ASCII)
 MOST_MARKS = 500
 
 
 class Query:
-    """A query over a database, as `Database.query` makes it. It keeps nothing: each call asks anew.
+    """A query over a database, as `Database.query` makes it. What is kept of it, its database keeps.
 
     Times are integers. Over a civil database they are minutes since 1970 that stand as `datetime`s without a zone, in
     answers as in the ends of windows. Each call raises Refused where the database or the query has a fault, where a
@@ -47,12 +48,14 @@ class Query:
         *,
         plan: Literal["guarded", "written"] = "guarded",
         tense: bool = False,
+        wide: bool = False,
         cap: int | None = None,
     ) -> None:
         self.database = database
         self.text = text
         self.plan = plan
         self.tense = tense
+        self.wide = wide
         self.cap = cap
 
     def __repr__(self) -> str:
@@ -66,7 +69,7 @@ class Query:
         >>> fizhedul.Database("").query("{ t: time, l: data | bus(t, l) }").columns
         [('t', 'time'), ('l', 'data')]
         """
-        head = HEAD.search(re.sub(r"#[^\n]*", "", self.text))
+        head = HEAD.search(TEXT_OR_COMMENT.sub("", self.text))
         return [(found[1], found[2]) for found in COLUMN.finditer(head[1])] if head else []
 
     def decide(self) -> tuple[Value, ...] | None:
@@ -189,8 +192,9 @@ class Query:
         """What the engine writes for this query: the text of a command with further keys. Raises Refused."""
         plan = ["plan=guarded"] if self.plan == "guarded" else []
         tense = ["tense=yes"] if self.tense else []
+        wide = ["wide=yes"] if self.wide else []
         cap = [f"cap={self.cap}"] if self.cap is not None and command != "explain" else []
-        return self.database.asked([command, *keys, *cap, *plan, *tense], self.text)
+        return self.database.asked([command, *keys, *cap, *plan, *tense, *wide], self.text)
 
     def window(self, first: Time, last: Time) -> Words:
         """The keys of a window."""

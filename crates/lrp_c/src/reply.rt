@@ -30,7 +30,7 @@ pub fn reply_to(alloc: Global, words: &[u8], files: &[u8]) -> Result<Reply, Unre
 }
 
 /// What these words come to over these files.
-fn run_over(alloc: Global, words: &[String], files: List<File>) -> Reply
+pub fn run_over(alloc: Global, words: &[String], files: List<File>) -> Reply
     ensures { IsRunOver words.now files result.text.items result.status }
 {
     run_on::<Brand>(alloc, words, files)

@@ -1,0 +1,11 @@
+-- What the search for a name keeps.
+use Rattle.std.proofs.Common.{◌≡◌, drop}
+use Rattle.lrp_io.specs.Files.{content_of, holds_file}
+use Rattle.lrp_c.proofs.files.place_of.Given as goal
+
+-- the first file of this name is among the rest
+abbrev pub invariant-loop-i : goal.invariant-loop-i
+invariant-loop-i l = record {
+  content : content_of l.files l.name ≡ content_of (drop l.i l.files) l.name;
+  held : holds_file l.files l.name ≡ holds_file (drop l.i l.files) l.name;
+}
