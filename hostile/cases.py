@@ -41,7 +41,7 @@ def every_case():
 class Judge:
     """What the second opinion says of one case, in the order in which refusals are given. None: it says nothing.
 
-    It says nothing of samples, of pages behind tokens, of files that a script of the example makes, and of edits of many rows.
+    It says nothing of samples, of the wide language, which has its own second opinion, of pages behind tokens, of files that a script of the example makes, and of edits of many rows.
     """
 
     def __init__(self, folder, words, budget):
@@ -55,7 +55,7 @@ class Judge:
         """The status and the output that are wanted; where the output is of a free form, the given text if that is right."""
         if not is_command(self.words):
             return 2, b"refused: usage\n"
-        if self.words[0] == "sample":
+        if self.words[0] == "sample" or self.keys.get("wide") == "yes":
             return None
         if self.words[0] == "watch":
             return self.watched()

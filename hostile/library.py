@@ -2,6 +2,7 @@
 questions one after the other in one process, against the program, which is begun anew for each."""
 
 import ctypes
+import functools
 import os
 import random
 import resource
@@ -21,13 +22,40 @@ def packed(texts):
     return b"".join(len(text).to_bytes(8, "little") + text for text in texts)
 
 
+class Handle(ctypes.Structure):
+    """What the library keeps of a database."""
+
+    _fields_ = [("is_open", ctypes.c_uint8), ("memory", ctypes.c_void_p)]
+
+
 class Library:
     """The calls of the shared library."""
 
     def __init__(self, path):
-        size = ctypes.c_size_t
-        self.call = ctypes.CDLL(path).fizhedul_run
+        size, handle = ctypes.c_size_t, ctypes.POINTER(Handle)
+        loaded = ctypes.CDLL(path)
+        self.call, self.open_call, self.ask_call = loaded.fizhedul_run, loaded.fizhedul_open, loaded.fizhedul_ask
+        self.close = loaded.fizhedul_close
         self.call.argtypes = [*[ctypes.c_char_p, size] * 3, ctypes.POINTER(size)]
+        self.ask_call.argtypes = [handle, *self.call.argtypes]
+        self.open_call.argtypes, self.close.argtypes = [ctypes.c_char_p, size, handle], [handle]
+
+    def open(self, handle, **files):
+        """The status of opening these files in a handle."""
+        held = packed(part for name, text in files.items() for part in (name.encode(), text))
+        return self.open_call(held, len(held), handle)
+
+    def ask(self, handle, *words, **files):
+        """The status and the text, as of a run over these files in front of those that are kept."""
+        said = packed(word.encode() for word in words)
+        held = packed(part for name, text in files.items() for part in (name.encode(), text))
+        length, room = ctypes.c_size_t(1), ROOM
+        while True:
+            text = ctypes.create_string_buffer(room)
+            status = self.ask_call(handle, said, len(said), held, len(held), text, room, ctypes.byref(length))
+            if length.value <= room:
+                return status, text.raw[: length.value]
+            room = length.value
 
     def raw(self, words, files, room=ROOM):
         """The status, the length, and what stands in the room and in 16 bytes after it."""
@@ -104,6 +132,74 @@ def in_threads(library, tally, seeds):
         tally.check(into == wanted, "a thread got something else")
 
 
+def pages(tell, words, files):
+    """Each page of a question, one after the other."""
+    after = []
+    while True:
+        told = tell(*words, *after, **files)
+        yield told
+        last = told[1].splitlines()[-1].partition(b" ")
+        if told[0] != 0 or last[0] != b"more":
+            return
+        after = ["after=" + last[2].decode()]
+
+
+def kept_as_run(library, tally, seeds):
+    """Questions of a database that is kept, in any order and again, are answered as runs are: also where the query, its words or
+    the database of the call are others."""
+    chance, handle, others = random.Random(3), Handle(), []
+    for seed in seeds:
+        asked = list(questions(seed))
+        base = asked[0][1]["db"]
+        tally.check(library.open(handle, db=base) == 0, "a database isn't opened")
+        others = [*others[-4:], *((words, {"query": files.get("query", b"")}) for words, files in asked)]
+        for words, files in chance.choices(others, k=8):
+            cap = chance.choice([[], [], ["cap=1"], ["cap=100"]]) if words[0] in ("ask", "decide", "list") else []
+            if chance.random() < 0.1:
+                files = {**files, "db": BUS}
+            over = {**{"db": base}, **files}
+            wanted = [*pages(library.run, [*words, *cap], over)] if words[0] == "list" else [library.run(*words, *cap, **over)]
+            tell = functools.partial(library.ask, handle)
+            got = [*pages(tell, [*words, *cap], files)] if words[0] == "list" else [tell(*words, *cap, **files)]
+            tally.check(got == wanted, "kept: " + " ".join([*words, *cap]), *over.values(), *(text for _, text in wanted))
+    tally.check(library.close(handle) == 0, "a database isn't closed")
+
+
+def closed(library, tally):
+    """A database that isn't open is told, and one that is opened twice is the second one."""
+    handle = Handle()
+    tally.check(library.ask(handle, *ASK, query=INSTANTS) == (11, b""), "a closed database answers")
+    tally.check(library.close(handle) == 11, "a closed database is closed")
+    for base in (BUS, b"relation bus(t: time) { (7+60n); }"):
+        tally.check(library.open(handle, db=base) == 0, "a database isn't opened")
+        wanted = library.run(*ASK, db=base, query=INSTANTS)
+        tally.check(library.ask(handle, *ASK, query=INSTANTS) == wanted, "an open database doesn't answer")
+    tally.check(library.open_call(b"x", 1, handle) == 10, "files that aren't packed are opened")
+    tally.check(library.ask(handle, *ASK, query=INSTANTS) == wanted, "a call that failed changed a database")
+    tally.check((library.close(handle), library.close(handle)) == (0, 11), "a database is closed twice")
+
+
+def kept_in_threads(library, tally, seeds):
+    """Four threads with a database each."""
+    tallied = []
+
+    def ask(own):
+        handle = Handle()
+        for seed in own:
+            for words, files in questions(seed):
+                library.open(handle, db=files["db"])
+                more = {name: text for name, text in files.items() if name != "db"}
+                tallied.append(library.ask(handle, *words, **more) == library.run(*words, **files))
+        library.close(handle)
+
+    threads = [threading.Thread(target=ask, args=(seeds[first::4],)) for first in range(4)]
+    for thread in threads:
+        thread.start()
+    for thread in threads:
+        thread.join()
+    tally.check(all(tallied), "a thread's database answered something else")
+
+
 def growth(library, tally, count):
     """The process doesn't grow while the same questions are asked again and again."""
     base, query = example("week", "connections")
@@ -112,6 +208,11 @@ def growth(library, tally, count):
     before = resource.getrusage(resource.RUSAGE_SELF).ru_maxrss
     for _ in range(10 * count):
         library.run("decide", "db=db", "query=query", db=base, query=query)
+    handle = Handle()
+    for _ in range(10 * count):
+        library.open(handle, db=base)
+        library.ask(handle, "list", "db=db", "query=query", "from=0", "to=200", "limit=2", query=query)
+    library.close(handle)
     grown = resource.getrusage(resource.RUSAGE_SELF).ru_maxrss - before
     tally.check(grown < 1024, "the process grew by %d KB" % grown)
 
@@ -121,7 +222,7 @@ def refused_memory(program, tally, path):
     made = os.path.join(program.room, "refused_calls")
     folder = os.path.dirname(os.path.realpath(path))
     wraps = ["-Wl,--wrap=" + name for name in ("malloc", "realloc", "free")]
-    words = ["cc", "-O1", "-I", os.path.join(HERE, "..", "packaging", "library"), "-o", made]
+    words = ["cc", "-O1", "-Wall", "-Wextra", "-Werror", "-I", os.path.join(HERE, "..", "packaging", "library"), "-o", made]
     archive = os.path.join(folder, "libfizhedul.a")
     built = subprocess.run([*words, os.path.join(HERE, "refused_calls.c"), archive, *wraps], capture_output=True, check=False)
     tally.check(built.returncode == 0, "the calls can't be built", built.stderr)
@@ -129,8 +230,11 @@ def refused_memory(program, tally, path):
                                  (("list", *ASK[1:], "from=0", "to=200"), (BUS, INSTANTS)), (("nothing",), (BUS, INSTANTS))):
         program.write("words", packed(word.encode() for word in words))
         program.write("files", packed([b"db", base, b"query", query]))
-        ran = subprocess.run([made, "words", "files"], cwd=program.folder, capture_output=True, check=False, timeout=WAIT)
-        tally.check(ran.returncode == 0 and int(ran.stdout) > 1, " ".join(words), ran.stdout)
+        program.write("asked", packed([b"query", query]))
+        program.write("kept", packed([b"db", base]))
+        for names in (["files"], ["asked", "kept"]):
+            ran = subprocess.run([made, "words", *names], cwd=program.folder, capture_output=True, check=False, timeout=WAIT)
+            tally.check(ran.returncode == 0 and int(ran.stdout) > 1, " ".join([*words, *names]), ran.stdout)
 
 
 def calls_of_library(program, tally, seeds):
@@ -144,5 +248,8 @@ def calls_of_library(program, tally, seeds):
     odd_bytes(library, tally, 20 * len(seeds))
     same_as_processes(library, program, tally, seeds)
     in_threads(library, tally, seeds[:20])
+    closed(library, tally)
+    kept_as_run(library, tally, seeds)
+    kept_in_threads(library, tally, seeds[:20])
     growth(library, tally, 100)
     refused_memory(program, tally, path)

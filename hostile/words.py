@@ -20,12 +20,12 @@ REQUIRED = {
     "watch": {"db", "query", "edits"},
 }
 FURTHER = {
-    "ask": {"cap", "civil", "tense", "canon", "plan"},
-    "decide": {"cap", "civil", "tense", "plan", "show"},
-    "list": {"limit", "after", "form", "cap", "civil", "tense", "plan"},
-    "count": {"cap", "civil", "tense", "plan"},
-    "ranges": {"limit", "form", "cap", "civil", "tense", "plan"},
-    "explain": {"civil", "tense", "plan"},
+    "ask": {"as", "cap", "civil", "tense", "wide", "canon", "plan"},
+    "decide": {"cap", "civil", "tense", "wide", "plan", "show"},
+    "list": {"limit", "after", "form", "cap", "civil", "tense", "wide", "plan"},
+    "count": {"cap", "civil", "tense", "wide", "plan"},
+    "ranges": {"limit", "form", "cap", "civil", "tense", "wide", "plan"},
+    "explain": {"civil", "tense", "wide", "plan"},
     "check": {"civil"},
     "lint": {"query", "civil", "tense"},
     "sample": set(),
@@ -43,11 +43,13 @@ CHOICES = {
     "form": ("plain", "json"),
     "civil": ("yes", "no"),
     "tense": ("yes", "no"),
+    "wide": ("yes", "no"),
     "canon": ("yes", "no"),
     "plan": ("written", "guarded"),
     "show": ("minutes", "dates"),
     "kept": ("yes", "auto"),
 }
+RESERVED = ("relation", "where", "time", "data", "n", "exists", "forall", "not", "and", "or", "implies", "in")
 VALUES = (
     "",
     "none",
@@ -103,6 +105,8 @@ def is_value(key, value, is_civil):
         return least <= int(value) <= most
     if key in CHOICES:
         return value in CHOICES[key]
+    if key == "as":
+        return bool(re.fullmatch(r"[A-Za-z_][A-Za-z0-9_]*", value)) and value not in RESERVED
     return key == "after" or value != ""
 
 
@@ -174,7 +178,7 @@ def good_value(chance, key):
     if key in RANGES:
         least, most = RANGES[key]
         return chance.choice((least, most, 1, chance.randint(least, most)))
-    of_key = {**CHOICES, "after": ("", "T1/5/", "=", "none")}
+    of_key = {**CHOICES, "after": ("", "T1/5/", "=", "none"), "as": ("answer", "b_1", "n", "9x")}
     return chance.choice(of_key.get(key, ("none", "none", "a=b", "é")))
 
 
