@@ -4,20 +4,20 @@
 _fizhedul_keys() {
     local keys=
     case $1 in
-        ask) keys='db query cap plan tense canon civil' ;;
-        decide) keys='db query cap plan tense civil show' ;;
+        ask) keys='db query cap plan tense wide canon as civil' ;;
+        decide) keys='db query cap plan tense wide civil show' ;;
         watch) keys='db query edits cap kept plan' ;;
-        list) keys='db query from to limit after form cap plan tense civil' ;;
-        count) keys='db query from to cap plan tense civil' ;;
-        ranges) keys='db query from to limit form cap plan tense civil' ;;
-        explain) keys='db query plan tense civil' ;;
+        list) keys='db query from to limit after form cap plan tense wide civil' ;;
+        count) keys='db query from to cap plan tense wide civil' ;;
+        ranges) keys='db query from to limit form cap plan tense wide civil' ;;
+        explain) keys='db query plan tense wide civil' ;;
         check) keys='db civil' ;;
         lint) keys='db query tense civil' ;;
         sample) keys='seed size' ;;
-        shell) keys='db from to limit cap plan tense canon civil' ;;
-        draw) keys='db query from to format grid marks hour out ranges tree cells cap plan tense civil' ;;
-        page) keys='db query from to cap plan tense civil dates hour engine port open' ;;
-        spread) keys='db query queries from to parts by overlap engine out jobs tries hosts scheduler options limit form cap plan tense civil' ;;
+        shell) keys='db from to limit cap plan tense wide canon civil' ;;
+        draw) keys='db query from to format grid marks hour out ranges tree cells cap plan tense wide civil' ;;
+        page) keys='db query from to cap plan tense wide civil dates hour engine port open' ;;
+        spread) keys='db query queries from to parts by overlap engine out jobs tries hosts scheduler options limit form cap plan tense wide civil' ;;
     esac
     echo "$keys"
 }
@@ -43,6 +43,7 @@ _fizhedul_values() {
         edits) endings='lre' ;;
         plan) values='written guarded' ;;
         tense) values='no yes' ;;
+        wide) values='no yes' ;;
         canon) values='no yes' ;;
         civil) values='no yes' ;;
         show) values='minutes dates' ;;

@@ -9,11 +9,12 @@ from difflib import get_close_matches
 from pathlib import Path
 from typing import NamedTuple
 
-from civil import fault_of_civil, plain_text
-from grammar import TOKEN, Grammar, fault_of_syntax, without_texts_and_comments
+from civil import fault_of_civil, fault_of_date, plain_text
+from grammar import TOKEN, Grammar, fault_of_syntax, is_wide, read, without_texts_and_comments
 from hints import BYTE_ORDER_MARK, hint_of
 from places import read_lines
 from rewriting import with_variables
+from table import read_table
 
 RELATION = re.compile(r"\brelation\s+([A-Za-z_]\w*)\s*\(([^)]*)\)", re.ASCII)
 HEAD = re.compile(r"\{([^|]*)\|")
@@ -22,7 +23,8 @@ PERIOD = re.compile(r"\+\s*(\d+)\s*n\b", re.ASCII)
 NUMBER = re.compile(r"(?<![A-Za-z_0-9])(\d+)", re.ASCII)
 # A text, or a comma between two values of a row or two terms.
 COMMA_OR_TEXT = re.compile(r'"(?:[^"\\\n]|\\.)*"|,')
-BEGINNINGS = {"db": r"relation\b", "query": r"\{", "edits": r"[+-]"}
+DEFINITION = re.compile(r"\bdefine\s+([A-Za-z_]\w*)\s*\(([^)]*)\)\s*as\b", re.ASCII)
+BEGINNINGS = {"db": r"relation\b", "query": r"\{|define\b", "edits": r"[+-]"}
 KINDS = {"db": "a database", "query": "a query", "edits": "edits"}
 # What a cell takes at most: measured over a step of six million cells of two times.
 BYTES_OF_CELL = 750
@@ -30,16 +32,26 @@ CELLS_OF_SECOND = 100_000
 
 
 class Refusal(NamedTuple):
-    """A refusal's line with the numbers in it, the program that wrote it, and the values of its keys."""
+    """A refusal's line with the numbers in it, the program that wrote it, the values of its keys, and the command."""
 
     program: str
     files: dict[str, str]
     line: str
     numbers: dict[str, str]
+    command: str = ""
 
     def file(self, key: str) -> str:
         """The file that a key names; empty where there is none."""
         return self.files.get(key, "")
+
+    def has(self, key: str) -> bool:
+        """Whether a key that is 'yes' or 'no' is 'yes'."""
+        return self.file(key) == "yes"
+
+    def takes(self, key: str) -> bool:
+        """Whether its command has such a key, where the command is known."""
+        keys = read_table().get(self.command)
+        return keys is None or key in keys
 
 
 class Said(NamedTuple):
@@ -71,6 +83,7 @@ def said_of(refusal: Refusal) -> Said:
         ("canon needs", times_of),
         ("count needs", times_of),
         ("ranges needs", columns_of_head),
+        ("more than 1000000 formulas", lambda _: Said("")),
         ("more than", cells_of),
         ("period above", lambda refusal: numbers_of(refusal, "periods", PERIOD)),
         ("bound above", lambda refusal: numbers_of(refusal, "numbers", NUMBER)),
@@ -100,21 +113,51 @@ def syntax_of_database(refusal: Refusal) -> Said:
     text, place = text_to(refusal.file("db"), refusal.numbers)
     if place is None:
         return Said("")
-    is_civil = refusal.file("civil") == "yes"
-    plain = plain_text(text) if is_civil else text
-    return (other_kind(refusal, "db") or known(fault_of_civil(text, place, is_civil))
+    is_civil, has_paces = refusal.has("civil"), refusal.has("wide")
+    plain = plain_text(text, has_paces) if is_civil else text
+    return (other_kind(refusal, "db") or known(fault_of_civil(text, place, is_civil, has_paces, refusal.takes("wide")))
             or known(hint_of(plain, place, Grammar.DATABASE)) or possible(plain, place, Grammar.DATABASE))
 
 
 def syntax_of_query(refusal: Refusal) -> Said:
     """The same of a query."""
     text, place = text_to(refusal.file("query"), refusal.numbers)
-    grammar = Grammar.TENSE if refusal.file("tense") == "yes" else Grammar.QUERY
     if place is None:
         return Said("")
-    whole = text + after_line(refusal)
-    return (other_kind(refusal, "query") or known(star(refusal, whole, place)) or known(hint_of(whole, place, grammar))
-            or possible(text, place, grammar))
+    other = other_kind(refusal, "query")
+    if other:
+        return other
+    rest = after_line(refusal)
+    if refusal.has("wide"):
+        return syntax_of_wide(refusal, text, rest, place)
+    grammar = Grammar.TENSE if refusal.has("tense") else Grammar.QUERY
+    whole = text + rest
+    hint, keys = star(refusal, whole, place) or hint_of(whole, place, grammar), wide_keys(refusal, whole)
+    if hint:
+        return Said(f"{hint} Or give {keys}: then it may be written so." if keys else hint, is_all=True)
+    if keys and not read(whole, Grammar.TENSE).is_whole:
+        return Said(f"This is in the wide language, which is read with {keys}.", is_all=True)
+    return possible(text, place, grammar)
+
+
+def syntax_of_wide(refusal: Refusal, text: str, rest: str, place: int) -> Said:
+    """The same of a query in the wide language; `rest` stands after the line of the fault."""
+    is_civil = refusal.has("civil")
+    plain = plain_text(text) if is_civil else text
+    return (known(fault_of_date(text, place, is_civil)) or known(hint_of(plain + rest, place, Grammar.WIDE))
+            or possible(plain, place, Grammar.WIDE))
+
+
+def wide_keys(refusal: Refusal, text: str) -> str:
+    """The keys with which a query is read as it is; empty where the wide language doesn't have it either, or the command
+    doesn't take it."""
+    if not refusal.takes("wide"):
+        return ""
+    if is_wide(text):
+        return "wide=yes"
+    if is_wide(plain_text(text)):
+        return "wide=yes" if refusal.has("civil") else "wide=yes and civil=yes"
+    return ""
 
 
 def after_line(refusal: Refusal) -> str:
@@ -197,8 +240,18 @@ def from_place(refusal: Refusal, key: str) -> tuple[str, str]:
 
 def columns_of(file: str) -> dict[str, list[str]]:
     """The columns of each relation of a database, as they are written."""
-    found = RELATION.findall(text_of(file))
-    return {name: [" ".join(column.split()) for column in columns.split(",") if column.strip()] for name, columns in found}
+    return {name: columns_in(columns) for name, columns in RELATION.findall(text_of(file))}
+
+
+def columns_in(text: str) -> list[str]:
+    """The columns in a pair of parentheses."""
+    return [" ".join(column.split()) for column in text.split(",") if column.strip()]
+
+
+def shown(relations: dict[str, list[str]]) -> str:
+    """Some relations with their columns, as the end of a sentence."""
+    first = [f"{name}({', '.join(columns)})" for name, columns in list(relations.items())[:8]]
+    return ", ".join(first) + (" and more." if len(relations) > 8 else ".")
 
 
 def relations_of(refusal: Refusal) -> Said:
@@ -206,18 +259,27 @@ def relations_of(refusal: Refusal) -> Said:
     found = columns_of(refusal.file("db"))
     if not found:
         return Said("")
-    shown = [f"{name}({', '.join(columns)})" for name, columns in list(found.items())[:8]]
-    return Said("Its relations are " + ", ".join(shown) + (" and more." if len(found) > 8 else "."), has_remedy=True)
+    return Said("Its relations are " + shown(found), has_remedy=True)
 
 
 def relation_unknown(refusal: Refusal) -> Said:
     """The relation whose name is nearest, and all of them."""
     relations = relations_of(refusal)
-    _, after = from_place(refusal, "edits" if "edits" in refusal.line else "query")
+    before, after = from_place(refusal, "edits" if "edits" in refusal.line else "query")
     name = re.match(r"\w*", after, re.ASCII).group()  # type: ignore[union-attr]
-    close = get_close_matches(name, columns_of(refusal.file("db")), 1, 0.6)
+    defined, later = definitions_in(refusal, before.rpartition(";")[0]), definitions_in(refusal, after)
+    if name in later or re.search(rf"\bdefine\s+{name}\s*\([^;]*$", before, re.ASCII) and refusal.has("wide"):
+        return Said(f"The definition of '{name}' doesn't stand before this place: a definition may name those before it.", is_all=True)
+    close = get_close_matches(name, [*columns_of(refusal.file("db")), *defined], 1, 0.6)
     nearest = f"The nearest name is '{close[0]}'. " if close else ""
-    return Said(nearest + relations.text, has_remedy=relations.has_remedy)
+    also = f" Defined before this place: {shown(defined)}" if defined else ""
+    return Said(nearest + relations.text + also, has_remedy=relations.has_remedy)
+
+
+def definitions_in(refusal: Refusal, text: str) -> dict[str, list[str]]:
+    """The columns of each definition that begins in a part of a query in the wide language, as they are written."""
+    text = without_texts_and_comments(text) if refusal.has("wide") else ""
+    return {name: columns_in(columns) for name, columns in DEFINITION.findall(text)}
 
 
 def count(number: int, what: str) -> str:
@@ -240,15 +302,16 @@ def things_in(after: str) -> int | None:
 
 def terms_of(refusal: Refusal) -> Said:
     """How many columns a relation has, and how many terms are given."""
-    _, after = from_place(refusal, "query")
+    before, after = from_place(refusal, "query")
     name = re.match(r"\w*", after, re.ASCII).group()  # type: ignore[union-attr]
-    columns, given = columns_of(refusal.file("db")).get(name), things_in(after)
+    relations, defined = columns_of(refusal.file("db")), definitions_in(refusal, before)
+    columns, given = relations.get(name, defined.get(name)), things_in(after)
     if columns is None or given is None:
         return Said("")
-    is_are = "is" if given == 1 else "are"
-    return Said(f"The relation '{name}' has {count(len(columns), 'column')}, but {count(given, 'term')} {is_are} given:"
-                f" {name}({', '.join(columns)}). A column that doesn't matter gets a variable of its own under an 'exists'.",
-                is_all=True)
+    is_are, what = "is" if given == 1 else "are", "relation" if name in relations else "definition"
+    other = "a '*'" if refusal.has("wide") else "a variable of its own under an 'exists'"
+    return Said(f"The {what} '{name}' has {count(len(columns), 'column')}, but {count(given, 'term')} {is_are} given:"
+                f" {name}({', '.join(columns)}). A column that doesn't matter gets {other}.", is_all=True)
 
 
 def values_of(refusal: Refusal) -> Said:
@@ -297,14 +360,20 @@ def wildcard_or_text(refusal: Refusal) -> Said:
     if not name:
         return Said("")
     text, place = text_to(refusal.file("query"), refusal.numbers)
+    if name == "_" and refusal.has("wide"):
+        return Said("A column that doesn't matter has a '*' in place of a term.", is_all=True)
     written = with_variables(text + after_line(refusal), place, columns_of(refusal.file("db"))) if name == "_" and place else ""
     if written:
-        return Said(no_wildcard(written), is_all=True)
+        return Said(no_wildcard(written) + " Or give wide=yes, and write '*'.", is_all=True)
     bound = re.findall(rf"\b(exists|forall)\s+{name}\s*:\s*(\w+)", without_texts_and_comments(before), re.ASCII)
     if bound:
         word, sort = bound[-1]
         return Said(f"'{word} {name}: {sort}' takes the one formula after it, and ends before this place; what it is to reach"
                     f" over stands in parentheses: {word} {name}: {sort} (F and G).", is_all=True)
+    if "{" not in without_texts_and_comments(before):
+        return Said(f"No column of the definition and no quantifier around it names '{name}'. Of a definition its columns alone are"
+                    f" free; another variable is named by an 'exists {name}: time', and a text stands between quotes: \"{name}\".",
+                    is_all=True)
     return Said(f"No column of the head and no quantifier around it names '{name}'. A column of the answer is named before the"
                 f" '|', another variable by an 'exists {name}: time'; a text stands between quotes: \"{name}\".", is_all=True)
 
@@ -328,7 +397,7 @@ def numbers_of(refusal: Refusal, what: str, pattern: re.Pattern[str]) -> Said:
     if refusal.numbers.get("edit"):
         return edit_of(refusal)
     database = text_of(refusal.file("db"))
-    texts = (plain_text(database) if refusal.file("civil") == "yes" else database, text_of(refusal.file("query")))
+    texts = (plain_text(database, refusal.has("wide")) if refusal.has("civil") else database, text_of(refusal.file("query")))
     found = {int(number) for text in texts for number in pattern.findall(text) if len(number) < 25}
     greatest = [str(number) for number in sorted(found, reverse=True)[:4]]
     return Said(f"The greatest {what} in both files are " + ", ".join(greatest) + "." if len(greatest) > 1 else "")
@@ -383,7 +452,7 @@ def step_of(refusal: Refusal) -> str:
     files, step = refusal.files, refusal.numbers.get("step")
     if not step or not all(os.path.isfile(files.get(key, "")) for key in ("db", "query")):
         return ""
-    keys = ("db", "query", "tense", "civil", "plan")
+    keys = ("db", "query", "tense", "wide", "civil", "plan")
     words = [refusal.program, "explain", *(f"{key}={files[key]}" for key in keys if key in files)]
     try:
         done = subprocess.run(words, stdin=subprocess.DEVNULL, capture_output=True, text=True, timeout=5, check=False,

@@ -54,7 +54,7 @@ def explanation(program: str, words: list[str], line: str, width: int, given: di
     if place.get("line"):
         name = which if which in given else files.get(which, "")
         shown = show_place(Place(files.get(which, ""), int(place["line"]), int(place["column"])), width, name)
-    return shown, paragraphs_on(Refusal(program, files, line, place), entry)
+    return shown, paragraphs_on(Refusal(program, files, line, place, words[0]), entry)
 
 
 def key_of(line: str) -> str:

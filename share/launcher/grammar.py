@@ -7,7 +7,10 @@ from enum import Enum
 RESERVED = ("relation", "where", "time", "data", "n", "exists", "forall", "not", "and", "or", "implies", "in")
 TOKEN = re.compile(r'[\s]+|#[^\n]*|(?P<name>[A-Za-z_][A-Za-z0-9_]*)|(?P<number>[0-9]+)|'
                    r'(?P<text>"(?:[^"\\\x00-\x1f\x7f]|\\["\\])*")|(?P<symbol><=|>=|[(){},:;|+<>=-])', re.ASCII)
+# The wide language has two symbols more.
+WIDE_TOKEN = re.compile(TOKEN.pattern + r"|(?P<wide>!=|\*)", re.ASCII)
 COMPARISONS = ("<=", ">=", "<", ">", "=")
+WORDS = ("and", "or", "implies")
 OPERATORS = ("once", "always", "since", "until")
 
 
@@ -17,7 +20,23 @@ class Grammar(Enum):
     DATABASE = "a database"
     QUERY = "a query"
     TENSE = "a query that may have temporal operators"
+    WIDE = "definitions and a query in the wide language"
     EDITS = "edits"
+
+    @property
+    def is_query(self) -> bool:
+        """Whether a text of it is a query, in one of the languages of queries."""
+        return self in (Grammar.QUERY, Grammar.TENSE, Grammar.WIDE)
+
+    @property
+    def has_operators(self) -> bool:
+        """Whether it has temporal operators."""
+        return self in (Grammar.TENSE, Grammar.WIDE)
+
+    @property
+    def token(self) -> re.Pattern[str]:
+        """A token, with blanks and comments as tokens that have no group."""
+        return WIDE_TOKEN if self is Grammar.WIDE else TOKEN
 
 
 class Stop(Exception):
@@ -29,7 +48,7 @@ def fault_of_syntax(text: str, place: int, grammar: Grammar) -> str:
     inside = re.search(r'"(?:[^"\\\x00-\x1f\x7f]|\\["\\])*$', without_texts_and_comments(text[:place]))
     if inside:
         return "It stands inside a text, which ends at the next quote of its line; in it \\\" is a quote, \\\\ is a \\."
-    found = TOKEN.match(text, place)
+    found = grammar.token.match(text, place)
     if place < len(text) and found is None:
         return f"{text[place]!r} begins no token of the language."
     if grammar is Grammar.QUERY and is_operator(text, place):
@@ -55,27 +74,43 @@ def is_operator(text: str, place: int) -> bool:
 
 def wanted_at(front: str, grammar: Grammar) -> list[str]:
     """What may follow the front of a text."""
-    reader = Reader([found for found in TOKEN.finditer(front) if found.lastgroup], grammar is Grammar.TENSE)
-    try:
-        if grammar is Grammar.DATABASE:
-            reader.database()
-        elif grammar is Grammar.EDITS:
-            reader.edits()
-        else:
-            reader.query()
-    except Stop:
-        pass
+    reader = read(front, grammar)
     return list(dict.fromkeys(reader.wanted))
+
+
+def read(text: str, grammar: Grammar) -> "Reader":
+    """A reader that has read a text as far as its grammar goes."""
+    reader = Reader([found for found in grammar.token.finditer(text) if found.lastgroup], grammar)
+    readers = {Grammar.DATABASE: reader.database, Grammar.EDITS: reader.edits, Grammar.WIDE: reader.file}
+    try:
+        readers.get(grammar, reader.query)()
+        reader.is_whole = reader.next == len(reader.tokens)
+    except (Stop, RecursionError):
+        pass
+    return reader
+
+
+def is_wide(text: str) -> bool:
+    """Whether a text is a file of the wide language, as far as its grammar goes."""
+    at = 0
+    while at < len(text):
+        found = WIDE_TOKEN.match(text, at)
+        if found is None:
+            return False
+        at = found.end()
+    return read(text, Grammar.WIDE).is_whole
 
 
 class Reader:
     """Reads tokens by the grammar up to their end, and keeps what was looked for there."""
 
-    def __init__(self, tokens: list[re.Match[str]], is_tense: bool):
+    def __init__(self, tokens: list[re.Match[str]], grammar: Grammar):
         self.tokens = tokens
-        self.is_tense = is_tense
+        self.has_operators = grammar.has_operators
+        self.is_wide = grammar is Grammar.WIDE
         self.next = 0
         self.wanted: list[str] = []
+        self.is_whole = False
 
     def at(self, *wanted: str) -> bool:
         """Takes the next token where it is one of these; at the end of the tokens they are kept."""
@@ -137,6 +172,10 @@ class Reader:
     def column(self) -> None:
         """NAME: SORT"""
         self.need("a name")
+        self.sort()
+
+    def sort(self) -> None:
+        """: SORT"""
         self.need(":")
         self.begin("a sort")
         self.need("time", "data", "a name")
@@ -168,12 +207,29 @@ class Reader:
         elif self.at("+", "-"):
             self.need("a number")
 
+    def file(self) -> None:
+        """define NAME(COLUMNS) as FORMULA; .. and a query"""
+        while self.at("define"):
+            self.need("a name")
+            self.need("(")
+            self.list_up_to(")", self.column)
+            self.need("as")
+            self.whole_formula()
+            self.need(";")
+        self.query()
+
     def query(self) -> None:
         """{ COLUMNS | FORMULA }"""
         self.need("{")
         self.list_up_to("|", self.column)
-        self.formula()
+        self.whole_formula()
         self.need("}")
+
+    def whole_formula(self) -> None:
+        """What stands alone: one formula, or in the wide language several with words between them."""
+        self.formula()
+        while self.is_wide and self.at(*WORDS):
+            self.formula()
 
     def formula(self) -> None:
         """One formula."""
@@ -181,13 +237,13 @@ class Reader:
         if self.at("not"):
             self.formula()
         elif self.at("exists", "forall"):
-            self.column()
+            self.variables()
             self.formula()
         elif self.at("("):
             self.group()
         elif self.at("a name"):
             word = self.tokens[self.next - 1].group()
-            if self.is_tense and word in OPERATORS and self.at("a name"):
+            if self.has_operators and word in OPERATORS and self.at("a name"):
                 self.operator(word)
             else:
                 self.atom_or_test()
@@ -198,7 +254,7 @@ class Reader:
     def operator(self, word: str) -> None:
         """What goes on after a temporal operator and its variable."""
         self.need("(")
-        item = self.formula if word in ("since", "until") else self.integer
+        item = self.whole_formula if word in ("since", "until") else self.integer
         item()
         self.need(",")
         item()
@@ -206,8 +262,19 @@ class Reader:
         if word in ("once", "always"):
             self.formula()
 
+    def variables(self) -> None:
+        """The variable of a quantifier, in the wide language perhaps several, and the sort."""
+        self.need("a name")
+        while self.is_wide and self.at(","):
+            self.need("a name")
+        self.sort()
+
     def group(self) -> None:
-        """Formulas in parentheses, joined by one word."""
+        """Formulas in parentheses, joined by one word, or in the wide language by any."""
+        if self.is_wide:
+            self.whole_formula()
+            self.need(")")
+            return
         self.formula()
         if self.at("implies"):
             self.formula()
@@ -224,11 +291,16 @@ class Reader:
     def atom_or_test(self) -> None:
         """What goes on after a name: an atom, or the left side of a test."""
         if self.at("("):
-            self.list_up_to(")", self.term)
+            self.list_up_to(")", self.argument)
             return
         if self.at("+", "-"):
             self.need("a number")
         self.test()
+
+    def argument(self) -> None:
+        """A term of an atom, or in the wide language a '*'."""
+        if not (self.is_wide and self.at("*")):
+            self.term()
 
     def term(self) -> None:
         """A text, an integer, or a name with or without an offset."""
@@ -244,5 +316,5 @@ class Reader:
             self.need("a number")
             self.need("n")
         else:
-            self.need(*COMPARISONS)
+            self.need(*COMPARISONS, *(["!="] if self.is_wide else []))
             self.term()

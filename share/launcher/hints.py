@@ -5,7 +5,7 @@ from collections.abc import Callable
 from dataclasses import dataclass
 from functools import cached_property
 
-from grammar import COMPARISONS, RESERVED, TOKEN, Grammar, wanted_at
+from grammar import COMPARISONS, RESERVED, Grammar, wanted_at
 from rewriting import Instead, instead_at
 
 BYTE_ORDER_MARK = "\N{ZERO WIDTH NO-BREAK SPACE}"
@@ -59,6 +59,13 @@ SIGNS = STRAIGHT | {
     ".": "Numbers are whole: choose a smaller unit of time.",
     BYTE_ORDER_MARK: "The file has a byte order mark; save it as UTF-8 without one.",
 }
+# In the wide language these have words of their own.
+WIDE_SIGNS = SIGNS | {
+    "\u2260": "Write '!='.",
+    "\u2227": "Write 'and'.",
+    "\u2228": "Write 'or'.",
+    "&": "Write 'and'.",
+}
 
 
 @dataclass(frozen=True)
@@ -78,7 +85,7 @@ class Fault:
     @property
     def token(self) -> str:
         """The token at the place, or the letter where none begins."""
-        found = TOKEN.match(self.text, self.place)
+        found = self.grammar.token.match(self.text, self.place)
         return found.group() if found else self.text[self.place:self.place + 1]
 
     @cached_property
@@ -89,7 +96,12 @@ class Fault:
     @property
     def is_query(self) -> bool:
         """Whether the text is to be a query."""
-        return self.grammar in (Grammar.QUERY, Grammar.TENSE)
+        return self.grammar.is_query
+
+    @property
+    def is_wide(self) -> bool:
+        """Whether the text is to be a query in the wide language."""
+        return self.grammar is Grammar.WIDE
 
 
 def hint_of(text: str, place: int, grammar: Grammar) -> str:
@@ -106,6 +118,8 @@ def hint_of(text: str, place: int, grammar: Grammar) -> str:
 def unequal(fault: Fault) -> str:
     """`!=` and `<>`."""
     near = fault.text[max(fault.place - 1, 0):fault.place + 2]
+    if fault.is_wide:
+        return "'Not equal' is written 'a != b'." if near[:2] == "<>" else ""
     if fault.is_query and (near[1:] == "!=" or near[:2] == "<>"):
         instead = fault.instead
         return f"'Not equal' is written '{instead.text}'." if instead else UNEQUAL
@@ -116,7 +130,8 @@ def unequal(fault: Fault) -> str:
 
 def sign(fault: Fault) -> str:
     """Signs of other keyboards and other languages."""
-    return SIGNS.get(fault.text[fault.place], "") if TOKEN.match(fault.text, fault.place) is None else ""
+    signs = WIDE_SIGNS if fault.is_wide else SIGNS
+    return signs.get(fault.text[fault.place], "") if fault.grammar.token.match(fault.text, fault.place) is None else ""
 
 
 def date_or_clock(fault: Fault) -> str:
@@ -126,7 +141,10 @@ def date_or_clock(fault: Fault) -> str:
     start = re.search(r"[0-9]*$", fault.before).start()  # type: ignore[union-attr]
     day = DATE.match(fault.text, start)
     if fault.is_query and (day or CLOCK.match(fault.text, start)):
-        return "In queries times are numbers: minutes since 1970-01-01 00:00 where the database has civil times."
+        if fault.is_wide:
+            return "A date is written as 'on 2026-12-24 08:15', and a time of day as in 't in daily 08:15', with civil=yes."
+        return ("In queries times are numbers: minutes since 1970-01-01 00:00 where the database has civil times. With wide=yes and"
+                " civil=yes they may be dates, as 'on 2026-12-24 08:15'.")
     if day:
         return f"Write a date as 'on {day.group()} 08:15', and give civil=yes."
     if CLOCK.match(fault.text, start):
@@ -143,7 +161,7 @@ def quantified_list(fault: Fault) -> str:
     following = FOLLOWING.match(fault.text, fault.place)
     if fault.token == "," and sort and following:
         return f"Each variable has a quantifier of its own: '{word} {name}: {sort} {word} {following[1]}: {following[2]} F'."
-    if fault.token == "," and not sort:
+    if fault.token == "," and not sort and not fault.is_wide:
         instead = fault.instead.text if fault.instead else f"{word} {name}: time {word} b: time"
         return f"Each variable has a quantifier and a sort of its own: '{instead} F'."
     return f"A variable has its sort: '{word} {name}: time F'." if fault.token == "(" and not sort else ""
@@ -159,7 +177,7 @@ def list_of_columns(fault: Fault) -> str:
 
 def word_of_list(fault: Fault) -> str:
     """A list without parentheses, or with two words."""
-    if not fault.is_query or fault.token not in ("and", "or", "implies"):
+    if not fault.is_query or fault.is_wide or fault.token not in ("and", "or", "implies"):
         return ""
     if fault.instead and len(fault.instead.text) <= SHOWN:
         return list_in_parentheses(fault, fault.instead)

@@ -4,10 +4,9 @@
 import re
 from typing import NamedTuple
 
-from grammar import COMPARISONS, OPERATORS, RESERVED, TOKEN, Grammar
+from grammar import COMPARISONS, OPERATORS, RESERVED, TOKEN, WORDS, Grammar
 
 LOOSE = re.compile("(?P<unequal>!=|<>)|" + TOKEN.pattern, re.ASCII)
-WORDS = ("and", "or", "implies")
 DEEPEST = 64
 LONGEST = 100_000
 
@@ -47,7 +46,7 @@ class Unread(Exception):
 def instead_at(text: str, place: int, grammar: Grammar) -> Instead | None:
     """What to write instead of the part of a query in which the language's grammar stops at a place, where that can be
     told, which is where the rest of the text can be read too."""
-    if len(text) > LONGEST:
+    if len(text) > LONGEST or grammar is Grammar.WIDE:
         return None
     try:
         found = Rewriter(text, grammar is Grammar.TENSE).query()

@@ -5,9 +5,11 @@ import re
 from typing import NamedTuple
 
 from civil import is_window_end
+from grammar import RESERVED
 from table import LIMIT, SHARE, Key, read_table
 
 WHOLE = re.compile(r"0|[1-9][0-9]*")
+NAME = re.compile(r"[A-Za-z_][A-Za-z0-9_]*", re.ASCII)
 DAY = re.compile(r"[0-9]{4}-[0-9]{2}-[0-9]{2}", re.ASCII)
 SIGNED = re.compile(r"0|-?[1-9][0-9]*")
 # What the launcher does itself, and the words of the workbench that have no keys.
@@ -98,6 +100,9 @@ def fault_of_value(key: Key, value: str, is_civil: bool) -> str | None:
         return f"a whole number from {low} to {high}, without leading zeros"
     if key.kind == "one":
         return None if value in key.of else " or ".join(key.of)
+    if key.kind == "name":
+        is_name = NAME.fullmatch(value) is not None and value not in RESERVED
+        return None if is_name else "a name of letters, digits and '_', which begins with no digit and is no word of the language"
     return None
 
 
@@ -126,5 +131,5 @@ def nearest(word: str, names: list[str], what: str) -> str:
 
 def sample(key: Key) -> str:
     """What the value of a key may look like."""
-    samples = {"file": "FILE." + "".join(key.of), "time": "NUMBER", "number": key.of[-1] if len(key.of) == 3 else "1"}
+    samples = {"file": "FILE." + "".join(key.of), "time": "NUMBER", "number": key.of[-1] if len(key.of) == 3 else "1", "name": "NAME"}
     return samples.get(key.kind, key.of[0] if key.of else "TOKEN")

@@ -25,12 +25,14 @@ is_looked_through() {
     [ "${FIZHEDUL_WARN-}" = always ] || [ "$(stat -L -c %s -- "$1")" -le "$most_bytes" ]
 }
 
-# Warns of what `lint` finds in the files of a command. A refusal is the command's own to tell.
+# Warns of what `lint` finds in the files of a command. A refusal is the command's own to tell. In a query in the wide
+# language nothing is looked for, since `lint` doesn't read it.
 warn_of_texts() {
     local word found python=/usr/bin/python3 lint=(lint)
     [[ ${words[0]-} =~ ^(ask|decide|watch|list|count|ranges|explain|check)$ ]] || return
     for word in "${words[@]:1}"; do
         case $word in
+            query=*) [[ " ${words[*]} " != *' wide=yes '* ]] || continue ;;&
             db=* | query=*)
                 is_looked_through "${word#*=}" || return
                 lint+=("$word") ;;

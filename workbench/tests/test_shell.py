@@ -157,11 +157,11 @@ def test_a_broken_database_is_shown_in_place(tmp_path: Path) -> None:
 
 
 def test_other_lines_are_told(bus: Path) -> None:
-    out, status = piped(bus, ".next\n.ask\n.window 5\n.cap 0\n.save\n.open\n.whistle\n\n.quit\n.help\n")
+    out, status = piped(bus, ".next\n.ask\n.window 5\n.cap 0\n.save\n.open\n.zigzag\n\n.quit\n.help\n")
     assert status == 0 and out == (
         "there is no next page\nthere is no query yet\na window is two whole numbers, as in .window 0 1439\n"
         "a cap is a number from 1 to 1000000000\nto which file? as in .save query.lrq, or .save answer.lrp\n"
-        "which file? as in .open bus.lrp\n'.whistle' is no command. .help lists them, and a query begins with '{'\n"
+        "which file? as in .open bus.lrp\n'.zigzag' is no command. .help lists them, and a query begins with '{'\n"
     )
     assert all(name in piped(bus, ".help\n")[0] for name in (".next", ".window A B", ".draw FILE", ".quit"))
 

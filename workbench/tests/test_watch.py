@@ -33,7 +33,10 @@ def test_what_is_missing_is_told(bus: Path) -> None:
         "there is no query yet\nwhich edits? as in .watch moves.lre\n",
         0,
     )
-    told = "edits are watched without temporal operators and civil times; .tense off and .civil off\n"
+    told = (
+        "edits are watched without temporal operators, civil times and the wide language; "
+        ".tense off, .civil off and .wide off\n"
+    )
     assert piped(bus, f"{ALL}\n.watch moves.lre\n", "tense=yes") == (PAGE + told, 0)
 
 

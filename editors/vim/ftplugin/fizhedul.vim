@@ -20,7 +20,9 @@ if s:ending ==# 'lrp'
   setlocal makeprg=fizhedul\ lint\ db=%:S\ civil=yes
 elseif s:ending ==# 'lrq' && s:database() !=# ''
   let s:words = ' db=' . escape(shellescape(s:database()), '%#') . ' query=%:S tense=yes civil=yes'
-  let &l:makeprg = '(fizhedul lint' . s:words . ' && fizhedul explain' . s:words . ')'
+  " What begins with a definition is in the wide language, which lint doesn't read.
+  let s:is_wide = search('^\s*define\s', 'nw') > 0
+  let &l:makeprg = s:is_wide ? 'fizhedul explain' . s:words . ' wide=yes' : '(fizhedul lint' . s:words . ' && fizhedul explain' . s:words . ')'
 endif
 if s:ending ==# 'lrp' || s:ending ==# 'lrq'
   " A fault of the other file is told, and has no place here.

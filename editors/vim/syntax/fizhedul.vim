@@ -10,6 +10,9 @@ syntax match fizhedulName /\h\w*/
 syntax match fizhedulRelation /\h\w*\ze\s*(/
 " The word of a temporal operator stands before a name; behind a colon it is a sort.
 syntax match fizhedulKeyword /\(once\|always\|since\|until\)\ze\s\+\(\(relation\|where\|time\|data\|n\|exists\|forall\|implies\|not\|and\|or\|in\)\w\@!\)\@!\h/
+" So does the word that begins a definition; `as` stands behind the parenthesis of its columns.
+syntax match fizhedulKeyword /define\ze\s\+\(\(relation\|where\|time\|data\|n\|exists\|forall\|implies\|not\|and\|or\|in\)\w\@!\)\@!\h/
+syntax match fizhedulKeyword /\()\s\?\)\@<=as\w\@!/
 syntax match fizhedulSort /\(:\s*\)\@<=\h\w*/
 syntax match fizhedulType /\(time\|data\)\w\@!/
 syntax match fizhedulPoint /n\w\@!/
@@ -19,7 +22,8 @@ syntax match fizhedulNumber /\d\+/
 syntax match fizhedulNumber /daily \([01]\d\|2[0-3]\):[0-5]\d\d\@!/
 syntax match fizhedulNumber /weekly \(mon\|tue\|wed\|thu\|fri\|sat\|sun\) \([01]\d\|2[0-3]\):[0-5]\d\d\@!/
 syntax match fizhedulNumber /on \d\{4}-\(0[1-9]\|1[0-2]\)-\(0[1-9]\|[12]\d\|3[01]\) \([01]\d\|2[0-3]\):[0-5]\d\d\@!/
-syntax match fizhedulOperator /<=\|>=\|[-<>=+]/
+syntax match fizhedulNumber /every [1-9]\d* \(minutes\|hours\|days\|weeks\) from \d\{4}-\(0[1-9]\|1[0-2]\)-\(0[1-9]\|[12]\d\|3[01]\) \([01]\d\|2[0-3]\):[0-5]\d\d\@!/
+syntax match fizhedulOperator /<=\|>=\|!=\|[-<>=+*]/
 syntax match fizhedulDelimiter /[(){},:;|]/
 syntax match fizhedulError /".*$/
 syntax match fizhedulText /"\([^"\\]\|\\.\)*"/ contains=fizhedulEscape,fizhedulBad

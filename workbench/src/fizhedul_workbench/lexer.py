@@ -1,10 +1,12 @@
 """The lexer of databases and queries, for the shell and for pictures."""
 
 from pygments.formatters import HtmlFormatter, TerminalFormatter
-from pygments.lexer import RegexLexer
+from pygments.lexer import RegexLexer, bygroups
 from pygments.token import Comment, Keyword, Name, Number, Operator, Punctuation, String, Text
 
 OPERATORS = ["once", "always", "since", "until"]
+# Of the wide language: a word at the beginning of a definition, and one between its columns and its formula.
+DEFINING = ["define", "as"]
 KEYWORDS = ["relation", "where", "exists", "forall", "not", "and", "or", "implies", "in"]
 SORTS = ["time", "data"]
 
@@ -20,15 +22,18 @@ class LrpLexer(RegexLexer):  # type: ignore[misc]
             (r"#[^\n]*", Comment.Single),
             (r'"(?:[^"\\]|\\.)*"?', String),
             (r"\b(?:daily|weekly [a-z]{3}|on \d{4}-\d\d-\d\d) \d\d:\d\d\b", Number),
+            (r"\bevery \d+ (?:minutes|hours|days|weeks) from \d{4}-\d\d-\d\d \d\d:\d\d\b", Number),
             (r"-?\d+\s*\+\s*\d+\s*n\b", Number),
             (r"\d+", Number),
             (r"\b(?:" + "|".join(KEYWORDS) + r")\b", Keyword),
             (r"\b(?:" + "|".join(SORTS) + r")\b", Keyword.Type),
             # Of an operator a name comes next, and a bracket after it.
             (r"\b(?:" + "|".join(OPERATORS) + r")(?=\s+[A-Za-z_][A-Za-z0-9_]*\s*\()", Keyword),
+            (r"\bdefine(?=\s+[A-Za-z_][A-Za-z0-9_]*\s*\()", Keyword),
+            (r"(\))(\s*)(as)\b", bygroups(Punctuation, Text, Keyword)),
             (r"[A-Za-z_][A-Za-z0-9_]*(?=\s*\()", Name.Function),
             (r"[A-Za-z_][A-Za-z0-9_]*", Name),
-            (r"<=|>=|[<>=+-]", Operator),
+            (r"<=|>=|!=|[<>=+*-]", Operator),
             (r"[(){},:;|]", Punctuation),
             (r".", Text),
         ]

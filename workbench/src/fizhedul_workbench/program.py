@@ -62,7 +62,8 @@ class Ranges:
 @dataclass(frozen=True)
 class Question:
     """A query over a database, by their files, in a window of time; with or without civil times, which have dates,
-    temporal operators, and whole answers in their one form; planned under guards, or as it is written."""
+    temporal operators, and whole answers in their one form; planned under guards, or as it is written; and whether it
+    is in the wide language."""
 
     database: str
     query: str
@@ -73,6 +74,7 @@ class Question:
     is_tense: bool = False
     is_canon: bool = False
     is_guarded: bool = True
+    is_wide: bool = False
 
     def words(self, command: str) -> list[str]:
         """The words of a command without a window."""
@@ -80,7 +82,8 @@ class Question:
         canon = ["canon=yes"] if self.is_canon and command == "ask" else []
         plan = ["plan=guarded"] if self.is_guarded and command in PLANNED else []
         dates = ["show=dates"] if self.is_civil and command == "decide" else []
-        keys = plan + ["tense=yes"] * self.is_tense + canon + ["civil=yes"] * self.is_civil + dates
+        wide = ["wide=yes"] if self.is_wide and command != "watch" else []
+        keys = plan + ["tense=yes"] * self.is_tense + wide + canon + ["civil=yes"] * self.is_civil + dates
         return [command, f"db={self.database}", f"query={self.query}", *cap, *keys]
 
     def windowed(self, command: str) -> list[str]:

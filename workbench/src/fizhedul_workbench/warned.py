@@ -29,14 +29,15 @@ def is_looked_through(file: str) -> bool:
 
 
 def words_of(question: Question, has_query: bool = True) -> list[str]:
-    """The words that look through a question's files."""
-    query = [f"query={question.query}"] if has_query else []
+    """The words that look through a question's files; of a query in the wide language nothing is looked for."""
+    query = [f"query={question.query}"] if has_query and not question.is_wide else []
     keys = ["tense=yes"] * question.is_tense + ["civil=yes"] * question.is_civil
     return ["lint", f"db={question.database}", *query, *keys]
 
 
 def findings_in(question: Question, has_query: bool = True) -> list[str]:
     """The lines of what is found; none where nobody is warned, and where a file is refused, which others tell."""
+    has_query = has_query and not question.is_wide
     files = [question.database, question.query] if has_query else [question.database]
     if not is_warned() or not all(map(is_looked_through, files)):
         return []

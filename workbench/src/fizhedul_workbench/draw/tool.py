@@ -56,7 +56,9 @@ def draw_tool(words: Sequence[str]) -> None:
     """Draws a window of a query's answers, or the query's plan, to a file or to standard output."""
     is_plan = "tree=yes" in words
     own = [*KEYS[:2], "cells", "cap"] if is_plan else [*KEYS, *WINDOW_KEYS]
-    found = keyed(words, [*own, "format", "out", "civil", "tense", "plan", "tree"], KEYS[:2] if is_plan else KEYS)
+    found = keyed(
+        words, [*own, "format", "out", "civil", "tense", "wide", "plan", "tree"], KEYS[:2] if is_plan else KEYS
+    )
     choice(found, "tree", "no", ["yes", "no"])
     is_civil = is_chosen(found, "civil")
     form = choice(found, "format", "html", ["html", "svg", "png"]) if "format" in found else None
@@ -73,7 +75,7 @@ def draw_tool(words: Sequence[str]) -> None:
         raise usage("with civil=yes an hour has 60 steps of time")
     first, last = read_window(found, 0, 0, is_civil)
     cap = whole(found, "cap", 1_000_000, 1, 1_000_000_000)
-    keys = is_civil, is_chosen(found, "tense"), False, is_guarded(found)
+    keys = is_civil, is_chosen(found, "tense"), False, is_guarded(found), is_chosen(found, "wide")
     question = Question(found["db"], found["query"], first, last, cap, *keys)
     content = drawing(question, look)
     if "out" in found:

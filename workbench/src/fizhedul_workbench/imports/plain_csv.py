@@ -7,6 +7,8 @@ import re
 from collections.abc import Iterator
 from typing import Any
 
+from civil import PIECE, fault_of_match, plain_value
+
 from ..civil import minute_of
 from ..lrp import LIMIT, MOST_COLUMNS, Point, Relation, Row, Value, fault_of_text, is_name
 from ..program import Question, all_ranges, pages
@@ -50,25 +52,37 @@ def in_range(file: str, line: int, text: str) -> int:
 
 
 def read_value(file: str, line: int, column: tuple[str, str], text: str) -> Value:
-    """The value of a column: a text, an instant or a point."""
+    """The value of a column: a text, an instant or a point, each time also as a date or as a civil value."""
     name, sort = column
     if sort != "time":
         fault = fault_of_text(text)
         if fault is not None:
             raise refused_at(file, line, f"the {name} {text[:40]!r} {fault}")
         return text
-    if NUMBER.fullmatch(text.strip()):
-        return in_range(file, line, text.strip())
-    minute = minute_of(text.strip())
+    plain = plain_of(file, line, name, text.strip())
+    if NUMBER.fullmatch(plain):
+        return in_range(file, line, plain)
+    minute = minute_of(plain)
     if minute is not None:
         return minute
-    point = POINT.fullmatch(text.strip())
+    point = POINT.fullmatch(plain)
     if point is None:
         raise refused_at(file, line, f"the {name} {text[:40]!r} is no number, no date and no point c+kn")
     offset, period = (in_range(file, line, part) for part in point.groups())
     if period == 0:
         raise refused_at(file, line, f"the {name} {text[:40]!r} has the period 0")
     return Point(offset, period)
+
+
+def plain_of(file: str, line: int, name: str, text: str) -> str:
+    """A civil value as its point; another text as it is."""
+    civil = PIECE.fullmatch(text)
+    if civil is None or not civil["civil"]:
+        return text
+    fault = fault_of_match(civil)
+    if fault:
+        raise refused_at(file, line, f"the {name} {text[:60]!r}: {fault}")
+    return str(plain_value(civil))
 
 
 def read_bounds(file: str, line: int, columns: list[tuple[str, str]], text: str) -> tuple[str, ...]:

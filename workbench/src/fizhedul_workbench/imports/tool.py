@@ -22,7 +22,7 @@ fizhedul import csv FILE [out=FILE] [name=NAME]
 each with civil=yes, if wanted, for civil values"""
 EXPORTS = (
     "fizhedul export csv|tsv db=FILE query=FILE from=A to=B [out=FILE] [ranges=yes] [cap=N]\n"
-    "                [plan=written] [tense=yes] [civil=yes]"
+    "                [plan=written] [tense=yes] [wide=yes] [civil=yes]"
 )
 
 
@@ -109,11 +109,11 @@ def export_tool(words: Sequence[str]) -> None:
     if not words or words[0] not in ("csv", "tsv"):
         raise usage("an export is\n" + EXPORTS)
     keys = ["db", "query", "from", "to"]
-    found = keyed(words[1:], [*keys, "out", "ranges", "cap", "civil", "tense", "plan"], keys)
+    found = keyed(words[1:], [*keys, "out", "ranges", "cap", "civil", "tense", "wide", "plan"], keys)
     is_civil = is_chosen(found, "civil")
     first, last = read_window(found, 0, 0, is_civil)
     cap = whole(found, "cap", 1_000_000, 1, 1_000_000_000)
-    chosen = is_civil, is_chosen(found, "tense"), False, is_guarded(found)
+    chosen = is_civil, is_chosen(found, "tense"), False, is_guarded(found), is_chosen(found, "wide")
     question = Question(found["db"], found["query"], first, last, cap, *chosen)
     pieces = pieces_of_ranges if is_chosen(found, "ranges") else pieces_of
     put("".join(pieces(question, words[0])), found.get("out"))

@@ -44,6 +44,7 @@ class Matter:
     is_tense: bool = False
     is_guarded: bool = True
     cap: int = 1_000_000
+    is_wide: bool = False
 
     def asking(self, command: str, **keys: str) -> Asked:
         """A command on this matter."""
@@ -59,6 +60,8 @@ class Matter:
             found["plan"] = "guarded"
         if self.is_tense and command in (*PLANNED, "lint"):
             found["tense"] = "yes"
+        if self.is_wide and command in PLANNED:
+            found["wide"] = "yes"
         if self.is_civil and command != "watch":
             found["civil"] = "yes"
         return found

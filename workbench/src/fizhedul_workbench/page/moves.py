@@ -15,12 +15,13 @@ MOST_EDITS = 100
 async def moves_of(engine: Engine, old: bytes, matter: Matter) -> dict[str, object]:
     """The least answer of the query over the old database, and then after each edit that leads to the present one.
 
-    The engine watches the edits; with civil times or temporal operators, or where there are too many edits, the query
-    is decided before and after all of them.
+    The engine watches the edits; with civil times, temporal operators or the wide language, or where there are too many
+    edits, the query is decided before and after all of them.
     """
     edits = edits_between(old.decode(), matter.db.decode())
     before = replace(matter, db=old)
-    can_watch = edits is not None and len(edits) <= MOST_EDITS and not matter.is_tense and not matter.is_civil
+    is_plain = not (matter.is_tense or matter.is_civil or matter.is_wide)
+    can_watch = edits is not None and len(edits) <= MOST_EDITS and is_plain
     if edits is not None and can_watch:
         lines = await watched(engine, before, edits)
         return {"by": "watch", "edits": [str(each) for each in edits], "least": lines}

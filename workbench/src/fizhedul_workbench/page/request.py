@@ -40,7 +40,7 @@ class Sent:
         """The query over the database, with the settings that were sent."""
         cap = self.number("cap", 1, 1_000_000_000, 1_000_000)
         flags = self.flag("civil"), self.flag("tense"), not self.flag("written")
-        return Matter(texts["db"], texts.get(query, b""), *flags, cap)
+        return Matter(texts["db"], texts.get(query, b""), *flags, cap, self.flag("wide"))
 
     def answer(self, columns: list[tuple[str, str]]) -> Answer:
         """A tuple of the query's head; its times come as texts, since a browser's numbers are too short for them."""

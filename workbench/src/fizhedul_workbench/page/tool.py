@@ -20,7 +20,7 @@ from .guard import Guard
 from .library import LibraryEngine, need_library
 from .server import Setting, application
 
-KEYS = ["db", "query", "from", "to", "cap", "plan", "tense", "civil", "dates", "hour", "engine", "port", "open"]
+KEYS = ["db", "query", "from", "to", "cap", "plan", "tense", "wide", "civil", "dates", "hour", "engine", "port", "open"]
 LOCAL = "127.0.0.1"
 
 
@@ -65,6 +65,7 @@ def chosen_by(found: dict[str, str]) -> tuple[dict[str, object], int]:
         "cap": whole(found, "cap", 1_000_000, 1, 1_000_000_000),
         "civil": is_civil,
         "tense": is_chosen(found, "tense"),
+        "wide": is_chosen(found, "wide"),
         "written": not is_guarded(found),
         "dates": is_chosen(found, "dates"),
     }

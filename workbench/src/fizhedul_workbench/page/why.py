@@ -10,12 +10,15 @@ from ..lrp import LIMIT, written_text
 from ..program import Answer
 from .asking import Failed, Matter, fixing, least_of, number_of, page_in
 from .engine import Engine
+from .faults import Fault
 from .formulas import OPERATORS, Leaf, Part, Taken, Variable, in_the_head, joined, taken_apart, written_query
 from .rows import numbered
 
 MOST_WAYS = 3
 MOST_ROWS = 20
 ROW = "row_of_relation"
+NOT_TAKEN_APART = "a query in the wide language is not taken apart"
+IN_OTHER_WORDS = "Switch the wide language off, and write the query without definitions and '*'."
 
 
 @dataclass(frozen=True)
@@ -36,6 +39,8 @@ class Asker:
 
 async def why(engine: Engine, matter: Matter, answer: Answer, near: int) -> dict[str, object]:
     """Ways in which a tuple is an answer, with the rows that make it true; or, where it is none, what fails."""
+    if matter.is_wide:
+        raise Failed(Fault(NOT_TAKEN_APART, "query", None, [IN_OTHER_WORDS]))
     taken = taken_apart(matter.query.decode(), matter.is_tense)
     asker = Asker(engine, matter, taken)
     unknown = unknown_text(asker, answer)

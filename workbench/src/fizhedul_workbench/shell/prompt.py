@@ -12,8 +12,8 @@ from prompt_toolkit.history import FileHistory, History, InMemoryHistory
 from prompt_toolkit.key_binding import KeyBindings, KeyPressEvent
 from prompt_toolkit.lexers import PygmentsLexer
 
-from ..lexer import KEYWORDS, OPERATORS, SORTS, LrpLexer
-from ..queries import variables
+from ..lexer import DEFINING, KEYWORDS, OPERATORS, SORTS, LrpLexer
+from ..queries import defined_by, variables
 from .session import Session
 
 # The commands that take a file, with the ending of the files that they read.
@@ -51,12 +51,19 @@ class Words(Completer):
         if text.lstrip().startswith("."):
             choices = self.commands if word.startswith(".") else []
         else:
-            operators = OPERATORS if self.session.is_tense else []
-            names = [*self.session.names, *variables(document.text)]
-            choices = [*names, *SORTS, *self.session.sorts, *KEYWORDS, *operators]
+            choices = self.words_of_language(document.text)
         for choice in dict.fromkeys(choices):
             if word and choice.startswith(word) and choice != word:
                 yield Completion(choice, start_position=-len(word))
+
+    def words_of_language(self, text: str) -> list[str]:
+        """What may be completed in a query: names, of definitions those of their columns too, sorts and words."""
+        session = self.session
+        operators = OPERATORS if session.is_tense or session.is_wide else []
+        defined = [defined_by(each) for each in session.held().values()]
+        names = [*session.names, *(name for name, _ in defined), *variables(text)]
+        columns = [column for _, own in defined for column in own]
+        return [*names, *columns, *SORTS, *session.sorts, *KEYWORDS, *operators, *DEFINING]
 
 
 def files_like(begun: str, ending: str, event: CompleteEvent) -> Iterable[Completion]:

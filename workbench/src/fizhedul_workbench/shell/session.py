@@ -31,8 +31,10 @@ class Session:
     is_tense: bool = False
     is_canon: bool = False
     is_guarded: bool = True
+    is_wide: bool = False
     is_colourful: bool = False
     query: str = ""
+    definitions: dict[str, str] = field(default_factory=dict)
     more: str | int | None = None
     status: int = 0
     warned: set[tuple[str, str]] = field(default_factory=set)
@@ -41,8 +43,16 @@ class Session:
 
     def question(self) -> Question:
         query = str(self.folder / "query.lrq")
-        keys = self.is_civil, self.is_tense, self.is_canon, self.is_guarded
+        keys = self.is_civil, self.is_tense, self.is_canon, self.is_guarded, self.is_wide
         return Question(self.database, query, self.first, self.last, self.cap, *keys)
+
+    def held(self) -> dict[str, str]:
+        """The definitions that stand before a query, by their names: none where the wide language is off."""
+        return self.definitions if self.is_wide else {}
+
+    def write_query(self, text: str, definitions: dict[str, str]) -> None:
+        """Puts a query into the file that is asked, after definitions."""
+        (self.folder / "query.lrq").write_bytes("".join(f"{part}\n" for part in [*definitions.values(), text]).encode())
 
     def check_words(self) -> list[str]:
         return ["check", f"db={self.database}", *(["civil=yes"] if self.is_civil else [])]
@@ -64,10 +74,11 @@ def say_code(session: Session, text: str) -> None:
     say(coloured(text) if session.is_colourful else text.rstrip("\n"))
 
 
-def say_refusal(session: Session, output: Output) -> None:
-    """A refusal, with its place in the query, in the database or in the file of edits, and what it means."""
+def say_refusal(session: Session, output: Output, definitions: dict[str, str] | None = None) -> None:
+    """A refusal, with its place in the query, a definition, the database or the file of edits, and what it means."""
     session.status = abs(output.status)
-    line, _, explained = told(output, session.question().query).partition("\n")
+    typed = session.held() if definitions is None else definitions
+    line, _, explained = told(output, session.question().query, typed).partition("\n")
     shown = f"\x1b[31m{line}\x1b[0m" if session.is_colourful else line
     say(f"{shown}\n{explained}" if explained else shown)
 
@@ -128,7 +139,7 @@ def ask(session: Session, text: str) -> None:
 
 def set_query(session: Session, text: str) -> None:
     session.query = text
-    (session.folder / "query.lrq").write_bytes(text.encode())
+    session.write_query(text, session.held())
 
 
 def write_output(session: Session, command: str) -> None:
@@ -181,7 +192,7 @@ def save(session: Session, rest: str) -> None:
     if not rest:
         say("to which file? as in .save query.lrq, or .save answer.lrp")
     elif need_query(session):
-        content = session.query
+        content = "\n".join([*session.held().values(), session.query])
         if rest.endswith(".lrp"):
             output = run_program(session.question().words("ask"))
             if output.status:

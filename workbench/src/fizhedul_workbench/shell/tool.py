@@ -7,9 +7,9 @@ from difflib import get_close_matches
 from pathlib import Path
 
 from ..civil import is_chosen, read_window
-from ..queries import open_brackets, pieces
+from ..queries import is_definition, open_brackets, pieces
 from ..words import FAILED_READ, Refused, is_guarded, keyed, whole
-from . import reports
+from . import definitions, reports
 from . import session as acts
 from . import settings
 from .session import Session, say
@@ -22,6 +22,7 @@ HELP = """A line is a query, as { t: time | bus(t) }; it goes on while a bracket
 .count          how many answers the window has
 .ranges         the answers of the window as ranges, from .. to ..
 .tense on|off   whether queries may have temporal operators
+.wide on|off    whether queries are in the wide language, with definitions
 .canon on|off   whether whole answers are written in their one form
 .plan guarded|written
                 whether each table is made under what stands beside it
@@ -37,11 +38,15 @@ HELP = """A line is a query, as { t: time | bus(t) }; it goes on while a bracket
 .cap N          the most cells of a step; each may take 750 bytes and 10 µs
 .limit N        the most answers of a page, or ranges
 .lint           what the database and the query hold that is seldom meant
+define R(..) as F;
+                a definition, which holds from then on in the wide language
+.definitions    the definitions that hold
+.forget R       takes a definition away
 .tables         the relations of the database, with their rows and periods
 .schema         the relations of the database, with their columns
 .read FILE      what FILE has, as if it were typed
 .open FILE      another database
-.save FILE      the query; the whole answer where FILE ends in .lrp
+.save FILE      the query, after its definitions; the whole answer where FILE ends in .lrp
 .draw FILE      a picture of the window, as .html, .svg or .png
 .help           this
 .quit           the end"""
@@ -60,6 +65,9 @@ COMMANDS: dict[str, Act] = {
     ".watch": watch,
     ".civil": settings.set_civil,
     ".tense": settings.set_tense,
+    ".wide": definitions.set_wide,
+    ".definitions": definitions.list_definitions,
+    ".forget": definitions.forget,
     ".canon": settings.set_canon,
     ".plan": settings.set_plan,
     ".cap": settings.set_cap,
@@ -81,8 +89,10 @@ OTHER_NAMES = {"exit": ".quit", "bye": ".quit", "q": ".quit", "?": ".help", "h":
 
 
 def is_whole(text: str) -> bool:
-    """Whether a line ends here: a command, or a query without open brackets."""
-    return text.lstrip().startswith(".") or open_brackets(text) <= 0
+    """Whether a line ends here: a command, a query without open brackets, or definitions to the end of the last."""
+    if text.lstrip().startswith("."):
+        return True
+    return open_brackets(text) <= 0 and (not is_definition(text) or pieces(text)[-1] in (";", "}"))
 
 
 def entries_of(lines: Iterable[str]) -> Iterator[str]:
@@ -138,6 +148,8 @@ def act(session: Session, entry: str) -> bool:
             COMMANDS[word](session, rest.strip())
         elif word.startswith(".") or (len(pieces(text)) == 1 and word != "{"):
             say(pointer(word))
+        elif is_definition(text):
+            definitions.enter(session, text)
         elif pieces(text):
             acts.ask(session, text)
         if word in WARNING or (pieces(text) and not word.startswith(".")):
@@ -162,11 +174,12 @@ def loop(session: Session, entries: Iterator[str]) -> None:
 
 def shell_tool(words: Sequence[str]) -> None:
     """A session over one database; piped input is read without prompts and colours."""
-    found = keyed(words, ["db", "from", "to", "limit", "cap", "civil", "tense", "canon", "plan"], ["db"])
+    found = keyed(words, ["db", "from", "to", "limit", "cap", "civil", "tense", "wide", "canon", "plan"], ["db"])
     with tempfile.TemporaryDirectory(prefix="fizhedul-") as folder:
         session = Session(found["db"], Path(folder))
         session.is_civil, session.is_tense = is_chosen(found, "civil"), is_chosen(found, "tense")
         session.is_canon, session.is_guarded = is_chosen(found, "canon"), is_guarded(found)
+        session.is_wide = is_chosen(found, "wide")
         if session.is_civil and not {"from", "to"} & set(found):
             session.first, session.last = settings.this_week()
         session.first, session.last = read_window(found, session.first, session.last, session.is_civil)

@@ -13,8 +13,9 @@ def watch(session: Session, file: str) -> None:
     """The least answer, and after each edit of a file the one that it then has; at a terminal the file is followed."""
     if not file:
         say("which edits? as in .watch moves.lre")
-    elif session.is_tense or session.is_civil:
-        say("edits are watched without temporal operators and civil times; .tense off and .civil off")
+    elif session.is_tense or session.is_civil or session.is_wide:
+        off = ".tense off, .civil off and .wide off"
+        say(f"edits are watched without temporal operators, civil times and the wide language; {off}")
     elif need_query(session):
         # What comes while the program runs is seen as a change.
         seen = content_of(file)

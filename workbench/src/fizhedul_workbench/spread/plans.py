@@ -116,6 +116,8 @@ def plan_count(asked: Asked, form: Form, files: Mapping[str, str], window: Windo
 
 def plan_by_sort(asked: Asked, form: Form, query: bytes, words: Sequence[str]) -> Plan:
     """A part for each group of texts of a sort."""
+    if is_chosen(asked.found, "wide"):
+        raise usage("a query in the wide language is not cut by a sort; cut its window, or leave out wide=yes")
     sort, parts = asked.found["by"], whole(asked.found, "parts", 1, 1, MOST_PARTS)
     # The program tells what is wrong with the query before it is cut by.
     answered(["explain", *asked.kept("db", "query"), *asked.handed_on("explain")])

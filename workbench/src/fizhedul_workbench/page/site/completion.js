@@ -4,6 +4,7 @@ import { state } from "./state.js";
 
 const WORDS = ["exists", "forall", "not", "and", "or", "implies", "in", "time", "data"];
 const OPERATORS = ["once", "always", "since", "until"];
+const DEFINING = ["define", "as"];
 
 function columnsOf(relation) {
   return relation.columns.map(([name, sort]) => `${name}: ${sort}`).join(", ");
@@ -15,6 +16,11 @@ function relations() {
 
 function variables(text) {
   return [...text.matchAll(/([A-Za-z_]\w*)\s*:\s*[A-Za-z_]/g)].map((found) => ({ text: found[1] }));
+}
+
+function definitions(text) {
+  const found = [...text.matchAll(/define\s+([A-Za-z_]\w*)\s*\(([^)]*)\)/g)];
+  return found.map(([, name, columns]) => ({ text: name, more: `(${columns})`, open: true }));
 }
 
 function sorts() {
@@ -29,8 +35,9 @@ function columnsBefore(text) {
 
 function choices(kind, before) {
   if (kind === "query") {
-    const words = state.settings.tense ? [...WORDS, ...OPERATORS] : WORDS;
-    return [...variables(state.texts.query), ...relations(), ...sorts(), ...words.map((text) => ({ text }))];
+    const { tense, wide } = state.settings;
+    const words = [...WORDS, ...(tense || wide ? OPERATORS : []), ...(wide ? DEFINING : [])];
+    return [...variables(state.texts.query), ...relations(), ...(wide ? definitions(state.texts.query) : []), ...sorts(), ...words.map((text) => ({ text }))];
   }
   return [...columnsBefore(before), ...["relation", "where", "time", "data"].map((text) => ({ text })), ...sorts()];
 }

@@ -9,7 +9,7 @@ export const state = {
   digests: { db: "", query: "" },
   saved: { db: "", query: "" },
   names: { db: null, query: null },
-  settings: { civil: false, tense: false, written: false, dates: false, cap: 1000000, limit: 500 },
+  settings: { civil: false, tense: false, wide: false, written: false, dates: false, cap: 1000000, limit: 500 },
   window: { from: 0n, to: 1439n },
   first: { from: 0n, to: 1439n },
   columns: [],

@@ -14,8 +14,8 @@ const fields = made("form", { class: "tuple", "aria-label": "A tuple to ask abou
 let asked = "";
 
 function textsNow() {
-  const { civil, tense, written, cap } = state.settings;
-  return [state.versions.db, state.versions.query, civil, tense, written, cap].join();
+  const { civil, tense, wide, written, cap } = state.settings;
+  return [state.versions.db, state.versions.query, civil, tense, wide, written, cap].join();
 }
 
 function span() {
