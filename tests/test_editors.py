@@ -22,8 +22,8 @@ BEFORE_NAME = rf"\s+(?!(?:{'|'.join([*RESERVED, 'time', 'data', 'n'])})\b)[A-Za-
 # The tokens of the language, each with its class; a name's class also depends on what stands around it.
 TOKENS = re.compile(r"""
     (?P<comment>\#[^\n]*) | (?P<text>"(?:[^"\\\n]|\\.)*") | (?P<number>(?:daily|weekly\ (?:mon|tue|wed|thu|fri|sat|sun)
-    |on\ \d{4}-(?:0[1-9]|1[0-2])-(?:0[1-9]|[12]\d|3[01]))\ (?:[01]\d|2[0-3]):[0-5]\d(?!\d)|[0-9]+) | (?P<name>[A-Za-z_]\w*)
-    | (?P<operator><=|>=|[-<>=+]) | (?P<delimiter>[(){},:;|]) | (?P<blank>[ \t\r]+) | (?P<error>".*|.)""",
+    |(?:on|every\ [1-9]\d*\ (?:minutes|hours|days|weeks)\ from)\ \d{4}-(?:0[1-9]|1[0-2])-(?:0[1-9]|[12]\d|3[01]))\ (?:[01]\d|2[0-3]):[0-5]\d(?!\d)|[0-9]+) | (?P<name>[A-Za-z_]\w*)
+    | (?P<operator><=|>=|!=|[-<>=+*]) | (?P<delimiter>[(){},:;|]) | (?P<blank>[ \t\r]+) | (?P<error>".*|.)""",
                     re.VERBOSE | re.ASCII)
 # What can't stand in a text, beside the escapes of quotes and backslashes, which are whole.
 IN_TEXT = re.compile(r'(?P<escape>\\["\\])|(?P<error>\\.|[\x00-\x1f\x7f])')
@@ -34,6 +34,11 @@ CIVIL = 'relation on(daily: time) { # daily 08:15\n' + "".join(f"  ({value});\n"
     "on 2024-12-31 23:59n", '"daily 08:15"')) + "}\n"
 TENSE = """{ always: time | (once always (-5, 0) always always (0, 58) r(always) or since always (not until always (s(), always = 1), s())
  or once(always) or once in 1+2n or once + 1 < 3 or exists u: once bus(u) or exists since: time once since (0, 0) s()) } # once x
+"""
+WIDE = """define as(as: time, define: data) as define(as, *, define) and as != 5; # define x
+define define()as every = 1;
+{ define: time | define() or as(define, *) and not define != as }
+relation every(t: time) { (every 3 days from 2026-01-05 08:15); (every 0 days from 2026-01-05 08:15); (every 3 days from 2026-01-05); }
 """
 VIM = {"comment": "fizhedulComment", "text": "fizhedulText", "number": "fizhedulNumber", "operator": "fizhedulOperator",
        "delimiter": "fizhedulDelimiter", "keyword": "fizhedulKeyword", "type": "fizhedulType", "point": "fizhedulPoint",
@@ -103,7 +108,9 @@ def class_of_name(name: str, before: str, after: str) -> str:
         return "point"
     if before.rstrip().endswith(":"):
         return "sort"
-    if name in OPERATORS and re.match(BEFORE_NAME, after, re.ASCII):
+    if name in [*OPERATORS, "define"] and re.match(BEFORE_NAME, after, re.ASCII):
+        return "keyword"
+    if name == "as" and re.search(r"\)\s?$", before):
         return "keyword"
     return "relation" if after.lstrip().startswith("(") else "variable"
 
@@ -148,7 +155,7 @@ def is_text(path: Path) -> bool:
 
 def more_files(folder: Path) -> list[Path]:
     """Files beside the examples: with faults, with civil values and what is nearly one, with temporal operators."""
-    files = {"faulty.lrp": FAULTY, "civil.lrp": CIVIL, "tense.lrq": TENSE}
+    files = {"faulty.lrp": FAULTY, "civil.lrp": CIVIL, "tense.lrq": TENSE, "wide.lrq": WIDE}
     for name, text in files.items():
         (folder / name).write_text(text)
     return [folder / name for name in files]

@@ -6,20 +6,23 @@ import tempfile
 import unittest
 from pathlib import Path
 
-from grammar import RESERVED, TOKEN, Grammar, fault_of_syntax, wanted_at
+from grammar import RESERVED, Grammar, fault_of_syntax, wanted_at
 from support import PROGRAM
 
 DATABASE = 'relation r(t: time, d: line) { (5, "7") where t <= t + 5, t = -1; (-5+60n, "8"); } relation s() { (); }'
 QUERY = '{ t: time, d: line | (r(t, d) and not (t < 5 - 1 implies exists u: time u in -5+60n) and ("7" = d or s() or t + 1 >= -3)) }'
 TENSE = ('{ t: time | (once t (-5, 0) always t (0, 58) not r(t, "7") or since t (not until t (s(), t = 1), once once (0, -1) s())'
          ' or once(t) or once in 1+2n or once + 1 < 3 or exists u: once s()) }')
+WIDE = ('define p(t: time, d: line) as r(t, *) and not r(t + 5, "7") or t != 5; define q() as s() implies s() implies s(); '
+        '{ t: time, d: line | exists u, v: time (p(u, *) and u in 1+2n) or since t (s() or s(), s()) and d != "7" implies once t (0, 5) s() }')
 EDITS = '+ r (5, "7") where t <= t + 5, t = -1; - r (-5+60n, "8"); + s (); '
 # Token by token what may follow; what begins a formula, a term, a value or a sort.
-SAMPLES = ["x", "7", '"a"', *RESERVED, *"(){},:;|+-<>=", "<=", ">="]
+SAMPLES = ["x", "7", '"a"', *RESERVED, *"(){},:;|+-<>=", "<=", ">=", "*", "!=", "define", "as"]
+NAMES = ["x", "define", "as"]
 BEGINS = {
-    "a name": ["x"], "a number": ["7"], "a text": ['"a"'], "a sort": ["time", "data", "x"],
-    "a value": ["7", "-", '"a"'], "a term": ["x", "7", "-", '"a"'],
-    "a formula": ["not", "exists", "forall", "(", "x", "7", "-", '"a"'],
+    "a name": NAMES, "a number": ["7"], "a text": ['"a"'], "a sort": ["time", "data", *NAMES],
+    "a value": ["7", "-", '"a"'], "a term": [*NAMES, "7", "-", '"a"'],
+    "a formula": ["not", "exists", "forall", "(", *NAMES, "7", "-", '"a"'],
 }
 
 
@@ -28,6 +31,7 @@ WORDS = {
     Grammar.DATABASE: ["check", "db=text"],
     Grammar.QUERY: ["explain", "db=a.lrp", "query=text"],
     Grammar.TENSE: ["explain", "db=a.lrp", "query=text", "tense=yes"],
+    Grammar.WIDE: ["explain", "db=a.lrp", "query=text", "wide=yes"],
     Grammar.EDITS: ["watch", "db=a.lrp", "query=b.lrq", "edits=text"],
 }
 
@@ -55,7 +59,7 @@ class Wanted(unittest.TestCase):
     def check_text(self, text: str, grammar: Grammar) -> None:
         """Cuts the text at each token, and tries every kind of token there."""
         with tempfile.TemporaryDirectory() as name:
-            for token in TOKEN.finditer(text):
+            for token in grammar.token.finditer(text):
                 if token.lastgroup:
                     front = text[:token.start()]
                     wanted = wanted_at(front, grammar)
@@ -70,6 +74,9 @@ class Wanted(unittest.TestCase):
 
     def test_queries_with_temporal_operators(self):
         self.check_text(TENSE, Grammar.TENSE)
+
+    def test_definitions_and_a_query_in_the_wide_language(self):
+        self.check_text(WIDE, Grammar.WIDE)
 
     def test_edits(self):
         self.check_text(EDITS, Grammar.EDITS)

@@ -98,6 +98,18 @@ class Help(unittest.TestCase):
                 listed = run("list", "db=a.lrp", "query=b.lrq", "from=0", "to=9", "tense=yes", folder=folder).out
                 self.assertEqual(listed.split()[:-1], wanted.split(), query)
 
+    def test_the_wide_language_of_the_language_page_means_what_it_says(self):
+        page = (TOP / "share/help/language.txt").read_text()
+        file = re.findall(r"(?m)^  define .*\n(?:  .*\n)+", page)[0]
+        with tempfile.TemporaryDirectory() as name:
+            folder = Path(name)
+            # Both lines leave at 0, nothing at 3 and one line in the other minutes of each ten.
+            (folder / "a.lrp").write_text('relation bus(dep: time, arr: time, line: data) { (0+10n, 9, "7"); (0+10n, 9, "8"); '
+                                          + "".join(f'({minute}+10n, 9, "7"); ' for minute in (1, 2, 4, 5, 6, 7, 8, 9)) + "}")
+            (folder / "b.lrq").write_text(file)
+            listed = run("list", "db=a.lrp", "query=b.lrq", "from=0", "to=13", "wide=yes", folder=folder).out
+            self.assertEqual(listed.split(), ["0", "3", "10", "end"])
+
     def test_the_civil_times_of_the_language_page_mean_what_it_says(self):
         page = (TOP / "share/help/language.txt").read_text()
         values = re.findall(r"^((?:daily|weekly|on) [a-z0-9: -]+?)  +\S", page, re.MULTILINE)
@@ -234,7 +246,9 @@ printf '#!/bin/sh\\necho ran\\n' >{out}/lrp_main; chmod +x {out}/lrp_main
         line = "fizhedul export csv db=examples/bus/bus.lrp query='{ t: time | bus(t) and bus(t) }' from=0 to=100"
         self.assertEqual(shell(line).err, "refused: query Syntax at 1:20\n")
         self.assertIn("\nquery:1:20\n", shell(line, explain="always").err)
-        self.assertIn("\nA list stands in parentheses: (bus(t) and bus(t)).\n", shell(line, explain="always").err)
+        self.assertTrue(shell(line, explain="always").err.endswith(
+            "\nA list stands in parentheses: (bus(t) and bus(t)). Or give wide=yes: then it may be written so.\n"))
+        self.assertEqual(shell(f"{line} wide=yes").out, "t: time\n5\n65\n")
 
     def test_a_minus_is_standard_input(self):
         with tempfile.TemporaryDirectory() as name:

@@ -15,6 +15,7 @@ from support import PROGRAM, TOP, need
 BUS = b"relation bus(t: time) { (5+60n); }\n"
 ALL = b"{ t: time | bus(t) }\n"
 ANSWER = b"relation answer(t: time) {\n  (5+60n);\n}\n"
+EXAMPLE = "5\n65\n125\nend\nAnswer\n  (5)\n"
 ASK = ("ask", "db=d", "query=q")
 FLAGS = ["-std=c99", "-Wall", "-Wextra", "-Werror", "-O1"]
 
@@ -38,6 +39,37 @@ def asked(*words: str, room: int = 4096, **files: bytes) -> tuple[int, int, byte
     """A call with these words over these files."""
     held = packed(part for name, text in files.items() for part in (name.encode(), text))
     return call(packed(word.encode() for word in words), held, room)
+
+
+class Database(ctypes.Structure):
+    """Files that the library keeps, as the header says."""
+
+    _fields_ = [("is_open", ctypes.c_uint8), ("memory", ctypes.c_void_p)]
+
+    def call(self, name: str, *words) -> int:
+        """The status of a call on it."""
+        return getattr(ctypes.CDLL(str(shared_library())), f"fizhedul_{name}")(ctypes.byref(self), *words)
+
+    def open_packing(self, files: bytes) -> int:
+        """The status of opening these files."""
+        opened = ctypes.CDLL(str(shared_library())).fizhedul_open
+        return opened(ctypes.c_char_p(files), ctypes.c_size_t(len(files)), ctypes.byref(self))
+
+    def open(self, **files: bytes) -> int:
+        """The same, of files by their names."""
+        return self.open_packing(packed(part for name, text in files.items() for part in (name.encode(), text)))
+
+    def ask(self, *words: str, **files: bytes) -> tuple[int, bytes]:
+        """The status and the text of a question, over these files in front of those that are kept."""
+        said = packed(word.encode() for word in words)
+        held = packed(part for name, text in files.items() for part in (name.encode(), text))
+        text, length, size = ctypes.create_string_buffer(4096), ctypes.c_size_t(12345), ctypes.c_size_t
+        status = self.call("ask", said, size(len(said)), held, size(len(held)), text, size(4096), ctypes.byref(length))
+        return status, text.raw[: length.value]
+
+    def close(self) -> int:
+        """The status of letting them go."""
+        return self.call("close")
 
 
 class Library(unittest.TestCase):
@@ -89,6 +121,34 @@ class Library(unittest.TestCase):
         self.assertEqual(asked(*ASK, d=BUS, q=ALL)[0], 0)
         self.assertEqual(asked(*ASK)[0], 6)
 
+    def test_a_database_is_kept_until_it_is_closed(self):
+        other = b"relation bus(t: time) { (7+60n); }\n"
+        database = Database()
+        self.assertEqual(database.ask(*ASK, q=ALL), (11, b""))
+        self.assertEqual(database.close(), 11)
+        for text in (BUS, other):
+            self.assertEqual(database.open(d=text), 0)
+            for words in (ASK, ("list", *ASK[1:], "from=0", "to=200", "limit=2"), ASK, ("decide", *ASK[1:])):
+                status, length, told = asked(*words, d=text, q=ALL)
+                self.assertEqual(database.ask(*words, q=ALL), (status, told[:length]))
+        self.assertEqual(database.ask(*ASK, q=ALL, d=BUS), (0, ANSWER))
+        self.assertEqual(database.ask(*ASK)[0], 6)
+        self.assertEqual((database.open_packing(b"x"), database.ask(*ASK, q=ALL)[1]), (10, ANSWER.replace(b"5+", b"7+")))
+        self.assertEqual((database.close(), database.close()), (0, 11))
+
+    def test_each_page_of_a_kept_database_is_that_of_a_run(self):
+        database, words = Database(), ("list", *ASK[1:], "from=0", "to=600", "limit=3")
+        self.assertEqual(database.open(d=BUS), 0)
+        token, last = (), b""
+        while last != b"end":
+            status, length, text = asked(*words, *token, d=BUS, q=ALL)
+            self.assertEqual(database.ask(*words, *token, q=ALL), (status, text[:length]))
+            self.assertEqual(database.ask("decide", *ASK[1:], q=ALL)[0], 0)
+            last = text[:length].splitlines()[-1]
+            token = ("after=" + last.decode().partition(" ")[2],)
+        self.assertEqual(database.ask(*words, "after=00", q=ALL)[0], 4)
+        self.assertEqual(database.close(), 0)
+
     def test_only_the_names_of_the_header_are_seen(self):
         nm = need("nm")
         declared = set(re.findall(r"^int32_t (\w+)\(", (BUILD / "fizhedul.h").read_text(), re.MULTILINE))
@@ -120,7 +180,7 @@ class Library(unittest.TestCase):
             with tempfile.TemporaryDirectory() as folder:
                 program = self.build_example(folder, *more)
                 done = subprocess.run([program], capture_output=True, text=True, check=False)
-                self.assertEqual((done.returncode, done.stdout, done.stderr), (0, "5\n65\n125\nend\n", ""))
+                self.assertEqual((done.returncode, done.stdout, done.stderr), (0, EXAMPLE, ""))
 
     def test_the_header_is_also_one_of_cpp(self):
         with tempfile.TemporaryDirectory() as folder:
@@ -176,7 +236,7 @@ class Packages(unittest.TestCase):
                                "-lfizhedul"], capture_output=True, text=True, check=False)
         self.assertEqual((done.returncode, done.stderr), (0, ""))
         done = subprocess.run([program], capture_output=True, text=True, check=False, env={"LD_LIBRARY_PATH": str(self.libraries)})
-        self.assertEqual((done.returncode, done.stdout), (0, "5\n65\n125\nend\n"))
+        self.assertEqual((done.returncode, done.stdout), (0, EXAMPLE))
 
     def test_python_finds_the_library_of_the_system(self):
         done = subprocess.run([sys.executable, "-c", self.ASKED], cwd=self.folder, capture_output=True, text=True, check=False,

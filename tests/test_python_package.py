@@ -14,7 +14,6 @@ import tempfile
 import threading
 import unittest
 from datetime import datetime
-from pathlib import Path
 
 from made_library import shared_library
 from support import PROGRAM, TOP
@@ -128,6 +127,21 @@ class Package(unittest.TestCase):
         for thread in threads:
             thread.join()
         self.assertEqual(wrong, [])
+
+    def test_pages_of_two_queries_are_those_of_each_alone(self):
+        texts = ["{ t: time | bus(t) }", "{ t: time | (bus(t) and t >= 100) }", "{ t: time | buss(t) }"]
+        database = self.package.Database("relation bus(t: time) { (5+60n); (7+60n); }")
+        alone = [list(self.package.Database(database.text).query(text).list(0, 600)) for text in texts[:2]]
+        pages = [database.query(text).list(0, 600, limit=3) for text in texts[:2]]
+        found = [[], []]
+        while any(found[turn] != alone[turn] for turn in (0, 1)):
+            for turn in (0, 1):
+                if found[turn] != alone[turn]:
+                    found[turn].append(next(pages[turn]))
+            with self.assertRaises(self.package.Refused):
+                database.query(texts[2]).decide()
+            self.assertEqual(database.query(texts[0]).decide(), (-53,))
+        self.assertEqual([list(page) for page in pages], [[], []])
 
     def test_a_missing_library_is_told(self):
         done = subprocess.run([sys.executable, "-c", "import fizhedul\ntry: fizhedul.Database('').check()\nexcept OSError as e: print(type(e).__name__)"],

@@ -20,6 +20,8 @@ ASK = "{ t: time | bus(t) }"
 BIG = "4611686018427387905"
 LONG = "x" * 256
 NINE = ", ".join(f"c{i}: time" for i in range(9))
+DOUBLED = "define d0() as 0 = 0; " + "".join(f"define d{i}() as d{i - 1}() or d{i - 1}(); " for i in range(1, 21)) + "{ | d20() }"
+DEEP = "define d0() as 0 = 0; " + "".join(f"define d{i}() as {'not ' * 60}d{i - 1}(); " for i in range(1, 8)) + "{ | d7() }"
 TOKEN = "T2/" + "0" * 64 + "/5/"
 
 
@@ -69,6 +71,8 @@ QUERY = [
          said="No column of the head and no quantifier around it names 'u'."),
     Case("refused: query Rebound at 1:20", BUS, "{ t: time | exists t: time bus(t) }", caret="t"),
     Case("refused: query Wide at 1:83", BUS, f"{{ {NINE} | bus(c0) }}", caret="c8"),
+    Case("refused: query Defined at 2:8", BUS, "define x(t: time) as bus(t);\ndefine x() as 0 = 0;\n{ | x(5) }", caret="x",
+         more=("wide=yes",)),
     Case("refused: query UnknownSort at 1:6", TRIP, "{ l: lime | l = l }", caret="lime",
          said="Its sorts are time, line."),
 ]
@@ -104,6 +108,8 @@ OTHERS = [
     Case("refused: query longer than 16777216 bytes", BUS, " " * 16777217),
     Case("refused: period above 4611686018427387904", "relation r(t: time) { (0+4611686018427387904n); (0+3n); }",
          "{ t: time | r(t) }"),
+    Case("refused: more than 1000000 formulas", BUS, DOUBLED, more=("wide=yes",)),
+    Case("refused: deeper than 400 formulas", BUS, DEEP, more=("wide=yes",)),
     Case("refused: bound above 4611686018427387904", BUS, "{ t: time | (bus(t) and t >= 4611686018427387904) }"),
     Case("refused: more than 1 cells at step 1", "relation r(t: time) { (0+4n); (1+4n); }", "{ t: time | r(t) }",
          more=("cap=1",)),
@@ -133,6 +139,10 @@ USAGE = [
     (("sample", "seed=1000001", "size=1"), "seed=1", "'1000001' is no value of 'seed'.", "from 0 to 1000000"),
     (("sample", "size=5"), "", "'sample' needs the key 'seed'.", "seed=1"),
     (("sample", "seed=1", "size=5", "cap=1"), "cap=1", "'sample' has no key 'cap'.", "seed, size"),
+    (("ask", "db=a", "query=b", "as=9x"), "as=9x", "'9x' is no value of 'as'.", "Write a name of letters"),
+    (("ask", "db=a", "query=b", "as=in"), "as=in", "'in' is no value of 'as'.", "no word of the language"),
+    (("list", "db=a", "query=b", "as=x"), "as=x", "'list' has no key 'as'.", "wide"),
+    (("watch", "db=a", "wide=yes"), "wide=yes", "'watch' has no key 'wide'.", "db, query, edits"),
     (("check", "a.lrp"), "a.lrp", "'a.lrp' is no KEY=VALUE.", "db=a.lrp"),
     (("check", "--help"), "--help", "'--help' is no KEY=VALUE.", "'fizhedul help check'"),
     (("check", "db", "=a"), "db", "'db' is no KEY=VALUE.", "without a blank"),
@@ -162,7 +172,7 @@ USAGE = [
     (("count", "db=a", "query=b", "from=2024-02-29", "civil=yes"), "from=2024", "no time of day.", "Write from=2024-02-29T00:00."),
     (("check", "db=a", "tense=yes"), "tense=yes", "'check' has no key 'tense'.", "db, civil"),
     (("ask", "db=a", "query=b", "tense=on"), "tense=on", "'on' is no value of 'tense'.", "no or yes"),
-    (("decide", "db=a", "query=b", "canon=yes"), "canon=yes", "'decide' has no key 'canon'.", "db, query, cap, plan, tense, civil, show"),
+    (("decide", "db=a", "query=b", "canon=yes"), "canon=yes", "'decide' has no key 'canon'.", "db, query, cap, plan, tense, wide, civil, show"),
     (("ask", "db=a", "query=b", "canon=on"), "canon=on", "'on' is no value of 'canon'.", "no or yes"),
     (("ask", "db=a", "query=b", "cannon=yes"), "cannon=yes", "'ask' has no key 'cannon'.", "'canon'"),
     (("check", "db=a", "civil=true"), "civil=true", "'true' is no value of 'civil'.", "no or yes"),
@@ -356,6 +366,59 @@ class Explained(unittest.TestCase):
                 self.assertRegex(told.out, r"^refused: query Syntax at 1:\d+\n$")
                 self.assertIn(wanted, " ".join(told.err.split()))
 
+    def test_details_of_the_wide_language(self):
+        for query, keys, wanted in (
+                ("define x() as 0 = 0; { | x() }", [], "This is in the wide language, which is read with wide=yes."),
+                ("{ | exists a, b: time bus(a) }", ["wide=no"], "Or give wide=yes: then it may be written so."),
+                ("{ | exists a, b: time bus(a }", [], "Each variable has a quantifier and a sort of its own"),
+                ("{ | bus(*) }", ["tense=yes"], "Or give wide=yes: then it may be written so."),
+                ("{ | bus(on 2026-03-01 00:00) }", [], "which is read with wide=yes and civil=yes."),
+                ("{ | bus(on 2026-03-01 00:00) }", ["wide=yes"], "are read with civil=yes."),
+                ("{ t: time | t in every 3 days from 2026-01-05 08:15 }", ["wide=yes", "civil=yes"], "here '1935+4320n' says the same."),
+                ("{ | * = 5 }", ["wide=yes"], "Here may stand: a formula."),
+                ("{ | bus(5) & bus(6) }", ["wide=yes"], "Write 'and'."),
+                ("{ | 5 <> 6 }", ["wide=yes"], "'Not equal' is written 'a != b'."),
+                ("define x(t: time) as bus(t) { | x(5) }", ["wide=yes"], "Here may stand: 'and', 'or', 'implies' or ';'.")):
+            with self.subTest(query), tempfile.TemporaryDirectory() as name:
+                Path(name, "a.lrp").write_text(BUS)
+                Path(name, "b.lrq").write_text(query)
+                told = run("explain", "db=a.lrp", "query=b.lrq", *keys, folder=Path(name), explain="always")
+                self.assertRegex(told.out, r"^refused: query Syntax at 1:\d+\n$")
+                self.assertIn(wanted, " ".join(told.err.split()))
+
+    def test_a_key_is_told_where_the_command_has_it(self):
+        with tempfile.TemporaryDirectory() as name:
+            Path(name, "a.lrp").write_text(BUS)
+            Path(name, "b.lrp").write_text("relation r(t: time) { (every 3 days from 2026-01-05 08:15); }")
+            Path(name, "c.lre").write_text("")
+            query = "query={ t: time | bus(t) and bus(t) }"
+            for words, told in ((["list", query, "from=0", "to=9"], True), (["lint", query], False),
+                                (["watch", query, "edits=c.lre"], False)):
+                said = run(words[0], "db=a.lrp", *words[1:], folder=Path(name), explain="always")
+                self.assertEqual(said.out, "refused: query Syntax at 1:20\n")
+                self.assertIn("A list stands in parentheses: (bus(t) and bus(t)).", " ".join(said.err.split()))
+                self.assertEqual("wide=yes" in said.err, told, words)
+            for words, wanted in ((["check"], "are read where a query is asked with wide=yes."), (["decide", query], "are read with wide=yes.")):
+                said = run(words[0], "db=b.lrp", "civil=yes", *words[1:], folder=Path(name), explain="always")
+                self.assertEqual(said.out, "refused: database Syntax at 1:24\n")
+                self.assertIn(wanted, " ".join(said.err.split()))
+
+    def test_details_of_definitions(self):
+        for query, wanted in (
+                ("define x() as y(); define y() as 0 = 0; { | x() }", "The definition of 'y' doesn't stand before this place"),
+                ("define x() as x(); { | x() }", "The definition of 'x' doesn't stand before this place"),
+                ("define late(t: time) as bus(t); { | lat(5) }", "The nearest name is 'late'."),
+                ("define late(t: time) as bus(t); { | late() }",
+                 "The definition 'late' has 1 column, but 0 terms are given: late(t: time). A column that doesn't matter gets a '*'."),
+                ("define late() as bus(u); { | late() }", "No column of the definition and no quantifier around it names 'u'."),
+                ("{ | bus(_) }", "A column that doesn't matter has a '*' in place of a term.")):
+            with self.subTest(query), tempfile.TemporaryDirectory() as name:
+                Path(name, "a.lrp").write_text(BUS)
+                Path(name, "b.lrq").write_text(query)
+                told = run("explain", "db=a.lrp", "query=b.lrq", "wide=yes", folder=Path(name), explain="always")
+                self.assertRegex(told.out, r"^refused: query (UnknownRelation|Arity|Unbound) at 1:\d+\n$")
+                self.assertIn(wanted, " ".join(told.err.split()))
+
     def test_the_step_of_a_query_with_operators(self):
         words = ["decide", "db=line.lrp", "query=pause.lrq", "tense=yes", "cap=5"]
         told = run(*words, folder=TOP / "examples/guide", explain="always")
@@ -507,7 +570,7 @@ class Usage(unittest.TestCase):
         for words in ("check db=a", "ask query=b db=a", "ask db=a query=b cap=1000000000", "list db=a query=b to=0 from=-5",
                       "list db=a query=b from=0 to=0 limit=1000000 after= form=json cap=1", "decide db=a=b query=b",
                       "list db=a query=b from=-4611686018427387904 to=4611686018427387904",
-                      "ask db=a query=b tense=yes civil=no", "ask canon=yes db=a query=b cap=1", "ask db=a query=b canon=no", "explain db=a query=b tense=no",
+                      "ask db=a query=b tense=yes civil=no", "ask canon=yes db=a query=b cap=1", "ask db=a query=b as=define wide=yes", "explain wide=no db=a query=b", "ask db=a query=b canon=no", "explain db=a query=b tense=no",
                       "list db=a query=b from=0001-01-01T00:00 to=9999-12-31T23:59 civil=yes", "count db=a query=b from=0 to=-9 plan=guarded",
                       "count db=a query=b from=2024-02-29T00:00 to=2024-02-29T08:15 civil=yes cap=5 tense=yes",
                       "ranges db=a query=b from=0 to=0 limit=1000000 form=json cap=1 plan=written tense=no civil=no", "check civil=no db=a",
