@@ -10,9 +10,15 @@ def escape(text: str) -> str:
     return "\\&" + text if text[:1] in (".", "'") else text
 
 
+def unmarked(text: str) -> str:
+    """A text without the marks of emphasis and of code; a '*' in code is no mark, nor is one that stands alone."""
+    parts = re.split("`", text)
+    return "".join(part if place % 2 else re.sub(r"\*+(\w[^*]*?)\*+", r"\1", part) for place, part in enumerate(parts)).replace("\\|", "|")
+
+
 def paragraph(text: str) -> list[str]:
     """The lines of a paragraph, a sentence a line."""
-    words = re.sub(r"[`*]", "", " ".join(text.split()))
+    words = unmarked(" ".join(text.split()))
     sentences = re.split(r"(?<=[.:?!]) (?=[A-Z0-9'])", words)
     return [escape(line) for sentence in sentences for line in textwrap.wrap(sentence, 72, break_on_hyphens=False)]
 
@@ -65,7 +71,7 @@ def table(lines: list[str]) -> list[str]:
     heads, _, *rows = [[cell.strip() for cell in re.split(r"(?<!\\)\|", line.strip("|"))] for line in lines]
     out = [".Bl -tag -width Ds"]
     for row in rows:
-        out.append(".It " + escape(re.sub(r"[`*]", "", row[0])).replace('"', "\\(dq"))
+        out.append(".It " + escape(unmarked(row[0])).replace('"', "\\(dq"))
         for head, cell in zip(heads[1:], row[1:]):
             if cell:
                 # A head of many words goes without saying in a list.
