@@ -15,7 +15,7 @@ from support import PROGRAM, TOP, need
 BUS = b"relation bus(t: time) { (5+60n); }\n"
 ALL = b"{ t: time | bus(t) }\n"
 ANSWER = b"relation answer(t: time) {\n  (5+60n);\n}\n"
-EXAMPLE = "5\n65\n125\nend\nAnswer\n  (5)\n"
+EXAMPLE = "5\n65\n125\nend\nNonempty\n5\n"
 ASK = ("ask", "db=d", "query=q")
 FLAGS = ["-std=c99", "-Wall", "-Wextra", "-Werror", "-O1"]
 

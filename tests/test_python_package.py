@@ -140,7 +140,7 @@ class Package(unittest.TestCase):
                     found[turn].append(next(pages[turn]))
             with self.assertRaises(self.package.Refused):
                 database.query(texts[2]).decide()
-            self.assertEqual(database.query(texts[0]).decide(), (-53,))
+            self.assertEqual(database.query(texts[0]).decide(), (5,))
         self.assertEqual([list(page) for page in pages], [[], []])
 
     def test_a_missing_library_is_told(self):

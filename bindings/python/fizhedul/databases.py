@@ -80,8 +80,8 @@ class Database:
         """A query over these relations, by its text.
 
         `plan` says whether what stands after `not` is made under guards, or as it is written; `tense` that temporal
-        operators may stand in the text; `wide` that it is in the wide language, with definitions before the query; `cap`
-        how many cells a step may have before the question is refused.
+        operators may stand in the text; `wide` that it is in the wide language, with definitions before the query;
+        `cap` how many cells a step may have before the question is refused.
 
         >>> Database("relation bus(t: time) { (5+60n); }").query("{ t: time | bus(t) }").decide()
         (5,)

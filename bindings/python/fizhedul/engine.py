@@ -109,7 +109,7 @@ class Kept:
 
     >>> kept = Kept({"a": b"relation r(t: time) { (0+2n); }"})
     >>> kept.run(["decide", "db=a", "query=q"], {"q": b"{ t: time | r(t) }"}).text
-    b'Answer\\n  (0)\\n'
+    b'Nonempty\\n0\\n'
     """
 
     def __init__(self, files: Mapping[str, bytes]) -> None:
