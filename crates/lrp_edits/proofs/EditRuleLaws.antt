@@ -35,7 +35,7 @@ use Rattle.lrp_rel.proofs.Shallow.{Shallow, bind_shallow, if_shallow, pure_shall
 -- ---- local
 
 -- a sign depends on its tokens and on the next one alone
-change_local : Local change
+pub change_local : Local change
 unfolding change
 change_local =
     bind_local (eat (is_symbol Plus)) _ (eat_local _) (λ plus.
@@ -96,7 +96,7 @@ edit_has_token e = omega arith
 
 -- ---- sound
 
--- behind a plus, or where there is none
+-- after a plus, or where there is none
 after_plus : (plus : Bool) (ts us : Tokens) (q : Bool × Tokens) → (if plus then pure true else (expect Minus >>= (λ u. pure false))) us ≡ Ok q → Takes (eaten_parts (any (symbol_token Plus)) plus) ts us → Takes (One change_part q.0) ts q.1 × Unit {0}
 after_plus true ts us q e eaten = let h : (true, us) ≡ q = cc in subst (λ y. Takes (One change_part y.0) ts y.1 × Unit {0}) h (eaten, tt)
 after_plus false ts us q e eaten =
@@ -184,7 +184,7 @@ edit_viable n ts e lt h =
 -- ---- all edits
 
 -- the rule of an edit has all that an item's owes
-edit_rule : ItemRule edit edit_text FitsEdit
+pub edit_rule : ItemRule edit edit_text FitsEdit
 edit_rule = record { local = edit_local; member = edits_member; sound = edit_sound; viable = edit_viable; some = edit_has_token }
 
 -- what is read as edits is lawful, and the tokens spell it
@@ -193,7 +193,7 @@ unfolding edits
 edits_sound n = items_sound edit edit_text FitsEdit edit_rule n
 
 -- the rule of edits has all that a rule owes
-edits_rule : Rule edits edits_text FitsEdits
+pub edits_rule : Rule edits edits_text FitsEdits
 unfolding edits
 edits_rule = let r = items_rule edit edit_text FitsEdit edit_rule in record { local = r.local; complete = r.complete; viable = r.viable }
 

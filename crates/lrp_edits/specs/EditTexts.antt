@@ -17,7 +17,7 @@ change_part false = any (symbol_token Minus)
 abbrev pub edit_text : RawEdit → List Part
 edit_text e = change_part e.add ∷ name_part e.relation ∷ located_text row_text e.row
 
--- edits = { edit }, and behind them the end
+-- edits = { edit }, and after them the end
 abbrev pub edits_text : List RawEdit → List Part
 edits_text es = flat_map edit_text es ++ any end_token ∷ []
 

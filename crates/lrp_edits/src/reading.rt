@@ -61,7 +61,7 @@ fn read_all(
     }
 }
 
-// The edits of a database, and the end behind them.
+// The edits of a database, and the end after them.
 #[tactic(auto, unfolding(crate::specs::EditRules::edits))]
 pub fn read_edits_to_end(
     alloc: Global,

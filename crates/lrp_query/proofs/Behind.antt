@@ -1,4 +1,4 @@
--- Behind a name that begins a formula: what the rule reads by what follows the name.
+-- After a name that begins a formula: what the rule reads by what follows the name.
 use Rattle.std.proofs.Common.{◌≡◌, ◌∙◌, ℕ, Bool, true, false, [], ◌∷◌, Option, Some, None, ap, sym, refl, Ok, Err, if◌then◌else◌}
 use Rattle.lrp_model.specs.Texts.{Identifier}
 use Rattle.lrp_model.specs.declared.tokens.Place.{Place}
@@ -40,7 +40,7 @@ module _ {R P N F : Type 0} (make : OperatorTrees R P N F) (inner : Parser F) wh
       in_turn (expect Comma ws) _ _ ∙ alike (expect Comma ws) _ _ (λ b xs.
       in_turn (inner xs) _ _ ∙ alike (inner xs) _ _ (λ g ys. in_turn (expect Close ys) _ _)))))
 
--- ---- behind a name
+-- ---- after a name
 
 module _ {K T F Q R P N : Type 0} (make : Trees K T F Q) (operators : OperatorTrees R P N F) (inner : Parser F) (turns : ℕ) (n : Identifier) (p : Place) (ts : Tokens) where
   -- what stands there without operators, where no other name follows
@@ -53,7 +53,7 @@ module _ {K T F Q R P N : Type 0} (make : Trees K T F Q) (operators : OperatorTr
   unfolding with_operators
   operator_behind o e w = rw e (ap (λ k. operator operators inner p k ts) (sym w))
 
-  -- of which the parts are read behind its first word
+  -- of which the parts are read after its first word
   pub range_behind : (word : R) → look false is_name ts ≡ Ok (true, ts) → Some (OfRange word) ≡ operators.word_of n → with_operators make operators inner turns n p ts ≡ ranged_parts operators inner word p ts
   range_behind word e w = operator_behind (Some (OfRange word)) e w ∙ sym (ranged_same operators inner word p ts)
 
@@ -63,7 +63,7 @@ module _ {K T F Q R P N : Type 0} (make : Trees K T F Q) (operators : OperatorTr
 -- ---- where no name is the first word of an operator
 
 module _ {K T F Q R P N : Type 0} (make : Trees K T F Q) (operators : OperatorTrees R P N F) (inner : Parser F) (turns : ℕ) (n : Identifier) (p : Place) where
-  -- no atom, comparison or `in` has a name behind its own
+  -- no atom, comparison or `in` has a name after its own
   no_name : (k : Token) (q : Place) (us : Tokens) → is_name_token k ≡ true → behind_name false make turns n p (record { token = k; place = q } ∷ us) ≡ Err (Syntax, record { token = k; place = q } ∷ us)
   unfolding behind_name named_term offset tested comparing eat accept
   no_name (name_token m) q us e = refl

@@ -27,7 +27,7 @@ module _ {K T F Q : Type 0} (make : Trees K T F Q) (inner : ℕ → Parser F) (d
   chain_ends some zero us vs j lt h e = absurd (omega (arith, lt))
   chain_ends some (suc m) us vs j lt h e = rw (h m (omega (arith, lt)), ne_eqb depth 0 some, e) refl
 
-  -- another one follows, and behind it a formula
+  -- another one follows, and after it a formula
   pub chain_goes : (depth ≡ 0 → ⊥) → (more : ℕ) (us vs ws : Tokens) (j : Joined F) (g : F) → length ts < more → ((m : ℕ) → length ts ≤ m → either make (inner depth) m ts ≡ Ok (j, us)) → eat (is_word Implies) us ≡ Ok (true, vs) → length vs < length ts → ((m : ℕ) → length vs < m → chained make inner (depth - 1) m j.formula vs ≡ Ok (g, ws)) → chained make inner depth more x ts ≡ Ok (make.formulas.implication (make.formulas.place_of x) x g, ws)
   unfolding chained
   chain_goes some zero us vs ws j g lt h e s r = absurd (omega (arith, lt))

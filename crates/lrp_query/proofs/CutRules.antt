@@ -35,7 +35,7 @@ number_kind : (b : Bool) → deep_or_number b ≢ Syntax
 number_kind true e = absurd cc
 number_kind false e = absurd cc
 
--- `0`, with `= 0` behind it
+-- `0`, with `= 0` after it
 abbrev equals_zero : Tokens
 equals_zero = symbol_at Equals ∷ zero_tokens
 
@@ -47,7 +47,7 @@ zero_is_zero = record { token = number_token 0; place = start } ∷ equals_zero
 abbrev some_binder : RawColumn
 some_binder = record { name = []; place = start; sort = time_sort; sort_place = start }
 
--- what stands behind a quantifier
+-- what stands after a quantifier
 abbrev bound_tokens : Tokens
 bound_tokens = record { token = name_token []; place = start } ∷ symbol_at Colon ∷ record { token = word_token time_word; place = start } ∷ zero_is_zero
 

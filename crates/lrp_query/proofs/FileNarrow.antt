@@ -104,7 +104,7 @@ behind_ends (t ∷ u ∷ head) us e = behind_ends (u ∷ head) us e
 taken_ends : (ps : List Part) (ts us : Tokens) → Takes ps ts us → ComesToEnd us → ComesToEnd ts
 taken_ends ps ts us h e = let f = takes_front ps ts us h in subst ComesToEnd (sym f.whole) (behind_ends f.head us e)
 
--- nothing behind a bad byte
+-- nothing after a bad byte
 one_more : (t : Placed) (rest : Tokens) → Real t.token → (t.token ≡ end_token → ⊥) → ComesToEnd (t ∷ rest) → (ComesToEnd rest → AllReal rest) → AllReal (t ∷ rest)
 one_more t [] real no_end e all = absurd (no_end e)
 one_more t (u ∷ us) real no_end e all = (real, all e)

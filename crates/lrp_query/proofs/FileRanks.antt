@@ -65,7 +65,7 @@ cause_of T front Period bad tail g = let h : g.token ≡ bad = cc in subst (λ x
 cause_of T front Deep bad tail g = tt
 cause_of T front Memory bad tail g = let h : g.token ≡ bad = cc in subst (λ x. IsCause Memory x.token) h g.cause
 
--- the outcome for these tokens with others behind the bad one
+-- the outcome for these tokens with others after the bad one
 again : (p : Parser RawFileView) (ts front : Tokens) (k : Fault) (bad : Placed) (tail other : Tokens) → IsLocal p ts → p ts ≡ Err (k, bad ∷ tail) → ts ≡ front ++ bad ∷ tail → p (front ++ bad ∷ other) ≡ Err (k, bad ∷ other)
 again p ts front k bad tail other l e whole =
     let o : l.outcome ≡ Err (k, bad ∷ tail) = sym l.is ∙ e in
@@ -97,7 +97,7 @@ file_refused ts k bad tail reads =
 there : (t : Placed) → is_hole_token t.token ≡ false → holes t ≡ Err (too_deep t.token)
 there t real = cut_told (raw_or t.place no_raws) t.token real
 
--- a lawful text that goes on behind tokens where each token is cut off goes on with a hole
+-- a lawful text that goes on after tokens where each token is cut off goes on with a hole
 hole_next : (n : ℕ) (front : Tokens) (b : Placed) (more : Tokens) → FileTexts true (front ++ b ∷ more) → length (front ++ b ∷ more) < n → ((c : Cut) (k : Fault) (b : Placed) (y : Tokens) → c b ≡ Err k → file_cut n c (front ++ b ∷ y) ≡ Err (k, b ∷ y)) → (h : Bool) → is_hole_token b.token ≡ h → IsTooDeepIn FileTexts front
 hole_next n front b more text lt all true is = (b, more, is_hole b.token is, text)
 hole_next n front b more text lt all false is = absurd (ok_or_err (read_file n (front ++ b ∷ more)) (raw_file text.0, []) (too_deep b.token, b ∷ more) (lawful_read n text.0 (front ++ b ∷ more) [] lt text.1 text.2) (all holes (too_deep b.token) b more (there b is)))
@@ -124,7 +124,7 @@ deep_at n ts front bad tail more clean whole text lt less e (cut_off h t us ne w
     let each : (c : Cut) (k : Fault) (b : Placed) (y : Tokens) → c b ≡ Err k → file_cut n c (front ++ b ∷ y) ≡ Err (k, b ∷ y) = subst (λ f. (c : Cut) (k : Fault) (b : Placed) (y : Tokens) → c b ≡ Err k → file_cut n c (f ++ b ∷ y) ≡ Err (k, b ∷ y)) fronts all in
     (hole_behind n ts front bad tail more whole lt less e each text, not_large bad.token (subst (λ x. too_deep x.token ≡ Deep) token same.0))
 
--- behind tokens that a hole may follow each token is refused as where a formula would be too deep
+-- after tokens that a hole may follow each token is refused as where a formula would be too deep
 shallow_at : (n : ℕ) (front : Tokens) (h : Placed) (other : Tokens) (q : RawFileView) (k : Fault) (bad : Placed) (tail : Tokens) → NoHoles front → is_hole_token h.token ≡ true → is_hole_token bad.token ≡ false → read_file n (front ++ h ∷ other) ≡ Ok (q, []) → read_file n (front ++ bad ∷ tail) ≡ Err (k, bad ∷ tail) → Told true (file_cut n) (front ++ h ∷ other) → IsDeepKind k
 shallow_at n front h other q k bad tail clean is real ok e (took a left x w cl all) =
     let j : ◌≡◌ {A = ParseOutcome RawFileView} (Ok (a, left)) (Ok (q, [])) = sym (all holes) ∙ ok in

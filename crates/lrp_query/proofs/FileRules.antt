@@ -24,7 +24,7 @@ use Rattle.lrp_model.specs.Queries.Language.{wide}
 use Rattle.lrp_model.specs.QueryMeaning.{raw_form, raw_question, raw_definition, raw_file}
 use Rattle.lrp_model.specs.RawQueries.{RawForm, RawQuestion, RawFileView}
 use Rattle.lrp_text.specs.Parsers.{ParseOutcome, Parser, and_then, ◌>>=◌, pure, listed}
-use Rattle.lrp_text.specs.Taking.{is_symbol, is_symbol_token, is_named, is_named_token, required, expect, expect_named, expect_end, name}
+use Rattle.lrp_text.specs.Taking.{is_symbol, is_symbol_token, is_token_named, is_named_token, required, expect, expect_named, expect_end, name}
 use Rattle.lrp_text.specs.ColumnRule.{column}
 use Rattle.lrp_text.proofs.Complete.{Anything, IsNot, Sees}
 use Rattle.lrp_text.proofs.Sound.{takes_join, takes_split}
@@ -70,12 +70,12 @@ named_leaf word (name_token n) = by (bytes_eq n word)
     by false = tt
 named_leaf word _ = tt
 
-named_rule : (word : Identifier) → TokenRule (λ t. required (is_named word t)) (λ u. any (name_token word)) (λ u. Unit {0})
+named_rule : (word : Identifier) → TokenRule (λ t. required (is_token_named word t)) (λ u. any (name_token word)) (λ u. Unit {0})
 named_rule word = record {
-  told = λ t u e. named_is word t.token (required_is (is_named word t) u e);
+  told = λ t u e. named_is word t.token (required_is (is_token_named word t) u e);
   fits = λ t a e. tt;
   tells = λ t a L f is. inl (ap (λ k. required (is_named_token word k)) is ∙ ap required (named_again word));
-  stops = record { token = record { token = name_token word; place = start }; value = tt; fits = tt; is = refl; fault = λ t k e. inl (required_err (is_named word t) k e) };
+  stops = record { token = record { token = name_token word; place = start }; value = tt; fits = tt; is = refl; fault = λ t k e. inl (required_err (is_token_named word t) k e) };
   leaf = λ t. named_leaf word t.token;
 }
 
@@ -219,7 +219,7 @@ BodyEnd n cs f = SymbolText (symbol_token Semicolon) (Nothing (made n cs f))
 abbrev BehindColumns : Identifier × Place → List RawColumn → Language (Definition RawForm)
 BehindColumns n cs = SymbolText (symbol_token Close) (NamedText as_word (Then BodyText (BodyEnd n cs)))
 
--- behind `define`
+-- after `define`
 abbrev RestText : Language (Definition RawForm)
 RestText = After name_part (λ n. Unit {0}) (λ n. SymbolText (symbol_token Open) (Then Columns (BehindColumns n)))
 
@@ -303,13 +303,13 @@ DefinitionsText found c r ts us = (ds : List (Definition RawForm)) × (r ≡ fou
 
 -- no definition begins
 abbrev NoDefinition : Tokens → Type 0
-NoDefinition left = Sees false (is_named define_word) false left
+NoDefinition left = Sees false (is_token_named define_word) false left
 
--- one definition, and those behind it
+-- one definition, and those after it
 abbrev MoreText : List (Definition RawForm) → Language (List (Definition RawForm))
 MoreText found = NamedText define_word (Then RestText (λ d. DefinitionsText (found ++ d ∷ [])))
 
-more_sees : (found : List (Definition RawForm)) (c : Bool) (r : List (Definition RawForm)) (ts left : Tokens) → MoreText found c r ts left → NoDefinition left → Sees false (is_named define_word) true ts
+more_sees : (found : List (Definition RawForm)) (c : Bool) (r : List (Definition RawForm)) (ts left : Tokens) → MoreText found c r ts left → NoDefinition left → Sees false (is_token_named define_word) true ts
 more_sees found c r [] left t g = absurd t
 more_sees found c r (u ∷ ts) left t g = ap (is_named_token define_word) t.1.0 ∙ named_again define_word
 
@@ -371,7 +371,7 @@ definitions_rule size (suc n) low found =
     (λ u. sooner_rule true (bind_rule (λ d c. definitions_of size n (found ++ d ∷ []) c) (below_rule n (omega (arith, low)) (rest_rule size))
     (λ d. definitions_rule size n (omega (arith, low)) (found ++ d ∷ [])) (λ d c v ms left t g. tt)))))
     (pure_rule (suc n) true NoDefinition found)
-    (more_sees found) (λ c v ts left t g. subst (Sees false (is_named define_word) false) (sym t.1) g))
+    (more_sees found) (λ c v ts left t g. subst (Sees false (is_token_named define_word) false) (sym t.1) g))
     (definitions_there found) (definitions_back found)
 
 -- ---- files

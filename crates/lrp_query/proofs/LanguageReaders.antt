@@ -1,4 +1,4 @@
--- The readers of the languages: what each owes behind a name that begins a formula.
+-- The readers of the languages: what each owes after a name that begins a formula.
 use Rattle.std.proofs.Common.{◌≡◌, ◌<◌, ℕ, suc, Bool, true, false, [], ◌∷◌, refl, ap, sym, subst, Ok, Err, Option, Some, None, length, if◌then◌else◌}
 use Rattle.std.specs.Prelude.{codes}
 use Rattle.lrp_model.specs.Texts.{Identifier}
@@ -60,7 +60,7 @@ paired_again Until = refl
 
 -- ---- complete, sound and viable
 
--- the rule behind a name
+-- the rule after a name
 abbrev pub written_behind : BehindName (WrittenFormula temporal)
 written_behind = with_operators (trees temporal_grammar) written_operators
 
@@ -100,7 +100,7 @@ module _ (inner : Parser (WrittenFormula temporal)) (d turns : ℕ) (rules : For
   sound n p [] q e = either_sound n p false [] q e
   sound n p (u ∷ us) q e = either_sound n p (is_name u) (u ∷ us) q e
 
-  -- the tokens behind the name of an atom without terms
+  -- the tokens after the name of an atom without terms
   abbrev no_terms : Tokens
   no_terms = symbol_at Open ∷ symbol_at Close ∷ []
 
@@ -142,7 +142,7 @@ temporal_reader = record {
   same = λ inner other_inner s turns n p ts. behind_same (Unit {0}) (trees temporal_grammar) marking (marks_of temporal_grammar) written_operators (marked_operators word_of) forget (λ k. refl) (λ i. refl) (λ word o a b f. refl) (λ word o f g. refl) inner other_inner s turns n p ts;
 }
 
--- in first-order logic nothing stands behind a name but an atom or a term
+-- in first-order logic nothing stands after a name but an atom or a term
 pub plain_behind : (inner : Parser (WrittenFormula first_order)) (d turns : ℕ) → FormulaRules (grammar plain) d turns inner → BehindRules (grammar plain) d turns (plainly (trees (grammar plain)) inner turns)
 plain_behind inner d turns r = record {
   plain = λ n p us alone. refl;

@@ -27,12 +27,12 @@ use Rattle.lrp_query.proofs.Layers.{Layer, atom, compared, member, denied, all_o
 
 -- ---- members
 
--- the members behind the first one
+-- the members after the first one
 abbrev pub further : {l : Language} → WrittenFormula l → List (WrittenFormula l) → FurtherMembers l
 further f [] = last f
 further f (g ∷ gs) = more f (further g gs)
 
--- as a list: the first one, and those behind it
+-- as a list: the first one, and those after it
 abbrev pub first_of : {l : Language} → FurtherMembers l → WrittenFormula l
 first_of (last f) = f
 first_of (more f fs) = f
@@ -141,7 +141,7 @@ abbrev pub first_word : {l : Language} → OperatorOver l → Identifier
 first_word (over_range t word o from to f) = ranged_word word
 first_word (over_pair t word o f g) = paired_word word
 
--- what stands behind its first word
+-- what stands after its first word
 abbrev pub ranged_rest : {l : Language} → Operator → Integer → Integer → WrittenFormula l → List Part
 ranged_rest o from to f = at o.name_place (name_token o.name) ∷ any (symbol_token Open) ∷ (interval_text from to ++ formula_text f)
 

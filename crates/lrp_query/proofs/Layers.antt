@@ -194,7 +194,7 @@ module _ {F X Q : Type 0} (g : Grammar F X Q) where
   pub takes_unrolled : (w : F) (ts us : Tokens) → Takes (g.text w) ts us → Takes (text_of (g.unroll w)) ts us
   takes_unrolled w ts us h = subst (λ ps. Takes ps ts us) (g.text_is (g.unroll w)) (subst (λ f. Takes (g.text f) ts us) (sym (g.unrolled w)) h)
 
-  -- what stands behind a name that begins a formula: as in each grammar where no other name follows, and else what this one has beyond it
+  -- what stands after a name that begins a formula: as in each grammar where no other name follows, and else what this one has beyond it
   pub record BehindRules (d turns : ℕ) (behind_it : Identifier → Place → Parser F) : Type 0 where
     pub plain : (n : Identifier) (p : Place) (us : Tokens) → IsNot is_name us → behind_it n p us ≡ behind_name false (trees g) turns n p us
     pub back : (x : X) (us left : Tokens) → length us < turns → Takes (g.others.rest x) us left → NoShift left → Answers (behind_it (g.others.word x) (g.others.place x) us) (g.roll (other x)) left (g.others.Fits d x)

@@ -29,12 +29,12 @@ pub mod OneFault
 pub mod Languages
 mod OperatorReader
 pub mod LanguageReaders
-mod Meant
+pub mod Meant
 pub mod LanguageTexts
 pub mod Whole
 pub mod LawfulQueries
 mod WideTold
-mod WideRule
+pub mod WideRule
 mod WideTerms
 mod WideWritten
 mod WideLevels
@@ -44,7 +44,7 @@ mod WideTests
 mod WideOperators
 mod WideStarts
 mod WideFormulas
-mod FileRules
+pub mod FileRules
 mod FileRanks
 pub mod FileTexts
 mod FileNarrow

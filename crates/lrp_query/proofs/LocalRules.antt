@@ -63,7 +63,7 @@ module _ {K T F Q : Type 0} (make : Trees K T F Q) where
       bind_local (accept (λ t. op_of t.token)) _ (accept_local _) (λ op.
       bind_local (term make.terms) _ (term_local make.terms) (λ right. pure_local _))
 
-  -- what stands behind a first term depends on its tokens and on the next one alone
+  -- what stands after a first term depends on its tokens and on the next one alone
   pub test_local : (left : T) → Local (tested false make left)
   unfolding tested
   test_local left =
@@ -77,7 +77,7 @@ module _ {K T F Q : Type 0} (make : Trees K T F Q) where
       bind_local (listed (term make.terms) (is_symbol Comma) (is_symbol Close) turns) _ (listed_local (term make.terms) _ _ (term_local make.terms) turns) (λ ts.
       bind_local (expect Close) _ (accept_local _) (λ u. pure_local _))
 
-  -- what stands behind a name depends on its tokens and on the next one alone
+  -- what stands after a name depends on its tokens and on the next one alone
   pub behind_name_local : (turns : ℕ) (n : Identifier) (p : Place) → Local (behind_name false make turns n p)
   unfolding behind_name
   behind_name_local turns n p =
@@ -103,7 +103,7 @@ module _ {K T F Q : Type 0} (make : Trees K T F Q) where
         bind_local (expect_word Not) _ (accept_local _) (λ u.
         bind_local inner _ local (λ f. pure_local _))
 
-    -- a formula behind `exists` depends on its tokens and on the next one alone
+    -- a formula after `exists` depends on its tokens and on the next one alone
     existing_local : (p : Place) → Local (existing make inner p)
     unfolding existing
     existing_local p =
@@ -111,7 +111,7 @@ module _ {K T F Q : Type 0} (make : Trees K T F Q) where
         bind_local column _ column_local (λ c.
         bind_local inner _ local (λ f. pure_local _)))
 
-    -- a formula behind `forall` depends on its tokens and on the next one alone
+    -- a formula after `forall` depends on its tokens and on the next one alone
     holding_local : (p : Place) → Local (holding make inner p)
     unfolding holding
     holding_local p =
@@ -119,28 +119,28 @@ module _ {K T F Q : Type 0} (make : Trees K T F Q) where
         bind_local column _ column_local (λ c.
         bind_local inner _ local (λ f. pure_local _)))
 
-    -- what stands behind `implies` depends on its tokens and on the next one alone
+    -- what stands after `implies` depends on its tokens and on the next one alone
     implying_local : (p : Place) (f : F) → Local (implying make inner p f)
     unfolding implying
     implying_local p f =
         bind_local inner _ local (λ g.
         bind_local (expect Close) _ (accept_local _) (λ u. pure_local _))
 
-    -- what stands behind `and` depends on its tokens and on the next one alone
+    -- what stands after `and` depends on its tokens and on the next one alone
     conjoined_local : (p : Place) (f : F) → Local (conjoined make inner turns p f)
     unfolding conjoined
     conjoined_local p f =
         bind_local (separated_from inner (is_word And) turns (f ∷ [])) _ (separated_local inner _ local turns _) (λ fs.
         bind_local (expect Close) _ (accept_local _) (λ u. pure_local _))
 
-    -- what stands behind `or` depends on its tokens and on the next one alone
+    -- what stands after `or` depends on its tokens and on the next one alone
     disjoined_local : (p : Place) (f : F) → Local (disjoined make inner turns p f)
     unfolding disjoined
     disjoined_local p f =
         bind_local (separated_from inner (is_word Or) turns (f ∷ [])) _ (separated_local inner _ local turns _) (λ fs.
         bind_local (expect Close) _ (accept_local _) (λ u. pure_local _))
 
-    -- what stands behind a first formula depends on its tokens and on the next one alone
+    -- what stands after a first formula depends on its tokens and on the next one alone
     behind_first_local : (p : Place) (f : F) → Local (behind_first make inner turns p f)
     unfolding behind_first
     behind_first_local p f =

@@ -75,7 +75,7 @@ abbrev pub NotEmpty : Tokens → Type 0
 NotEmpty [] = ⊥
 NotEmpty (t ∷ ts) = Unit {0}
 
--- why a reader fails: a fault of a token, a hole where none may be, or a mark, with the flag behind some token
+-- why a reader fails: a fault of a token, a hole where none may be, or a mark, with the flag after some token
 pub data Why {A : Type 0} (late : Bool) (p : Parser A) (ts : Tokens) (e : Fault × Tokens) : Type 0 where
   plain : IsPlain e.0 → Why late p ts e
   at_hole : (t : Placed) (us : Tokens) → e.0 ≡ Deep → e.1 ≡ t ∷ us → is_hole_token t.token ≡ true → Why late p ts e
@@ -97,7 +97,7 @@ holes_join : (xs ys : Tokens) → NoHoles xs → NoHoles ys → NoHoles (xs ++ y
 holes_join [] ys a b = b
 holes_join (x ∷ xs) ys a b = (a.0, holes_join xs ys a.1 b)
 
--- some token behind others
+-- some token after others
 joined_not_empty : (xs : Tokens) (c : Placed) (cs : Tokens) → NotEmpty (xs ++ c ∷ cs)
 joined_not_empty [] c cs = tt
 joined_not_empty (x ∷ xs) c cs = tt
@@ -124,7 +124,7 @@ done late = pure_told {A = Unit {0}} late tt
 pub fail_told : {A : Type 0} (late : Bool) → Tells late (fail {A = A} Syntax)
 fail_told late ts = plain tt
 
--- a mark behind some token is a mark
+-- a mark after some token is a mark
 why_sooner : {A : Type 0} (p : Parser A) (ts : Tokens) (e : Fault × Tokens) → Why true p ts e → Why false p ts e
 why_sooner p ts e (plain k) = plain k
 why_sooner p ts e (at_hole t us d w h) = at_hole t us d w h
@@ -181,7 +181,7 @@ unfolding accept
 accept_at test f next t ts (Ok a) is l = behind_token (f a) (accept test >>= f) t ts (f a ts) l (λ us. ap (λ r. and_then (taken r t us) f) is) (next a ts)
 accept_at test f next t ts (Err k) is l = plain l
 
--- behind a token of a test
+-- after a token of a test
 pub accept_then : {A B : Type 0} (test : Placed → Result A Fault) (f : A → Parser B) → ((t : Placed) → LeafAt t.token (test t)) → ((a : A) → Tells false (f a)) → Tells true (accept test >>= f)
 unfolding accept
 accept_then test f leaf next [] = plain tt
@@ -193,19 +193,19 @@ unfolding eat
 eat_at test f clean some none t ts true is = behind_token (f true) (eat test >>= f) t ts (f true ts) (clean t is) (λ us. ap (λ r. and_then (eaten r t us) f) is) (some ts)
 eat_at test f clean some none t ts false is = same_first (f false) (eat test >>= f) t ts (f false (t ∷ ts)) (λ us. ap (λ r. and_then (eaten r t us) f) is) (none (t ∷ ts))
 
--- behind a token that may be eaten
+-- after a token that may be eaten
 pub eat_then : {B : Type 0} (test : Placed → Bool) (f : Bool → Parser B) → ((t : Placed) → test t ≡ true → is_hole_token t.token ≡ false) → Tells false (f true) → Tells true (f false) → Tells true (eat test >>= f)
 unfolding eat
 eat_then test f clean some none [] = empty_first (f false) (eat test >>= f) (f false []) (none [])
 eat_then test f clean some none (t ∷ ts) = eat_at test f clean some none t ts (test t) refl
 
--- behind a token that is looked at
+-- after a token that is looked at
 pub look_then : {A B : Type 0} (none : A) (test : Placed → A) (f : A → Parser B) → ((a : A) → Tells true (f a)) → Tells true (look none test >>= f)
 unfolding look
 look_then none test f next [] = empty_first (f none) (look none test >>= f) (f none []) (next none [])
 look_then none test f next (t ∷ ts) = same_first (f (test t)) (look none test >>= f) t ts (f (test t) (t ∷ ts)) (λ us. refl) (next (test t) (t ∷ ts))
 
--- behind what was read, a reader that marks no token at once
+-- after what was read, a reader that marks no token at once
 second_at : {A B : Type 0} (late : Bool) (p : Parser A) (f : A → Parser B) (ts : Tokens) (q : A × Tokens) → p ts ≡ Ok q → Took ts q.1 → IsLocal p ts → (o : ParseOutcome B) → Told true (f q.0) q.1 o → Told late (p >>= f) ts o
 second_at late p f ts q is took l (Ok r) w = took_join ts q.1 r.1 took w
 second_at late p f ts q is took l (Err e) (plain k) = plain k
@@ -247,9 +247,9 @@ listed_told : {A : Type 0} (p : Parser A) (comma stop : Placed → Bool) → ((t
 unfolding listed
 listed_told {A} p comma stop clean told local n = look_then false stop _ (λ none. choice_told true none _ _ (pure_told {A = List A} true []) (separated_told true p comma clean told local n []))
 
--- ---- readers whose answer hangs on the tokens that they take alone
+-- ---- readers whose answer depends on the tokens that they take alone
 
--- what is read, whatever stands behind
+-- what is read, whatever stands after
 pub record Fixed {A : Type 0} (p : Parser A) (ts : Tokens) (q : A × Tokens) : Type 0 where
   pub front : Tokens
   pub whole : ts ≡ front ++ q.1
@@ -305,7 +305,7 @@ fixed_told : {A : Type 0} (late : Bool) (p : Parser A) (ts : Tokens) (o : ParseO
 fixed_told late p ts (Ok q) a = record { front = a.front; whole = a.whole; clean = a.clean }
 fixed_told late p ts (Err e) a = plain a
 
--- behind it
+-- after it
 behind_fixed : {A B : Type 0} (p : Parser A) (f : A → Parser B) (ts : Tokens) (q : A × Tokens) → Fixed p ts q → (o : ParseOutcome B) → Told false (f q.0) q.1 o → Told false (p >>= f) ts o
 behind_fixed p f ts q a (Ok r) w = took_join ts q.1 r.1 (record { front = a.front; whole = a.whole; clean = a.clean }) w
 behind_fixed p f ts q a (Err e) (plain k) = plain k
@@ -402,19 +402,19 @@ symbol_clean s t e = ap is_hole_token (symbol_told s t e)
 word_clean : (w : Word) (t : Placed) → is_word w t ≡ true → is_hole_token t.token ≡ false
 word_clean w t e = ap is_hole_token (word_told w t e)
 
--- behind a symbol that is expected
+-- after a symbol that is expected
 pub symbol_then : {B : Type 0} (s : Symbol) (f : Unit {0} → Parser B) → Tells false (f tt) → Tells true (expect s >>= f)
 symbol_then s f next = accept_then (λ t. required (is_symbol s t)) f (λ t. symbol_leaf s t.token) (λ u. next)
 
--- behind a reserved word that is expected
+-- after a reserved word that is expected
 word_then : {B : Type 0} (w : Word) (f : Unit {0} → Parser B) → Tells false (f tt) → Tells true (expect_word w >>= f)
 word_then w f next = accept_then (λ t. required (is_word w t)) f (λ t. word_leaf w t.token) (λ u. next)
 
--- behind a name
+-- after a name
 pub name_then : {B : Type 0} (f : Identifier × Place → Parser B) → ((n : Identifier × Place) → Tells false (f n)) → Tells true (name >>= f)
 name_then f next = accept_then (λ t. with_place t.place (name_of t.token)) f (λ t. name_leaf t.place t.token) next
 
--- behind a number
+-- after a number
 number_then : {B : Type 0} (f : ℕ → Parser B) → ((n : ℕ) → Tells false (f n)) → Tells true (number >>= f)
 number_then f next = accept_then (λ t. number_of t.token) f (λ t. number_leaf t.token) next
 
@@ -455,7 +455,7 @@ either_at t ts false is = digits_at t ts (number_of t.token) is refl (number_lea
 either_at t (u ∷ us) true is = minus_at t u us (number_of u.token) is refl (number_leaf u.token)
 either_at t [] true is = rw is tt
 
--- what an integer is hangs on its tokens alone
+-- what an integer is depends on its tokens alone
 pub integer_fixed : IsFixed integer
 unfolding integer eat accept
 integer_fixed [] = tt
@@ -508,7 +508,7 @@ comparing_told : (l : Unit {0}) → Tells true (comparing marking l)
 unfolding comparing
 comparing_told l = accept_then (λ t. op_of t.token) _ (λ t. op_leaf t.token) (λ op. bind_then false (term marking.terms) _ (sooner true _ term_told) (term_local marking.terms) (λ r. done true))
 
--- what stands behind a first term
+-- what stands after a first term
 test_told : (l : Unit {0}) → Tells true (tested false marking l)
 unfolding tested
 test_told l = eat_then (is_word In) _ (word_clean In) (sooner true _ (point_told l)) (comparing_told l)
@@ -520,7 +520,7 @@ atom_terms_told turns n p =
     bind_then true (listed (term marking.terms) (is_symbol Comma) (is_symbol Close) turns) _ (listed_told (term marking.terms) (is_symbol Comma) (is_symbol Close) (symbol_clean Comma) term_told (term_local marking.terms) turns) (listed_local (term marking.terms) _ _ (term_local marking.terms) turns) (λ ts.
     symbol_then Close _ (done false))
 
--- what stands behind a name
+-- what stands after a name
 pub behind_name_told : (turns : ℕ) (n : Identifier) (p : Place) → Tells true (behind_name false marking turns n p)
 unfolding behind_name
 behind_name_told turns n p =
@@ -538,32 +538,32 @@ module _ (inner : Parser (Unit {0})) (told : Tells false inner) (local : Local i
   unfolding negated
   negated_told p = word_then Not _ (bind_then false inner _ told local (λ f. done true))
 
-  -- a formula behind `exists`
+  -- a formula after `exists`
   existing_told : (p : Place) → Tells true (existing marking inner p)
   unfolding existing
   existing_told p = word_then Exists _ (fixed_then column _ column_fixed (λ c. bind_then false inner _ told local (λ f. done true)))
 
-  -- a formula behind `forall`
+  -- a formula after `forall`
   holding_told : (p : Place) → Tells true (holding marking inner p)
   unfolding holding
   holding_told p = word_then Forall _ (fixed_then column _ column_fixed (λ c. bind_then false inner _ told local (λ f. done true)))
 
-  -- what stands behind `implies`
+  -- what stands after `implies`
   implying_told : (p : Place) (f : Unit {0}) → Tells false (implying marking inner p f)
   unfolding implying
   implying_told p f = bind_then false inner _ told local (λ g. symbol_then Close _ (done false))
 
-  -- what stands behind `and`
+  -- what stands after `and`
   conjoined_told : (p : Place) (f : Unit {0}) → Tells false (conjoined marking inner turns p f)
   unfolding conjoined
   conjoined_told p f = bind_then false (separated_from inner (is_word And) turns (f ∷ [])) _ (separated_told false inner (is_word And) (word_clean And) told local turns (f ∷ [])) (separated_local inner _ local turns (f ∷ [])) (λ fs. symbol_then Close _ (done false))
 
-  -- what stands behind `or`
+  -- what stands after `or`
   disjoined_told : (p : Place) (f : Unit {0}) → Tells false (disjoined marking inner turns p f)
   unfolding disjoined
   disjoined_told p f = bind_then false (separated_from inner (is_word Or) turns (f ∷ [])) _ (separated_told false inner (is_word Or) (word_clean Or) told local turns (f ∷ [])) (separated_local inner _ local turns (f ∷ [])) (λ fs. symbol_then Close _ (done false))
 
-  -- what stands behind a first formula
+  -- what stands after a first formula
   behind_first_told : (p : Place) (f : Unit {0}) → Tells true (behind_first marking inner turns p f)
   unfolding behind_first
   behind_first_told p f =
@@ -610,7 +610,7 @@ module _ (inner : Parser (Unit {0})) (told : Tells false inner) (local : Local i
   over_told [] = empty_first body (formula_over marking behind inner turns) (body []) (body_told [])
   over_told (t ∷ ts) = over_at t ts (is_hole_token t.token) refl
 
--- what a grammar has behind a name tells so
+-- what a grammar has after a name tells so
 pub record BehindTells (behind : BehindName (Unit {0})) : Type 0 where
   pub local : (inner : Parser (Unit {0})) → Local inner → (turns : ℕ) (n : Identifier) (p : Place) → Local (behind inner turns n p)
   pub told : (inner : Parser (Unit {0})) → Tells false inner → Local inner → (turns : ℕ) (n : Identifier) (p : Place) → Tells true (behind inner turns n p)

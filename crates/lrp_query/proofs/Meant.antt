@@ -53,7 +53,7 @@ meaning n = record {
   cut_is = λ t. inl (cut_same raw_form (hole t.place) (raw_or t.place no_raws) refl t.token);
 }
 
--- in first-order logic both read alike behind a name, since none is the first word of an operator
+-- in first-order logic both read alike after a name, since none is the first word of an operator
 behind_meant : (inner : Parser RawForm) (turns : ℕ) (n : Identifier) (p : Place) (ts : Tokens) → Same ⊥ (trees (grammar plain)).cut raw_form (behind_name false (trees (grammar plain)) turns n p ts) (behind_in first_order inner turns n p ts)
 behind_meant inner turns n p ts =
     subst (Same ⊥ (trees (grammar plain)).cut raw_form (behind_name false (trees (grammar plain)) turns n p ts)) (sym (wordless meant (operators_in first_order) inner turns n p ts refl)) (behind_name_same ⊥ (trees (grammar plain)) meant (meaning plain) turns n p ts)

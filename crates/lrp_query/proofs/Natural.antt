@@ -108,12 +108,12 @@ some_read p comma (suc n) found ts q e =
 -- ---- one parser after the other
 
 module _ {F : Type 0} (E : Type 0) (cut : Placed → Result F Fault) where
-  -- behind something that both read alike
+  -- after something that both read alike
   pub leaf : {A B C : Type 0} (o : ParseOutcome A) (f : A → Parser B) (g : A → Parser C) (h : B → C) → ((a : A) (us : Tokens) → Same E cut h (f a us) (g a us)) → Same E cut h (and_then o f) (and_then o g)
   leaf (Ok q) f g h onward = onward q.0 q.1
   leaf (Err e) f g h onward = inl refl
 
-  -- behind something that one reads as the other does
+  -- after something that one reads as the other does
   pub bind_at : {A B C D : Type 0} (o : ParseOutcome A) (p : ParseOutcome B) (k : A → B) (f : A → Parser C) (g : B → Parser D) (h : C → D) → p ≡ mapped k o → ((a : A) (us : Tokens) → o ≡ Ok (a, us) → Same E cut h (f a us) (g (k a) us)) → Same E cut h (and_then o f) (and_then p g)
   bind_at (Ok q) p k f g h e onward = subst (λ x. Same E cut h (f q.0 q.1) (and_then x g)) (sym e) (onward q.0 q.1 refl)
   bind_at (Err x) p k f g h e onward = inl (ap (λ y. and_then y g) e)
@@ -197,12 +197,12 @@ module _ {K T F Q L U G R : Type 0} (E : Type 0) (one : Trees K T F Q) (two : Tr
       leaf E one.cut (accept (λ t. op_of t.token) ts) _ _ m.formula (λ op us.
       bind E one.cut (term one.terms us) (term two.terms us) m.term _ _ m.formula (term_same us) (λ r vs e. made E one.cut m.formula (one.formulas.comparison l op r) (two.formulas.comparison (m.term l) op (m.term r)) vs (m.comparison_is l op r)))
 
-  -- what stands behind a first term
+  -- what stands after a first term
   test_same : (l : T) (ts : Tokens) → Same E one.cut m.formula (tested false one l ts) (tested false two (m.term l) ts)
   unfolding tested
   test_same l ts = leaf E one.cut (eat (is_word In) ts) _ _ m.formula (λ inside us. choice E one.cut inside _ _ _ _ m.formula us (point_same l us) (comparing_same l us))
 
-  -- a term of this kind and what stands behind it
+  -- a term of this kind and what stands after it
   kind_test_same : (p : Place) (k : K) (ts : Tokens) → Same E one.cut m.formula (tested false one (one.terms.term_at p k) ts) (tested false two (two.terms.term_at p (m.kind k)) ts)
   kind_test_same p k ts = subst (λ t. Same E one.cut m.formula (tested false one (one.terms.term_at p k) ts) (tested false two t ts)) (sym (m.term_is p k)) (test_same (one.terms.term_at p k) ts)
 
@@ -213,7 +213,7 @@ module _ {K T F Q L U G R : Type 0} (E : Type 0) (one : Trees K T F Q) (two : Tr
       bind E one.cut (listed (term one.terms) (is_symbol Comma) (is_symbol Close) turns ts) (listed (term two.terms) (is_symbol Comma) (is_symbol Close) turns ts) (map m.term) _ _ m.formula (listed_same E one.cut (term one.terms) (term two.terms) m.term (is_symbol Comma) (is_symbol Close) term_same turns ts) (λ all us e.
       leaf E one.cut (expect Close us) _ _ m.formula (λ a vs. made E one.cut m.formula (one.formulas.atom_of p n all) (two.formulas.atom_of p n (map m.term all)) vs (m.atom_is p n all)))
 
-  -- what stands behind a name
+  -- what stands after a name
   pub behind_name_same : (turns : ℕ) (n : Identifier) (p : Place) (ts : Tokens) → Same E one.cut m.formula (behind_name false one turns n p ts) (behind_name false two turns n p ts)
   unfolding behind_name
   behind_name_same turns n p ts =
@@ -234,7 +234,7 @@ module _ {K T F Q L U G R : Type 0} (E : Type 0) (one : Trees K T F Q) (two : Tr
         leaf E one.cut (expect_word Not ts) _ _ m.formula (λ a us.
         bind E one.cut (inner us) (other us) m.formula _ _ m.formula (same us) (λ f vs e. made E one.cut m.formula (one.formulas.negation p f) (two.formulas.negation p (m.formula f)) vs (m.negation_is p f)))
 
-    -- a formula behind `exists`
+    -- a formula after `exists`
     existing_same : (p : Place) (ts : Tokens) → Same E one.cut m.formula (existing one inner p ts) (existing two other p ts)
     unfolding existing
     existing_same p ts =
@@ -242,7 +242,7 @@ module _ {K T F Q L U G R : Type 0} (E : Type 0) (one : Trees K T F Q) (two : Tr
         leaf E one.cut (column us) _ _ m.formula (λ c vs.
         bind E one.cut (inner vs) (other vs) m.formula _ _ m.formula (same vs) (λ f ws e. made E one.cut m.formula (one.formulas.existential p c f) (two.formulas.existential p c (m.formula f)) ws (m.existential_is p c f))))
 
-    -- a formula behind `forall`
+    -- a formula after `forall`
     holding_same : (p : Place) (ts : Tokens) → Same E one.cut m.formula (holding one inner p ts) (holding two other p ts)
     unfolding holding
     holding_same p ts =
@@ -250,14 +250,14 @@ module _ {K T F Q L U G R : Type 0} (E : Type 0) (one : Trees K T F Q) (two : Tr
         leaf E one.cut (column us) _ _ m.formula (λ c vs.
         bind E one.cut (inner vs) (other vs) m.formula _ _ m.formula (same vs) (λ f ws e. made E one.cut m.formula (one.formulas.universal p c f) (two.formulas.universal p c (m.formula f)) ws (m.universal_is p c f))))
 
-    -- what stands behind `implies`
+    -- what stands after `implies`
     implying_same : (p : Place) (f : F) (ts : Tokens) → Same E one.cut m.formula (implying one inner p f ts) (implying two other p (m.formula f) ts)
     unfolding implying
     implying_same p f ts =
         bind E one.cut (inner ts) (other ts) m.formula _ _ m.formula (same ts) (λ g us e.
         leaf E one.cut (expect Close us) _ _ m.formula (λ a vs. made E one.cut m.formula (one.formulas.implication p f g) (two.formulas.implication p (m.formula f) (m.formula g)) vs (m.implication_is p f g)))
 
-    -- what stands behind `and`
+    -- what stands after `and`
     conjoined_same : (p : Place) (f : F) (ts : Tokens) → Same E one.cut m.formula (conjoined one inner turns p f ts) (conjoined two other turns p (m.formula f) ts)
     unfolding conjoined
     conjoined_same p f ts =
@@ -266,7 +266,7 @@ module _ {K T F Q L U G R : Type 0} (E : Type 0) (one : Trees K T F Q) (two : Tr
         leaf E one.cut (expect Close us) _ _ m.formula (λ a vs. made E one.cut m.formula (one.formulas.conjunction p all) (two.formulas.conjunction p (map m.formula all)) vs
         (subst (λ l. two.formulas.conjunction p (map m.formula l) ≡ m.formula (one.formulas.conjunction p l)) (sym s.2) (m.conjunction_is p f s.0 s.1))))
 
-    -- what stands behind `or`
+    -- what stands after `or`
     disjoined_same : (p : Place) (f : F) (ts : Tokens) → Same E one.cut m.formula (disjoined one inner turns p f ts) (disjoined two other turns p (m.formula f) ts)
     unfolding disjoined
     disjoined_same p f ts =
@@ -275,7 +275,7 @@ module _ {K T F Q L U G R : Type 0} (E : Type 0) (one : Trees K T F Q) (two : Tr
         leaf E one.cut (expect Close us) _ _ m.formula (λ a vs. made E one.cut m.formula (one.formulas.disjunction p all) (two.formulas.disjunction p (map m.formula all)) vs
         (subst (λ l. two.formulas.disjunction p (map m.formula l) ≡ m.formula (one.formulas.disjunction p l)) (sym s.2) (m.disjunction_is p f s.0 s.1))))
 
-    -- what stands behind a first formula
+    -- what stands after a first formula
     behind_first_same : (p : Place) (f : F) (ts : Tokens) → Same E one.cut m.formula (behind_first one inner turns p f ts) (behind_first two other turns p (m.formula f) ts)
     unfolding behind_first
     behind_first_same p f ts =

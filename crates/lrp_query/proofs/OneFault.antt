@@ -27,7 +27,7 @@ module _ (signs : Bool) (Texts : Grammatical) (bytes : List ℕ) (k l : TokenFau
   pub shown_kind : IsShown k → IsShown l → k ≡ l
   shown_kind = same_kind Texts (tokens_in signs bytes) k l r.refusal.bad s.refusal.bad r.refusal.tail s.refusal.tail r.refusal.refused s.refusal.refused
 
-  -- they stand behind the same tokens
+  -- they stand after the same tokens
   behind_front : r.refusal.refused.front ≡ s.refusal.refused.front
   behind_front = same_front Texts (tokens_in signs bytes) k l r.refusal.bad s.refusal.bad r.refusal.tail s.refusal.tail r.refusal.refused s.refusal.refused
 

@@ -1,4 +1,4 @@
--- Operators: what is read behind a name depends on its tokens alone, tells where a formula would be too deep, and is alike for all trees that are made of it.
+-- Operators: what is read after a name depends on its tokens alone, tells where a formula would be too deep, and is alike for all trees that are made of it.
 use Rattle.std.proofs.Common.{◌≡◌, inl, ℕ, true, false, refl, ap₂, sym, subst, Option, Some, None}
 use Rattle.lrp_model.specs.Texts.{Identifier}
 use Rattle.lrp_model.specs.declared.tokens.Symbol.TheVariants.{Open, Close, Comma}
@@ -55,7 +55,7 @@ module _ {R P N F : Type 0} (make : OperatorTrees R P N F) (inner : Parser F) (l
   operator_local p (Some (OfPair word)) = paired_local word p
   operator_local p None = fail_local Syntax
 
-  -- what stands behind a name depends on its tokens and on the next one alone
+  -- what stands after a name depends on its tokens and on the next one alone
   pub behind_local : {K T Q : Type 0} (trees : Trees K T F Q) (turns : ℕ) (n : Identifier) (p : Place) → Local (with_operators trees make inner turns n p)
   unfolding with_operators
   behind_local trees turns n p = bind_local (look false is_name) _ (look_local _ _) (λ again. if_local again _ _ (operator_local p (make.word_of n)) (behind_name_local trees turns n p))
@@ -141,7 +141,7 @@ module _ {K T F Q L U G S R P N M : Type 0} (E : Type 0) (one : Trees K T F Q) (
   operator_same p (Some (OfPair word)) ts = paired_same word p ts
   operator_same p None ts = inl refl
 
-  -- what stands behind a name
+  -- what stands after a name
   pub behind_same : (turns : ℕ) (n : Identifier) (p : Place) (ts : Tokens) → Same E one.cut m.formula (with_operators one make inner turns n p ts) (with_operators two remake other_inner turns n p ts)
   unfolding with_operators
   behind_same turns n p ts =

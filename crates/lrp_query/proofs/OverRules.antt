@@ -53,7 +53,7 @@ op_ends Ge = record { no_plus = refl; no_minus = refl; no_open = refl; no_name =
 op_ends Gt = record { no_plus = refl; no_minus = refl; no_open = refl; no_name = refl }
 op_ends Eq = record { no_plus = refl; no_minus = refl; no_open = refl; no_name = refl }
 
--- behind a formula
+-- after a formula
 ends : (k : Token) (ps : List Part) (ts left : Tokens) → Ends k → Takes (any k ∷ ps) ts left → NoShift ts
 ends k ps ts left e h = (first_is_not (is_symbol_token Plus) k ps ts left e.no_plus h, first_is_not (is_symbol_token Minus) k ps ts left e.no_minus h)
 
@@ -82,7 +82,7 @@ module _ {F X Q : Type 0} (grammar : Grammar F X Q) where
   some_fits zero = grammar.hole_fits start
   some_fits (suc d) = (grammar.fits_is d (compared zero_term Eq zero_term)).1 (omega arith, omega arith)
 
--- no name stands behind a name where an offset or the end of a term does
+-- no name stands after a name where an offset or the end of a term does
 no_name : (o : Offset) (k : Token) (ps : List Part) (ts left : Tokens) → Ends k → Takes (offset_text o ++ any k ∷ ps) ts left → IsNot is_name ts
 no_name unmoved k ps ts left e h = first_is_not is_name_token k ps ts left e.no_name h
 no_name (moved_by true n) k ps ts left e h = first_is_not is_name_token (symbol_token Minus) (any (number_token n) ∷ any k ∷ ps) ts left refl h
@@ -100,7 +100,7 @@ module _ {F X Q : Type 0} (grammar : Grammar F X Q) (inner : Parser F) (behind_i
   started_as : (t : Placed) (us : Tokens) (k : Token) (p : Place) (w : F) (left : Tokens) (L : Type 0) → t.token ≡ k → t.place ≡ p → is_hole_token k ≡ false → Answers (started (trees grammar) behind_it inner turns p (start_of k) (t ∷ us)) w left L → Answers (formula_over (trees grammar) behind_it inner turns (t ∷ us)) w left L
   started_as t us k p w left L e d h a = subst (λ o. Answers o w left L) (sym (over_at t us k p e d h)) a
 
-  -- what is read behind a name is read
+  -- what is read after a name is read
   named_as : (t : Placed) (us : Tokens) (n : Identifier) (p : Place) (w : F) (left : Tokens) (L : Type 0) → t.token ≡ name_token n → t.place ≡ p → Answers (behind_it n p us) w left L → Answers (formula_over (trees grammar) behind_it inner turns (t ∷ us)) w left L
   unfolding named accept
   named_as t us n p w left L e d a = started_as t us (name_token n) p w left L e d refl (rw (e, d) a)
@@ -120,7 +120,7 @@ module _ {F X Q : Type 0} (grammar : Grammar F X Q) (inner : Parser F) (behind_i
       answers_then (expect_word Not ts) _ tt k.0 (grammar.roll (denied p f)) left L ((accepts_back _ (at p (word_token Not)) tt L (λ t r. word_required Not t r.0)).reads ts k.0 k.1 tt)
       (answers_then (inner k.0) _ f left (grammar.roll (denied p f)) left L (inner_back f k.0 left (omega arith) k.2 g) (inl refl))
 
-  -- a formula behind `exists` is read back
+  -- a formula after `exists` is read back
   existing_answers : (p : Place) (c : RawColumn) (f : F) (ts left : Tokens) → length ts < turns → Takes (text_of grammar (some p c f)) ts left → NoShift left → Answers (existing (trees grammar) inner p ts) (grammar.roll (some p c f)) left (grammar.Fits d f)
   unfolding existing
   existing_answers p c f ts left lt h g =
@@ -134,7 +134,7 @@ module _ {F X Q : Type 0} (grammar : Grammar F X Q) (inner : Parser F) (behind_i
       (answers_then (column k.0) _ c m.0 (grammar.roll (some p c f)) left L (answers_as _ c m.0 (Unit {0}) L (λ l. tt) ((column_back c).reads k.0 m.0 m.1 tt))
       (answers_then (inner m.0) _ f left (grammar.roll (some p c f)) left L (inner_back f m.0 left (omega arith) m.2 g) (inl refl)))
 
-  -- a formula behind `forall` is read back
+  -- a formula after `forall` is read back
   holding_answers : (p : Place) (c : RawColumn) (f : F) (ts left : Tokens) → length ts < turns → Takes (text_of grammar (every p c f)) ts left → NoShift left → Answers (holding (trees grammar) inner p ts) (grammar.roll (every p c f)) left (grammar.Fits d f)
   unfolding holding
   holding_answers p c f ts left lt h g =
@@ -148,7 +148,7 @@ module _ {F X Q : Type 0} (grammar : Grammar F X Q) (inner : Parser F) (behind_i
       (answers_then (column k.0) _ c m.0 (grammar.roll (every p c f)) left L (answers_as _ c m.0 (Unit {0}) L (λ l. tt) ((column_back c).reads k.0 m.0 m.1 tt))
       (answers_then (inner m.0) _ f left (grammar.roll (every p c f)) left L (inner_back f m.0 left (omega arith) m.2 g) (inl refl)))
 
-  -- what stands behind `implies` is read back
+  -- what stands after `implies` is read back
   implying_answers : (p : Place) (f g : F) (us left : Tokens) → length us < turns → Takes (grammar.text g ++ any (symbol_token Close) ∷ []) us left → Answers (implying (trees grammar) inner p f us) (grammar.roll (implied p f g)) left (FitsLayer grammar d (implied p f g))
   unfolding implying
   implying_answers p f g us left lt h =
@@ -157,7 +157,7 @@ module _ {F X Q : Type 0} (grammar : Grammar F X Q) (inner : Parser F) (behind_i
       answers_then (inner us) _ g k.0 (grammar.roll (implied p f g)) left L (answers_as _ g k.0 (grammar.Fits d g) L (λ l. l.1) (inner_back g us k.0 lt k.1 (ends (symbol_token Close) [] k.0 left closing k.2)))
       (answers_then (expect Close k.0) _ tt left (grammar.roll (implied p f g)) left L ((accepts_back _ (any (symbol_token Close)) tt L (expect_seen Close)).reads k.0 left k.2 tt) (inl refl))
 
-  -- the members behind `and` are read back
+  -- the members after `and` are read back
   conjoined_answers : (p : Place) (f g : F) (gs : List F) (us left : Tokens) → length us < turns → Takes (separated (any (word_token And)) grammar.text (g ∷ gs) ++ any (symbol_token Close) ∷ []) us left → Answers (conjoined (trees grammar) inner turns p f us) (grammar.roll (all_of p f g gs)) left (FitsLayer grammar d (all_of p f g gs))
   unfolding conjoined
   conjoined_answers p f g gs us left lt h =
@@ -173,7 +173,7 @@ module _ {F X Q : Type 0} (grammar : Grammar F X Q) (inner : Parser F) (behind_i
       (record { member = ends (symbol_token Close) [] k.0 left closing k.2; no_comma = first_is_not (is_word_token And) (symbol_token Close) [] k.0 left refl k.2 })))
       (answers_then (expect Close k.0) _ tt left w left L ((accepts_back _ (any (symbol_token Close)) tt L (expect_seen Close)).reads k.0 left k.2 tt) (inl refl))
 
-  -- the members behind `or` are read back
+  -- the members after `or` are read back
   disjoined_answers : (p : Place) (f g : F) (gs : List F) (us left : Tokens) → length us < turns → Takes (separated (any (word_token Or)) grammar.text (g ∷ gs) ++ any (symbol_token Close) ∷ []) us left → Answers (disjoined (trees grammar) inner turns p f us) (grammar.roll (any_of p f g gs)) left (FitsLayer grammar d (any_of p f g gs))
   unfolding disjoined
   disjoined_answers p f g gs us left lt h =
@@ -189,7 +189,7 @@ module _ {F X Q : Type 0} (grammar : Grammar F X Q) (inner : Parser F) (behind_i
       (record { member = ends (symbol_token Close) [] k.0 left closing k.2; no_comma = first_is_not (is_word_token Or) (symbol_token Close) [] k.0 left refl k.2 })))
       (answers_then (expect Close k.0) _ tt left w left L ((accepts_back _ (any (symbol_token Close)) tt L (expect_seen Close)).reads k.0 left k.2 tt) (inl refl))
 
-  -- a formula and members behind `and`
+  -- a formula and members after `and`
   all_of_answers : (p : Place) (f g : F) (gs : List F) (us left : Tokens) → length us < turns → Takes (any (word_token And) ∷ (separated (any (word_token And)) grammar.text (g ∷ gs) ++ any (symbol_token Close) ∷ [])) us left → Answers (behind_first (trees grammar) inner turns p f us) (grammar.roll (all_of p f g gs)) left (FitsLayer grammar d (all_of p f g gs))
   unfolding behind_first
   all_of_answers p f g gs us left lt h =
@@ -202,7 +202,7 @@ module _ {F X Q : Type 0} (grammar : Grammar F X Q) (inner : Parser F) (behind_i
       answers_then (eat (is_word Implies) us) _ false us w left L (inl (eats_none (is_word Implies) us us refl (first_is_not (is_word_token Implies) (word_token And) rest us left refl h)))
       (answers_then (eat (is_word And) us) _ true k.0 w left L ((eat_back (is_word And) (any (word_token And)) L (word_seen And)).reads us k.0 k.1 tt) (conjoined_answers p f g gs k.0 left (omega arith) k.2))
 
-  -- a formula and members behind `or`
+  -- a formula and members after `or`
   any_of_answers : (p : Place) (f g : F) (gs : List F) (us left : Tokens) → length us < turns → Takes (any (word_token Or) ∷ (separated (any (word_token Or)) grammar.text (g ∷ gs) ++ any (symbol_token Close) ∷ [])) us left → Answers (behind_first (trees grammar) inner turns p f us) (grammar.roll (any_of p f g gs)) left (FitsLayer grammar d (any_of p f g gs))
   unfolding behind_first
   any_of_answers p f g gs us left lt h =
@@ -238,7 +238,7 @@ module _ {F X Q : Type 0} (grammar : Grammar F X Q) (inner : Parser F) (behind_i
       let size : length k.0 + length first ≡ length us = takes_shorter first us k.0 k.1 in
       answers_then (eat (is_word Implies) us) _ true k.0 (grammar.roll (implied p f g)) left L ((eat_back (is_word Implies) (any (word_token Implies)) L (word_seen Implies)).reads us k.0 k.1 tt) (implying_answers p f g k.0 left (omega arith) k.2)
 
-  -- behind a parenthesis and a formula
+  -- after a parenthesis and a formula
   enclosed_answers : (p : Place) (f : F) (k : Token) (ps : List Part) (w : F) (L : Type 0) → Ends k → (L → grammar.Fits d f) → (ts left : Tokens) → length ts < turns → Takes (at p (symbol_token Open) ∷ (grammar.text f ++ any k ∷ ps)) ts left → ((us : Tokens) → length us < turns → Takes (any k ∷ ps) us left → Answers (behind_first (trees grammar) inner turns p f us) w left L) → Answers (enclosed (trees grammar) inner turns p ts) w left L
   unfolding enclosed
   enclosed_answers p f k ps w L e fit ts left lt h onward =
@@ -260,7 +260,7 @@ module _ {F X Q : Type 0} (grammar : Grammar F X Q) (inner : Parser F) (behind_i
   any_of_enclosed p f g gs ts left lt h =
       enclosed_answers p f (word_token Or) (separated (any (word_token Or)) grammar.text (g ∷ gs) ++ any (symbol_token Close) ∷ []) (grammar.roll (any_of p f g gs)) (FitsLayer grammar d (any_of p f g gs)) (word_ends Or) (λ l. l.0) ts left lt h (λ vs less k. any_of_answers p f g gs vs left less k)
 
-  -- a text or an integer at its place, and what stands behind it
+  -- a text or an integer at its place, and what stands after it
   unnamed_answers : (p : Place) (item : WrittenTerm) (ps : List Part) (f : F) (L : Type 0) → (L → FitsTerm item) → ReadsBack (unnamed_term written_terms) (term_text item) item (FitsTerm item) Anything → ReadsBack (tested false (trees grammar) (record { place = p; item = item })) ps f L NoShift → (ts left : Tokens) → Takes (placed_text (record { place = p; item = item }) ++ ps) ts left → NoShift left → Answers (unnamed false (trees grammar) p ts) f left L
   unfolding unnamed
   unnamed_answers p item ps f L fit item_back back ts left h g =

@@ -24,7 +24,7 @@ module _ {F X Q : Type 0} (grammar : Grammar F X Q) (inner : Parser F) (behind_i
   abbrev opening : Place → Placed
   opening p = record { token = symbol_token Open; place = p }
 
-  -- behind `implies`
+  -- after `implies`
   implying_sound : (p : Place) (f : F) (us vs ws : Tokens) (q : F × Tokens) → Takes (grammar.text f) us vs → grammar.Fits d f → Takes (any (word_token Implies) ∷ []) vs ws → implying (trees grammar) inner p f ws ≡ Ok q → IsFormula grammar (suc d) (opening p ∷ us) q
   unfolding implying
   implying_sound p f us vs ws q one fit eaten e =
@@ -41,7 +41,7 @@ module _ {F X Q : Type 0} (grammar : Grammar F X Q) (inner : Parser F) (behind_i
       )
       (fit, read.1))
 
-  -- behind `and`
+  -- after `and`
   conjoined_sound : (p : Place) (f : F) (us vs ws : Tokens) (q : F × Tokens) → Takes (grammar.text f) us vs → grammar.Fits d f → Takes (any (word_token And) ∷ []) vs ws → conjoined (trees grammar) inner turns p f ws ≡ Ok q → IsFormula grammar (suc d) (opening p ∷ us) q
   unfolding conjoined
   conjoined_sound p f us vs ws q one fit eaten e =
@@ -59,7 +59,7 @@ module _ {F X Q : Type 0} (grammar : Grammar F X Q) (inner : Parser F) (behind_i
       )
       (fit, s.4))
 
-  -- behind `or`
+  -- after `or`
   disjoined_sound : (p : Place) (f : F) (us vs ws : Tokens) (q : F × Tokens) → Takes (grammar.text f) us vs → grammar.Fits d f → Takes (any (word_token Or) ∷ []) vs ws → disjoined (trees grammar) inner turns p f ws ≡ Ok q → IsFormula grammar (suc d) (opening p ∷ us) q
   unfolding disjoined
   disjoined_sound p f us vs ws q one fit eaten e =
@@ -84,7 +84,7 @@ module _ {F X Q : Type 0} (grammar : Grammar F X Q) (inner : Parser F) (behind_i
       let h : (grammar.roll (group p f), c.0.1) ≡ q = cc in
       subst (λ y. IsFormula grammar (suc d) (opening p ∷ us) y) h (read_layer grammar d (group p f) (opening p ∷ us) c.0.1 ((refl, refl), takes_join (grammar.text f) (any (symbol_token Close) ∷ []) us vs c.0.1 one (symbol_sound Close vs c.0 c.1).0) fit)
 
-  -- behind a formula, with `or` or without
+  -- after a formula, with `or` or without
   or_sound : (p : Place) (f : F) (ors : Bool) (us vs ws : Tokens) (q : F × Tokens) → Takes (grammar.text f) us vs → grammar.Fits d f → Takes (eaten_parts (any (word_token Or)) ors) vs ws → (if ors then disjoined (trees grammar) inner turns p f else (expect Close >>= (λ u. pure (grammar.roll (group p f))))) ws ≡ Ok q → IsFormula grammar (suc d) (opening p ∷ us) q
   or_sound p f true us vs ws q one fit eaten e = disjoined_sound p f us vs ws q one fit eaten e
   or_sound p f false us vs ws q one fit eaten e = group_sound p f us ws q (subst (λ x. Takes (grammar.text f) us x) eaten one) fit e
@@ -103,7 +103,7 @@ module _ {F X Q : Type 0} (grammar : Grammar F X Q) (inner : Parser F) (behind_i
       let o = bind_ok (eat (is_word And) ws) _ q e in
       and_sound p f o.0.0 us ws o.0.1 q (subst (λ x. Takes (grammar.text f) us x) eaten one) fit (eat_sound (is_word And) (any (word_token And)) (word_told And) ws o.0 o.1) o.2
 
-  -- behind a parenthesis
+  -- after a parenthesis
   enclosed_sound : (p : Place) (us : Tokens) (q : F × Tokens) → enclosed (trees grammar) inner turns p (opening p ∷ us) ≡ Ok q → IsFormula grammar (suc d) (opening p ∷ us) q
   unfolding enclosed behind_first accept
   enclosed_sound p us q e =
@@ -112,7 +112,7 @@ module _ {F X Q : Type 0} (grammar : Grammar F X Q) (inner : Parser F) (behind_i
       let read = inner_sound us f.0 f.1 in
       implies_sound p f.0.0 i.0.0 us f.0.1 i.0.1 q read.0 read.1 (eat_sound (is_word Implies) (any (word_token Implies)) (word_told Implies) f.0.1 i.0 i.1) i.2
 
-  -- behind `not`
+  -- after `not`
   negated_sound : (p : Place) (us : Tokens) (q : F × Tokens) → negated (trees grammar) inner p (record { token = word_token Not; place = p } ∷ us) ≡ Ok q → IsFormula grammar (suc d) (record { token = word_token Not; place = p } ∷ us) q
   unfolding negated accept
   negated_sound p us q e =
@@ -121,7 +121,7 @@ module _ {F X Q : Type 0} (grammar : Grammar F X Q) (inner : Parser F) (behind_i
       let read = inner_sound us f.0 f.1 in
       subst (λ y. IsFormula grammar (suc d) (record { token = word_token Not; place = p } ∷ us) y) h (read_layer grammar d (denied p f.0.0) (record { token = word_token Not; place = p } ∷ us) f.0.1 ((refl, refl), read.0) read.1)
 
-  -- behind `exists`
+  -- after `exists`
   existing_sound : (p : Place) (us : Tokens) (q : F × Tokens) → existing (trees grammar) inner p (record { token = word_token Exists; place = p } ∷ us) ≡ Ok q → IsFormula grammar (suc d) (record { token = word_token Exists; place = p } ∷ us) q
   unfolding existing accept
   existing_sound p us q e =
@@ -131,7 +131,7 @@ module _ {F X Q : Type 0} (grammar : Grammar F X Q) (inner : Parser F) (behind_i
       let read = inner_sound c.0.1 f.0 f.1 in
       subst (λ y. IsFormula grammar (suc d) (record { token = word_token Exists; place = p } ∷ us) y) h (read_layer grammar d (some p c.0.0 f.0.0) (record { token = word_token Exists; place = p } ∷ us) f.0.1 ((refl, refl), takes_join (column_text c.0.0) (grammar.text f.0.0) us c.0.1 f.0.1 (column_sound us c.0 c.1).0 read.0) read.1)
 
-  -- behind `forall`
+  -- after `forall`
   holding_sound : (p : Place) (us : Tokens) (q : F × Tokens) → holding (trees grammar) inner p (record { token = word_token Forall; place = p } ∷ us) ≡ Ok q → IsFormula grammar (suc d) (record { token = word_token Forall; place = p } ∷ us) q
   unfolding holding accept
   holding_sound p us q e =

@@ -35,11 +35,11 @@ module _ {F X Q : Type 0} (grammar : Grammar F X Q) (inner : Parser F) (behind_i
   abbrev opening : Place → Placed
   opening p = record { token = symbol_token Open; place = p }
 
-  -- behind a parenthesis and a formula
+  -- after a parenthesis and a formula
   abbrev Behind : Place → Tokens → Bool → Tokens → Type 0
   Behind p head c x = LayerTexts grammar d c (opening p ∷ (head ++ x))
 
-  -- behind `implies`
+  -- after `implies`
   implying_stops : (p : Place) (f : F) (head : Tokens) (t : Placed) (ws : Tokens) (e : Fault × Tokens) → Spells (grammar.text f) head → grammar.Fits d f → IsPart (any (word_token Implies)) t → length ws < turns → implying (trees grammar) inner p f ws ≡ Err e → Stops (λ c x. Behind p head c (t ∷ x)) ws e
   unfolding implying
   implying_stops p f head t ws e one fit is lt h =
@@ -51,7 +51,7 @@ module _ {F X Q : Type 0} (grammar : Grammar F X Q) (inner : Parser F) (behind_i
       (λ c u x spelled fits. ([], (implied p f g, always (FitsLayer grammar d (implied p f g)) c (fit, f1), spell g h1 (x ++ []) s1 (subst (λ y. Spells (One (sym_part Close) u) y) (sym (append-nil x)) spelled))))
       (λ u h2 ys s2 f2 l2 d2. absurd cc))
 
-  -- behind `and`
+  -- after `and`
   conjoined_stops : (p : Place) (f : F) (head : Tokens) (t : Placed) (ws : Tokens) (e : Fault × Tokens) → Spells (grammar.text f) head → grammar.Fits d f → IsPart (any (word_token And)) t → length ws < turns → conjoined (trees grammar) inner turns p f ws ≡ Err e → Stops (λ c x. Behind p head c (t ∷ x)) ws e
   unfolding conjoined
   conjoined_stops p f head t ws e one fit is lt h =
@@ -72,7 +72,7 @@ module _ {F X Q : Type 0} (grammar : Grammar F X Q) (inner : Parser F) (behind_i
             (λ u h2 ys s2 f2 l2 d2. absurd cc))
       ]
 
-  -- behind `or`
+  -- after `or`
   disjoined_stops : (p : Place) (f : F) (head : Tokens) (t : Placed) (ws : Tokens) (e : Fault × Tokens) → Spells (grammar.text f) head → grammar.Fits d f → IsPart (any (word_token Or)) t → length ws < turns → disjoined (trees grammar) inner turns p f ws ≡ Err e → Stops (λ c x. Behind p head c (t ∷ x)) ws e
   unfolding disjoined
   disjoined_stops p f head t ws e one fit is lt h =
@@ -93,7 +93,7 @@ module _ {F X Q : Type 0} (grammar : Grammar F X Q) (inner : Parser F) (behind_i
             (λ u h2 ys s2 f2 l2 d2. absurd cc))
       ]
 
-  -- behind a formula in parentheses
+  -- after a formula in parentheses
   behind_stops : (p : Place) (f : F) (head vs : Tokens) (e : Fault × Tokens) → Spells (grammar.text f) head → grammar.Fits d f → length vs < turns → behind_first (trees grammar) inner turns p f vs ≡ Err e → Stops (Behind p head) vs e
   unfolding behind_first
   behind_stops p f head vs e one fit lt h =
@@ -107,7 +107,7 @@ module _ {F X Q : Type 0} (grammar : Grammar F X Q) (inner : Parser F) (behind_i
       (λ c u x spelled fits. ([], (group p f, always (FitsLayer grammar d (group p f)) c fit, ((refl, refl), spells_join (grammar.text f) (any (symbol_token Close) ∷ []) head (x ++ []) one (subst (λ y. Spells (One (sym_part Close) u) y) (sym (append-nil x)) spelled)))))
       (λ u h2 ys s2 f2 l2 d2. absurd cc))))
 
-  -- behind a parenthesis
+  -- after a parenthesis
   enclosed_stops : (p : Place) (us : Tokens) (e : Fault × Tokens) → length us < turns → enclosed (trees grammar) inner turns p (opening p ∷ us) ≡ Err e → Stops (LayerTexts grammar d) (opening p ∷ us) e
   unfolding enclosed accept
   enclosed_stops p us e lt h =
@@ -117,7 +117,7 @@ module _ {F X Q : Type 0} (grammar : Grammar F X Q) (inner : Parser F) (behind_i
       (λ c f x spelled fits. (close, (group p f, fits, ((refl, refl), spells_join (grammar.text f) (any (symbol_token Close) ∷ []) x close spelled (refl, refl)))))
       (λ f h1 vs s1 f1 l1 d1. behind_stops p f h1 vs e s1 f1 (omega arith) d1))
 
-  -- behind `not`
+  -- after `not`
   negated_stops : (p : Place) (us : Tokens) (e : Fault × Tokens) → length us < turns → negated (trees grammar) inner p (record { token = word_token Not; place = p } ∷ us) ≡ Err e → Stops (LayerTexts grammar d) (record { token = word_token Not; place = p } ∷ us) e
   unfolding negated accept
   negated_stops p us e lt h =
@@ -128,7 +128,7 @@ module _ {F X Q : Type 0} (grammar : Grammar F X Q) (inner : Parser F) (behind_i
       (λ c f x spelled fits. ([], (denied p f, fits, ((refl, refl), subst (λ y. Spells (grammar.text f) y) (sym (append-nil x)) spelled))))
       (λ f h1 vs s1 f1 l1 d1. absurd cc))
 
-  -- behind `exists`
+  -- after `exists`
   existing_stops : (p : Place) (us : Tokens) (e : Fault × Tokens) → length us < turns → existing (trees grammar) inner p (record { token = word_token Exists; place = p } ∷ us) ≡ Err e → Stops (LayerTexts grammar d) (record { token = word_token Exists; place = p } ∷ us) e
   unfolding existing accept
   existing_stops p us e lt h =
@@ -141,7 +141,7 @@ module _ {F X Q : Type 0} (grammar : Grammar F X Q) (inner : Parser F) (behind_i
       (λ c f x spelled fits. ([], (some p k f, fits, ((refl, refl), spells_join (column_text k) (grammar.text f) h1 (x ++ []) s1 (subst (λ y. Spells (grammar.text f) y) (sym (append-nil x)) spelled)))))
       (λ f h2 ws s2 f2 l2 d2. absurd cc)))
 
-  -- behind `forall`
+  -- after `forall`
   holding_stops : (p : Place) (us : Tokens) (e : Fault × Tokens) → length us < turns → holding (trees grammar) inner p (record { token = word_token Forall; place = p } ∷ us) ≡ Err e → Stops (LayerTexts grammar d) (record { token = word_token Forall; place = p } ∷ us) e
   unfolding holding accept
   holding_stops p us e lt h =

@@ -1,4 +1,4 @@
--- What the rules of each language say of the parts of a formula: the wide language goes on behind a formula, the others do not.
+-- What the rules of each language say of the parts of a formula: the wide language goes on after a formula, the others do not.
 use Rattle.std.proofs.Common.{◌≡◌, ◌∙◌, ℕ, Bool, true, false, Option, Some, None, refl, sym, ap, Ok, Err}
 use Rattle.lrp_model.specs.Texts.{Identifier}
 use Rattle.lrp_model.specs.Queries.{Language, is_wide}
@@ -96,7 +96,7 @@ module _ (depth turns : ℕ) (p : Place) (ts : Tokens) where
   pub unread_enclosed : (l : Language) (us : Tokens) (k : Fault) → Reads (expect Open ts) (Err k) us → Reads (enclosed_at l depth turns p ts) (Err k) us
   unread_enclosed l us k = lifts (expect Open ts) (enclosed_at l depth turns p ts) us k (none_enclosed l us)
 
--- ---- behind a name
+-- ---- after a name
 
 module _ (depth turns : ℕ) (n : Identifier) (p : Place) (ts : Tokens) where
   -- what stands there without operators

@@ -183,7 +183,7 @@ module _ {F X Q : Type 0} (grammar : Grammar F X Q) where
     abbrev ending : Tokens
     ending = symbol_at CloseBrace ∷ record { token = end_token; place = start } ∷ []
 
-    -- a body for what is not written yet, and what stands behind it
+    -- a body for what is not written yet, and what stands after it
     abbrev body_tokens : Tokens
     body_tokens = some_tokens grammar 64 ++ ending
 

@@ -150,7 +150,7 @@ module _ {F X Q : Type 0} (grammar : Grammar F X Q) (reader : Reader grammar) wh
 
   -- ---- where a formula is too deep
 
-  -- a lawful text that goes on behind a mark goes on with a hole
+  -- a lawful text that goes on after a mark goes on with a hole
   hole_next : (n : ℕ) (front : Tokens) (b : Placed) (more : Tokens) (q : Q) → grammar.FitsQuery q → Spells (query_text grammar q) (front ++ b ∷ more) → length (front ++ b ∷ more) < n → query_with marking reader.marks n (front ++ b ∷ more) ≡ Err (Memory, b ∷ more) → (h : Bool) → is_hole_token b.token ≡ h → IsTooDeepIn Texts front
   hole_next n front b more q fits spelled lt marked true is = (b, more, is_hole b.token is, (q, fits, spelled))
   hole_next n front b more q fits spelled lt marked false is =
@@ -164,7 +164,7 @@ module _ {F X Q : Type 0} (grammar : Grammar F X Q) (reader : Reader grammar) wh
             absurd (ok_or_err (query_with (trees grammar) reader.behind n ts) (q, []) (too_deep m.token.token, m.token ∷ m.rest) read (cause_at n ts m clean))
       ]
 
-  -- so a lawful text that goes on behind the tokens before a fault of depth goes on with a hole
+  -- so a lawful text that goes on after the tokens before a fault of depth goes on with a hole
   hole_behind : (n : ℕ) (ts front : Tokens) (bad : Placed) (tail more : Tokens) → ts ≡ front ++ bad ∷ tail → length ts < n → length (front ++ more) < n → query_with (trees grammar) reader.behind n ts ≡ Err (Deep, bad ∷ tail) → ((b : Placed) (y : Tokens) → query_with marking reader.marks n (front ++ b ∷ y) ≡ Err (Memory, b ∷ y)) → Texts true (front ++ more) → IsTooDeepIn Texts front
   hole_behind n ts front bad tail [] whole lt lt2 e all text =
       let spelled : Spells (query_text grammar text.0) front = subst (Spells (query_text grammar text.0)) (append-nil front) text.2 in
@@ -208,7 +208,7 @@ module _ {F X Q : Type 0} (grammar : Grammar F X Q) (reader : Reader grammar) wh
       let same : at.front ≡ front = same_front at.front front m.token h m.rest other at.clean clean there (hole_shows h is) (sym at.whole ∙ whole) in
       subst (λ f. query_with marking reader.marks n (f ++ b ∷ y) ≡ Err (Memory, b ∷ y)) same (at.all b y)
 
-  -- behind tokens that a hole may follow, each token is marked
+  -- after tokens that a hole may follow, each token is marked
   marked_behind : (n : ℕ) (front : Tokens) (h : Placed) (other : Tokens) (q : Q) → NoHoles front → h.token ≡ hole_token → grammar.FitsQuery q → Spells (query_text grammar q) (front ++ h ∷ other) → length (front ++ h ∷ other) < n → (b : Placed) (y : Tokens) → query_with marking reader.marks n (front ++ b ∷ y) ≡ Err (Memory, b ∷ y)
   marked_behind n front h other q clean is fits spelled lt b y =
       let ts = front ++ h ∷ other in
@@ -221,7 +221,7 @@ module _ {F X Q : Type 0} (grammar : Grammar F X Q) (reader : Reader grammar) wh
         | inr m ↦ marked_here n ts front h other q clean is refl read m (spot n ts m.token m.rest m.marked) (is_hole_token m.token.token) refl b y
       ]
 
-  -- which kind is told behind tokens that a hole may follow
+  -- which kind is told after tokens that a hole may follow
   pub shallow_rank : (ts front : Tokens) (k : Fault) (bad : Placed) (tail : Tokens) → NoHoles ts → ts ≡ front ++ bad ∷ tail → IsTooDeepIn Texts front → ((n : ℕ) → length ts < n → query_with (trees grammar) reader.behind n ts ≡ Err (k, bad ∷ tail)) → (k ≡ Memory) ⊎ IsDeepKind k
   shallow_rank ts front k bad tail clean whole deep reads =
       let n = suc (length ts + length (front ++ deep.0 ∷ deep.1)) in

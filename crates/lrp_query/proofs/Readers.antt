@@ -1,4 +1,4 @@
--- What the reader of a grammar owes: the rule behind a name that begins a formula, and the same rule of the reader that marks.
+-- What the reader of a grammar owes: the rule after a name that begins a formula, and the same rule of the reader that marks.
 use Rattle.std.proofs.Common.{ℕ, inr, refl}
 use Rattle.lrp_model.specs.Texts.{Identifier}
 use Rattle.lrp_model.specs.declared.tokens.Place.{Place}

@@ -154,7 +154,7 @@ bare_term_sound ts q e =
     let s = bind_ok (look false is_name ts) _ q e in
     subst (λ x. Takes (term_text q.0) x q.1 × FitsTerm q.0) (sym (look_ok false is_name ts s.0 s.1)) (either_named_sound s.0.0 s.0.1 q s.2)
 
--- the parts of a name and an offset behind it, as those of a term
+-- the parts of a name and an offset after it, as those of a term
 pub name_spelled : (p : Place) (n : Identifier) (o : Offset) (head x : Tokens) → Spells (at p (name_token n) ∷ []) head → Spells (offset_text o) x → Spells (term_text (with_offset n o)) (head ++ x)
 name_spelled p n o head x one two = subst (λ ps. Spells ps (head ++ x)) (sym (with_offset_text n o)) (any_place p n (offset_text o) (head ++ x) [] (spells_join (at p (name_token n) ∷ []) (offset_text o) head x one two))
 

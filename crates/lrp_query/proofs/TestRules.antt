@@ -115,7 +115,7 @@ op_seen op t h = ap op_of h ∙ op_again op
 pub op_stops : TestStops (λ t. op_of t.token) op_part (λ op. Unit {0})
 op_stops = record { token = record { token = symbol_token le_sign; place = start }; value = Le; fits = tt; is = refl; fault = λ t k e. inl (op_err t.token k e) }
 
--- what spells a point behind `in`
+-- what spells a point after `in`
 abbrev pub point_text : Integer → ℕ → List Part
 point_text i k = integer_text i ++ any (symbol_token Plus) ∷ any (number_token k) ∷ any (word_token Letter) ∷ []
 
@@ -187,7 +187,7 @@ pub placed_offset : (p : Place) (n : Identifier) (o : Offset) → placed_text (r
 placed_offset p n unmoved = refl
 placed_offset p n (moved_by down k) = refl
 
--- the rest of a point behind its plus
+-- the rest of a point after its plus
 abbrev one_more : Tokens
 one_more = record { token = number_token 1; place = start } ∷ record { token = word_token Letter; place = start } ∷ []
 
@@ -199,7 +199,7 @@ zero_term = record { place = start; item = integer_term (record { negative = fal
 abbrev pub zero_tokens : Tokens
 zero_tokens = record { token = number_token 0; place = start } ∷ []
 
--- the tokens behind the name of an atom without terms
+-- the tokens after the name of an atom without terms
 abbrev no_terms : Tokens
 no_terms = symbol_at Open ∷ symbol_at Close ∷ []
 
@@ -215,7 +215,7 @@ empty_leads (any k ∷ ps) us l h = h
 empty_leads (at q k ∷ ps) us l h = l
 
 module _ {F X Q : Type 0} (grammar : Grammar F X Q) (d : ℕ) where
-  -- ---- what stands behind a first term: complete
+  -- ---- what stands after a first term: complete
 
   -- the tokens of a point are read back
   point_back : (l : Located WrittenTerm) (i : Integer) (k : ℕ) → ReadsBack (point (trees grammar) l) (point_text i k) (grammar.roll (member l i k)) (FitsLayer grammar d (member l i k)) NoShift
@@ -227,7 +227,7 @@ module _ {F X Q : Type 0} (grammar : Grammar F X Q) (d : ℕ) where
       (then_back _ (accept_back (λ t. period_of t.token) (any (number_token k)) k L (λ t h. period_tells t k L (λ f. (f.2, f.3)) h))
       (then_back _ (accepts_back _ (any (word_token Letter)) tt L (word_required Letter)) (pure_back _ _ NoShift))))
 
-  -- the tokens of a comparison behind its left side are read back
+  -- the tokens of a comparison after its left side are read back
   comparing_back : (l : Located WrittenTerm) (op : Op) (r : Located WrittenTerm) → ReadsBack (comparing (trees grammar) l) (op_part op ∷ placed_text r) (grammar.roll (compared l op r)) (FitsLayer grammar d (compared l op r)) NoShift
   unfolding comparing
   comparing_back l op r =
@@ -235,19 +235,19 @@ module _ {F X Q : Type 0} (grammar : Grammar F X Q) (d : ℕ) where
       then_back _ (accepts_back (λ t. op_of t.token) (op_part op) op L (op_seen op))
       (last_back (term written_terms) (λ x. grammar.roll (compared l op x)) (placed_text r) r L NoShift (back_as (FitsPlaced r) L (λ f. f.1) (term_back r)))
 
-  -- behind a term, `in` and a point are read back
+  -- after a term, `in` and a point are read back
   pub test_point_back : (l : Located WrittenTerm) (i : Integer) (k : ℕ) → ReadsBack (tested false (trees grammar) l) (any (word_token In) ∷ point_text i k) (grammar.roll (member l i k)) (FitsLayer grammar d (member l i k)) NoShift
   unfolding tested
   test_point_back l i k = then_back _ (eat_back (is_word In) (any (word_token In)) (FitsLayer grammar d (member l i k)) (word_seen In)) (point_back l i k)
 
-  -- behind a term, a comparison and a term are read back
+  -- after a term, a comparison and a term are read back
   pub test_compared_back : (l : Located WrittenTerm) (op : Op) (r : Located WrittenTerm) → ReadsBack (tested false (trees grammar) l) (op_part op ∷ placed_text r) (grammar.roll (compared l op r)) (FitsLayer grammar d (compared l op r)) NoShift
   unfolding tested
   test_compared_back l op r = bind_back _ {G = NoShift} (eat_none (is_word In) (FitsLayer grammar d (compared l op r))) (comparing_back l op r) (λ ts left h g. first_is_not (is_word_token In) (symbol_token (op_symbol op)) (placed_text r) ts left refl h)
 
   -- ---- what begins with a name: complete
 
-  -- behind a name, an offset or none, and what stands behind it
+  -- after a name, an offset or none, and what stands after it
   pub name_test_back : (turns : ℕ) (p : Place) (n : Identifier) (o : Offset) (k : Token) (ps : List Part) (f : F) (L : Type 0) → Ends k → (L → FitsOffset o) → ReadsBack (tested false (trees grammar) (record { place = p; item = with_offset n o })) (any k ∷ ps) f L NoShift → ReadsBack (behind_name false (trees grammar) turns n p) (offset_text o ++ any k ∷ ps) f L NoShift
   unfolding behind_name named_term
   name_test_back turns p n o k ps f L ends fit back =
@@ -264,14 +264,14 @@ module _ {F X Q : Type 0} (grammar : Grammar F X Q) (d : ℕ) where
       (then_back _ (accepts_back _ (any (symbol_token Close)) tt L (expect_seen Close)) (pure_back (grammar.roll (atom p n ts)) L NoShift))
       (λ us left h g. closes [] us left h)
 
-  -- behind a name, the terms of an atom in parentheses are read back
+  -- after a name, the terms of an atom in parentheses are read back
   pub name_atom_back : (turns : ℕ) (p : Place) (n : Identifier) (ts : List (Located WrittenTerm)) → length ts ≤ turns → ReadsBack (behind_name false (trees grammar) turns n p) (any (symbol_token Open) ∷ (separated comma placed_text ts ++ any (symbol_token Close) ∷ [])) (grammar.roll (atom p n ts)) (FitsLayer grammar d (atom p n ts)) NoShift
   unfolding behind_name
   name_atom_back turns p n ts few = then_back _ (eat_back (is_symbol Open) (any (symbol_token Open)) (FitsLayer grammar d (atom p n ts)) (symbol_seen Open)) (atom_terms_back turns p n ts few)
 
   -- ---- sound
 
-  -- a point behind a term and `in` is spelled so
+  -- a point after a term and `in` is spelled so
   point_sound : (l : Located WrittenTerm) (ts us vs : Tokens) (q : F × Tokens) → Takes (placed_text l) ts us → FitsPlaced l → Takes (any (word_token In) ∷ []) us vs → point (trees grammar) l vs ≡ Ok q → IsFormula grammar (suc d) ts q
   unfolding point
   point_sound l ts us vs q one fit inside e =
@@ -290,7 +290,7 @@ module _ {F X Q : Type 0} (grammar : Grammar F X Q) (d : ℕ) where
       (takes_join (any (number_token k.0.0) ∷ []) (any (word_token Letter) ∷ []) u.0.1 k.0.1 v.0.1 counts.0 (word_sound Letter k.0.1 v.0 v.1).0)))))
       (fit, whole.1, counts.1.0, counts.1.1))
 
-  -- a comparison behind its left side is spelled so
+  -- a comparison after its left side is spelled so
   comparing_sound : (l : Located WrittenTerm) (ts us : Tokens) (q : F × Tokens) → Takes (placed_text l) ts us → FitsPlaced l → comparing (trees grammar) l us ≡ Ok q → IsFormula grammar (suc d) ts q
   unfolding comparing
   comparing_sound l ts us q one fit e =
@@ -308,14 +308,14 @@ module _ {F X Q : Type 0} (grammar : Grammar F X Q) (d : ℕ) where
   either_sound l true ts us vs q one fit eaten e = point_sound l ts us vs q one fit eaten e
   either_sound l false ts us vs q one fit eaten e = comparing_sound l ts vs q (subst (λ x. Takes (placed_text l) ts x) eaten one) fit e
 
-  -- a first term and what is read behind it are spelled so, and lawful
+  -- a first term and what is read after it are spelled so, and lawful
   pub test_sound : (l : Located WrittenTerm) (ts us : Tokens) (q : F × Tokens) → Takes (placed_text l) ts us → FitsPlaced l → tested false (trees grammar) l us ≡ Ok q → IsFormula grammar (suc d) ts q
   unfolding tested
   test_sound l ts us q one fit e =
       let i = bind_ok (eat (is_word In) us) _ q e in
       either_sound l i.0.0 ts us i.0.1 q one fit (eat_sound (is_word In) (any (word_token In)) (word_told In) us i.0 i.1) i.2
 
-  -- behind a name, with or without a parenthesis
+  -- after a name, with or without a parenthesis
   after_name_sound : (turns : ℕ) (n : Identifier) (p : Place) (opens : Bool) (ts us vs : Tokens) (q : F × Tokens) → Takes (at p (name_token n) ∷ []) ts us → Takes (eaten_parts (any (symbol_token Open)) opens) us vs → (if opens then atom_terms false (trees grammar) turns n p else (named_term written_terms n >>= (λ k. tested false (trees grammar) (record { place = p; item = k })))) vs ≡ Ok q → IsFormula grammar (suc d) ts q
   unfolding atom_terms named_term
   after_name_sound turns n p true ts us vs q one eaten e =
@@ -338,7 +338,7 @@ module _ {F X Q : Type 0} (grammar : Grammar F X Q) (d : ℕ) where
       let R : WrittenTerm × Tokens → Type 0 = λ y. tested false (trees grammar) (record { place = p; item = y.0 }) y.1 ≡ Ok q in
       test_sound left ts o.0.1 q named_left (with_offset_fits n o.0.0 read.1) (subst R (sym h) k.2)
 
-  -- what is read behind a name is spelled so with it, and lawful
+  -- what is read after a name is spelled so with it, and lawful
   pub behind_name_sound : (turns : ℕ) (n : Identifier) (p : Place) (us : Tokens) (q : F × Tokens) → behind_name false (trees grammar) turns n p us ≡ Ok q → IsFormula grammar (suc d) (name_at n p ∷ us) q
   unfolding behind_name
   behind_name_sound turns n p us q e =
@@ -389,7 +389,7 @@ module _ {F X Q : Type 0} (grammar : Grammar F X Q) (d : ℕ) where
       (λ c r x spelled fits. ([], (compared l op r, fits_as (FitsPlaced r) (FitsLayer grammar d (compared l op r)) c (λ f. (fit, f)) fits, compared_spelled l op r head h1 (x ++ []) one s1 (subst (λ y. Spells (placed_text r) y) (sym (append-nil x)) spelled))))
       (λ r h2 ws s2 f2 d2. absurd cc))
 
-  -- the tokens before a fault behind a first term begin a formula with it
+  -- the tokens before a fault after a first term begin a formula with it
   pub test_stops : (l : Located WrittenTerm) (head us : Tokens) (e : Fault × Tokens) → Spells (placed_text l) head → FitsPlaced l → tested false (trees grammar) l us ≡ Err e → Stops (λ c x. LayerTexts grammar d c (head ++ x)) us e
   unfolding tested
   test_stops l head us e one fit h =
@@ -409,7 +409,7 @@ module _ {F X Q : Type 0} (grammar : Grammar F X Q) (d : ℕ) where
       (λ c u x spelled fits. ([], (atom p n ts, always (FitsLayer grammar d (atom p n ts)) c f1, spells_join (at p (name_token n) ∷ []) (any (symbol_token Open) ∷ (separated comma placed_text ts ++ any (symbol_token Close) ∷ [])) head (t ∷ (h1 ++ (x ++ []))) one (is, spells_join (separated comma placed_text ts) (any (symbol_token Close) ∷ []) h1 (x ++ []) s1 (subst (λ y. Spells (One (sym_part Close) u) y) (sym (append-nil x)) spelled)))))
       (λ u h2 ws s2 f2 d2. absurd cc))
 
-  -- the tokens before a fault behind a name begin a formula with it
+  -- the tokens before a fault after a name begin a formula with it
   pub behind_name_stops : (turns : ℕ) (n : Identifier) (p : Place) (us : Tokens) (e : Fault × Tokens) → length us < turns → behind_name false (trees grammar) turns n p us ≡ Err e → Stops (λ c x. LayerTexts grammar d c (name_at n p ∷ x)) us e
   unfolding behind_name named_term
   behind_name_stops turns n p us e lt h =

@@ -102,7 +102,7 @@ mutual
 
 -- ---- queries
 
--- what stands behind the head
+-- what stands after the head
 abbrev pub behind_head : {l : Language} → WrittenFormula l → List Part
 behind_head f = any (symbol_token Bar) ∷ (formula_text f ++ any (symbol_token CloseBrace) ∷ any end_token ∷ [])
 

@@ -139,7 +139,7 @@ tree_fits c d universal p n [] s f h = subst (λ k. Fitting c (FitsAt k f)) (ome
 tree_fits c d existential p n (m ∷ ms) s f h = h
 tree_fits c d universal p n (m ∷ ms) s f h = h
 
--- a sort and a formula behind names
+-- a sort and a formula after names
 abbrev sorted_parts : Sort × Place → Formula → List Part
 sorted_parts s f = any (symbol_token Colon) ∷ sort_part s ∷ formula_text f
 
@@ -163,7 +163,7 @@ tree_spelled universal p n (m ∷ ms) s f t ts us is h = (is, takes_names (earli
 
 -- ---- the rule
 
--- what stands behind the names
+-- what stands after the names
 abbrev SortedText : ℕ → Quantifier → Place → List PlacedName → Language RawForm
 SortedText d q p ns = After (λ (u : Unit {0}). any (symbol_token Colon)) (λ u. Unit {0}) (λ u. After sort_part (λ s. Unit {0}) (λ s. Made (each_bound (raw_quantified q) p (map (column_at s) ns)) (FormulaText (d - (length (map (column_at s) ns) - 1)))))
 
@@ -171,7 +171,7 @@ SortedText d q p ns = After (λ (u : Unit {0}). any (symbol_token Colon)) (λ u.
 abbrev pub QuantifiedText : ℕ → Quantifier → Place → Language RawForm
 QuantifiedText d q p = Then (Members NameText comma_token []) (SortedText d q p)
 
--- a tree of what stands behind a quantifier's word
+-- a tree of what stands after a quantifier's word
 pub quantified_there : (d : ℕ) (q : Quantifier) (p r : Place) (c : Bool) (v : RawForm) (t : Placed) (ts us : Tokens) → IsPart (at r (word_token (quantifier_word q))) t → QuantifiedText d q p c v ts us → (w : Formula) × (looseness w ≤ 0) × IsOrdered w × (r ≡ p → v ≡ raw_form w) × Fitting c (FitsAt (suc d) w) × Takes (formula_text w) (t ∷ ts) us
 quantified_there d q p r c v t ts us is (ns, ks, ([], l, s), m) = absurd s
 quantified_there d q p r c v t ts us is (ns, [], (n ∷ ms, l, s), m) = absurd m

@@ -402,7 +402,7 @@ module _ (size most d : ℕ) (low : d ≤ most) (inner : Cut → ℕ → Parser 
 
 -- ---- each depth
 
--- behind a name
+-- after a name
 abbrev pub behind_cut : Cut → WideBehindName RawForm
 behind_cut c = with_wide_operators (cutting c) (operators_in wide)
 

@@ -215,7 +215,7 @@ module _ (n size d : ℕ) (low : n ≤ size) (inner : Cut → Parser RawForm) (o
 
 -- ---- `implies`
 
--- a formula, behind which a word is refused
+-- a formula, after which a word is refused
 module _ {V : Type 0} (size : ℕ) (F : Tokens → Type 0) (test : Placed → Bool) (k : Token) (kind : KindRule test k) (a : V) (S : V → Tokens → Tokens → Type 0) (front_of : (v : V) (ts us : Tokens) → S v ts us → Front (λ c. S) true v ts us) (value : V) (tokens : Tokens) (some_further : S value tokens []) (refuses : (left : Tokens) → F left → IsNot test left) where
   abbrev pub Stopping : Language V
   Stopping c v ts us = Nothing a c v ts us ⊎ ((c ≡ false) × Behind k (λ ms. S v ms us) ts)
@@ -306,7 +306,7 @@ module _ (size : ℕ) (inner : Cut → ℕ → Parser RawForm) where
   abbrev pub chain_of : ℕ → ℕ → RawForm → Cut → Parser RawForm
   chain_of depth n f c = chained (cutting c) (inner c) depth n f
 
-  -- the rest of a chain behind a member, where one may stand, and where none may
+  -- the rest of a chain after a member, where one may stand, and where none may
   abbrev Goes : (RawForm → Language RawForm) → RawForm → Joined RawForm → Language RawForm
   Goes Rest f j = Eats (word_token Implies) (Made (link f) (Rest j.formula)) (Nothing (link f j.formula))
 

@@ -1,4 +1,4 @@
--- What is read of operators in the wide language, and behind a name that begins a formula.
+-- What is read of operators in the wide language, and after a name that begins a formula.
 use Rattle.std.proofs.Common.{◌≡◌, inl, inr, ◌≤◌, ◌<◌, ℕ, suc, Bool, true, false, List, [], ◌∷◌, ◌++◌, refl, ap, sym, ◌∙◌, subst, Ok, Err, Option, Some, None, if◌then◌else◌, length, arith}
 use Rattle.std.specs.Prelude.{codes}
 use Rattle.lrp_model.specs.Texts.{Identifier}
@@ -199,7 +199,7 @@ module _ (size d : ℕ) (inner outer : Cut → Parser RawForm) (one : Rule size 
       (λ g c y ms left t k. close_follows (Nothing (raw_paired word (begun p v) f g)) c y ms left t)))
       (λ f c y ms left t k. comma_follows (Then (AnyText d) (λ g. SymbolText (symbol_token Close) (Nothing (raw_paired word (begun p v) f g)))) c y ms left t))))
 
-  -- behind a name, by the operator whose first word it is
+  -- after a name, by the operator whose first word it is
   abbrev by_word : Option (Leading Ranged Paired) → Identifier → Place → Bool → Cut → Parser RawForm
   by_word o n p again c = if again then wide_operator (operators_in wide) (inner c) (outer c) p o else behind_name true (cutting c) size n p
 
@@ -245,7 +245,7 @@ pair_fit : (c : Bool) (P Q R S : Type 0) → Fitting c (P × Q) → Fitting c (R
 pair_fit true P Q R S p r = ((p.0, r.0), (p.1, r.1))
 pair_fit false P Q R S p r = tt
 
--- a tree of what stands behind the first word, with so much depth left
+-- a tree of what stands after the first word, with so much depth left
 pub record Operated (d : ℕ) (c : Bool) (v : RawForm) (ts us : Tokens) : Type 0 where
   pub tree : Formula
   pub tight : looseness tree ≤ 0
@@ -298,7 +298,7 @@ ranged_tree word o a b f = written_ranged tt word o a b f
 abbrev paired_tree : Paired → Operator → Formula → Formula → Formula
 paired_tree word o f g = written_paired tt word o f g
 
--- a symbol, and what stands behind it
+-- a symbol, and what stands after it
 symbol_back : {V : Type 0} (k : Token) (ps : List Part) (T : Language V) (c : Bool) (v : V) (ms us : Tokens) → Takes (any k ∷ ps) ms us → ((ns : Tokens) → Takes ps ns us → T c v ns us) → SymbolText k T c v ms us
 symbol_back k ps T c v [] us h onward = absurd h
 symbol_back k ps T c v (t ∷ ms) us h onward = (tt, (h.0, always (Unit {0}) c tt), onward ms h.1)

@@ -72,7 +72,7 @@ up_to_same make behind turns zero zero low = refl
 up_to_same make behind turns zero (suc e) low = absurd (omega (arith, low))
 up_to_same make behind turns (suc most) e low = one_further make behind turns most e (e == suc most) refl low (up_to_same make behind turns most e)
 
--- ---- behind a name
+-- ---- after a name
 
 module _ {R P N F : Type 0} (make : OperatorTrees R P N F) (f g : Parser F) (same : (ts : Tokens) → f ts ≡ g ts) where
   -- an operator over two formulas

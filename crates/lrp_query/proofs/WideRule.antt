@@ -19,7 +19,7 @@ use Rattle.lrp_query.proofs.WideTold.{Cut, Tells, pure_tells, fail_tells, sooner
 abbrev pub holes : Cut
 holes = meant.cut
 
--- what is read of tokens, up to those left behind it, where the flag is set the lawful
+-- what is read of tokens, up to those left after it, where the flag is set the lawful
 abbrev pub Language : Type 0 → Type 1
 Language V = Bool → V → Tokens → Tokens → Type 0
 
@@ -33,7 +33,7 @@ pub record Front {V : Type 0} (T : Language V) (c : Bool) (v : V) (ts us : Token
   pub whole : ts ≡ head ++ us
   pub again : (x : Tokens) → T c v (head ++ x) x
 
--- what a parser owes texts below a size: it reads lawful texts and no others, where the next token may follow them, refuses an unlawful one for another cause than syntax, stops behind the front of a lawful text, depends on the next token alone, and tells what its cut decides on
+-- what a parser owes texts below a size: it reads lawful texts and no others, where the next token may follow them, refuses an unlawful one for another cause than syntax, stops after the front of a lawful text, depends on the next token alone, and tells what its cut decides on
 pub record Rule {V : Type 0} (size : ℕ) (late : Bool) (follow : Tokens → Type 0) (T : Language V) (p : Cut → Parser V) : Type 0 where
   pub weaker : (c : Bool) (v : V) (ts us : Tokens) → T true v ts us → T c v ts us
   pub front : (c : Bool) (v : V) (ts us : Tokens) → T c v ts us → Front T c v ts us
@@ -72,7 +72,7 @@ left_shorter xs ys ts e =
 pub fewer : {V : Type 0} (T : Language V) (c : Bool) (v : V) (ts us : Tokens) → Front T c v ts us → length us ≤ length ts
 fewer T c v ts us f = left_shorter f.head us ts f.whole
 
--- other tokens behind a text
+-- other tokens after a text
 pub onto : {V : Type 0} (T : Language V) (c : Bool) (v : V) (x y : Tokens) → Front T c v x [] → T c v (x ++ y) y
 onto T c v x y f = subst (λ h. T c v (h ++ y) y) (sym (f.whole ∙ append-nil f.head)) (f.again y)
 
@@ -282,7 +282,7 @@ eats_one : (test : Placed → Bool) (t : Placed) (us : Tokens) → test t ≡ tr
 unfolding eat
 eats_one test t us is = ap (λ r. eaten r t us) is
 
--- what is read behind such a token, or where none stands
+-- what is read after such a token, or where none stands
 abbrev pub Eats : {B : Type 0} → Token → Language B → Language B → Language B
 Eats k T U c v ts us = Behind k (λ ms. T c v ms us) ts ⊎ U c v ts us
 
@@ -415,7 +415,7 @@ Separated T k [] ts us = ⊥
 Separated T k (v ∷ []) ts us = T v ts us
 Separated T k (v ∷ w ∷ vs) ts us = (ms : Tokens) × T v ts ms × Behind k (λ ns. Separated T k (w ∷ vs) ns us) ms
 
--- those that are read behind others
+-- those that are read after others
 abbrev pub Members : {V : Type 0} → Language V → Token → List V → Language (List V)
 Members {V} T k found c r ts us = (vs : List V) × (r ≡ found ++ vs) × Separated (T c) k vs ts us
 
@@ -424,7 +424,7 @@ module _ {V : Type 0} (size : ℕ) (late : Bool) (F : Tokens → Type 0) (T : La
   abbrev pub Ends : Tokens → Type 0
   Ends left = F left × IsNot test left
 
-  -- one more, and those behind it
+  -- one more, and those after it
   abbrev Next : List V → V → Language (List V)
   Next found a = Eats k (Members T k (found ++ a ∷ [])) (Nothing (found ++ a ∷ []))
 

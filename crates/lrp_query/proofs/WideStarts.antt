@@ -62,7 +62,7 @@ StartText d p by_name = After name_part (λ v. Unit {0}) (λ n. BehindText d n.0
 StartText d p by_term = Then Unnamed (λ k. TestText (term_of p k))
 
 module _ (size most d : ℕ) (low : d ≤ most) (inner : Cut → ℕ → Parser RawForm) (at_zero : (c : Cut) → inner c 0 ≡ accept c) (rules : (d : ℕ) → d ≤ most → Rule size false NoShift (FormulaText d) (λ c. inner c d)) where
-  -- behind a name
+  -- after a name
   abbrev pub behind_of : Cut → Identifier → Place → Parser RawForm
   behind_of c = with_wide_operators (cutting c) (operators_in wide) (inner c d) (member_of (whole (cutting c) (inner c) d size)) size
 
@@ -86,7 +86,7 @@ pub record Started (d : ℕ) (p : Place) (c : Bool) (v : RawForm) (ts us : Token
   pub fits : Fitting c (FitsAt (suc d) tree)
   pub spelled : Takes (formula_text tree) ts us
 
--- a test behind a term at another place
+-- a test after a term at another place
 test_moved : (p q : Place) (k : RawTermKind) (c : Bool) (v : RawForm) (ms us : Tokens) → TestText (term_of p k) c v ms us → (w : RawForm) × (q ≡ p → v ≡ w) × TestText (term_of q k) c w ms us
 test_moved p q k c v [] us (inl t) = absurd t
 test_moved p q k c v (t ∷ ks) us (inl (is, (i, [], n, r))) = absurd r
@@ -166,7 +166,7 @@ start_there d p by_term c v (t ∷ ts) us (k, ms, un, test) =
 at_start : (d : ℕ) (p : Place) (s : Start) (c : Bool) (v : RawForm) (t : Placed) (ts us : Tokens) → t.place ≡ p → start_of t.token ≡ s → StartText d p s c v (t ∷ ts) us → StartText d t.place (start_of t.token) c v (t ∷ ts) us
 at_start d p s c v t ts us e b r = subst (λ q. StartText d q (start_of t.token) c v (t ∷ ts) us) (sym e) (subst (λ z. StartText d p z c v (t ∷ ts) us) (sym b) r)
 
--- a term that begins a formula, and a test behind it
+-- a term that begins a formula, and a test after it
 side_back : (d : ℕ) (c : Bool) (v : RawForm) (p : Place) (item : WrittenTerm) (t : Placed) (ts ms us : Tokens) → Takes (placed_text (record { place = p; item = item })) (t ∷ ts) ms → Fitting c (FitsTerm item) → TestText (raw_term (record { place = p; item = item })) c v ms us → StartText d t.place (start_of t.token) c v (t ∷ ts) us
 side_back d c v p (variable n) t ts ms us s fit test = at_start d p by_name c v t ts us s.0.1 (ap start_of s.0.0) ((n, p), (s.0, always (Unit {0}) c tt), inr (inr (term_kind (variable n), ms, (unmoved, refl, (fit, s.1)), test)))
 side_back d c v p (shifted n down k) t ts ms us s fit test = at_start d p by_name c v t ts us s.0.1 (ap start_of s.0.0) ((n, p), (s.0, always (Unit {0}) c tt), inr (inr (term_kind (shifted n down k), ms, (moved_by down k, refl, (fit, s.1)), test)))
@@ -192,7 +192,7 @@ abbrev pub NotHole : Formula → Type 0
 NotHole (hole p) = ⊥
 NotHole _ = Unit {0}
 
--- a name, and what stands behind it
+-- a name, and what stands after it
 behind_name_back : (d : ℕ) (c : Bool) (v : RawForm) (n : Identifier) (p : Place) (t : Placed) (ts us : Tokens) → IsPart (at p (name_token n)) t → BehindText d n p c v ts us → StartText d t.place (start_of t.token) c v (t ∷ ts) us
 behind_name_back d c v n p t ts us is r = at_start d p by_name c v t ts us is.1 (ap start_of is.0) ((n, p), (is, always (Unit {0}) c tt), r)
 

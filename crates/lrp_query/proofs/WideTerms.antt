@@ -137,7 +137,7 @@ unnamed_rule size =
     text_sees (λ c k ts left a g. no_quote a.0 ts left a.2.1))
     unnamed_there (λ c k ts us b. unnamed_of c k b.item ts us b.is b.means b.fits b.spelled)
 
--- behind a name
+-- after a name
 abbrev pub Named : Identifier → Language RawTermKind
 Named n = Made (λ o. term_kind (with_offset n o)) (Leaf offset_text FitsOffset)
 

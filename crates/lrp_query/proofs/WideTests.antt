@@ -43,7 +43,7 @@ use Rattle.lrp_query.proofs.WideWhole.{CloseText}
 op_rule : TokenRule (λ t. op_of t.token) op_part (λ op. Unit {0})
 op_rule = record { told = op_told; fits = λ t a e. tt; tells = λ t a L f is. inl (op_seen a t is); stops = op_stops; leaf = λ t. op_leaf t.token }
 
--- ---- behind a first term
+-- ---- after a first term
 
 abbrev SymbolText : {V : Type 0} → Token → Language V → Language V
 SymbolText k T = After (λ (u : Unit {0}). any k) (λ u. Unit {0}) (λ u. T)
@@ -222,7 +222,7 @@ given_back c (x ∷ y ∷ xs) ts us f s =
     let k = takes_split (located_text argument_text x) (comma ∷ separated comma (located_text argument_text) (y ∷ xs)) ts us s in
     (k.0, record { item = x; means = refl; fits = fits_as (AllFit (x ∷ y ∷ xs)) (FitsArgument x.item) c (λ h. h.0) f; spelled = k.1 }, behind_part (symbol_token Comma) (separated comma (located_text argument_text) (y ∷ xs)) (λ ns. Separated (ArgumentText c) (symbol_token Comma) (map raw_argument (y ∷ xs)) ns us) k.0 us k.2 (λ ns h. given_back c (y ∷ xs) ns us (fits_as (AllFit (x ∷ y ∷ xs)) (AllFit (y ∷ xs)) c (λ a. a.1) f) h))
 
--- ---- behind a name
+-- ---- after a name
 
 abbrev AtomText : Identifier → Place → Language RawForm
 AtomText n p = Then Arguments (λ xs. CloseText (raw_atom p n xs))
@@ -258,7 +258,7 @@ op_no_open Eq = refl
 test_shift : (l : RawTerm) (c : Bool) (v : RawForm) (ms left : Tokens) → TestText l c v ms left → NoShift ms
 test_shift l c v ms left t = (test_first (is_symbol_token Plus) refl refl op_no_plus l c v ms left t, test_first (is_symbol_token Minus) refl refl op_no_minus l c v ms left t)
 
--- what nothing behind a name begins with but a parenthesis
+-- what nothing after a name begins with but a parenthesis
 behind_first : (test : Token → Bool) → test (symbol_token Plus) ≡ false → test (symbol_token Minus) ≡ false → test (word_token In) ≡ false → test (symbol_token Differs) ≡ false → ((op : Op) → test (symbol_token (op_symbol op)) ≡ false) → (n : Identifier) (p : Place) (c : Bool) (v : RawForm) (ts left : Tokens) → Then (Named n) (λ k. TestText (term_of p k)) c v ts left → IsNot (λ t. test t.token) ts
 behind_first test plus minus inside differs op n p c v ts left (k, ms, (unmoved, e, s), t) = subst (IsNot (λ t. test t.token)) (sym s.1) (test_first test inside differs op (term_of p k) c v ms left t)
 behind_first test plus minus inside differs op n p c v ts left (k, ms, (moved_by true j, e, s), t) = first_is_not test (symbol_token Minus) (any (number_token j) ∷ []) ts ms minus s.1

@@ -38,7 +38,7 @@ pub second_clean : (xs ys : Tokens) → NoHoles (xs ++ ys) → NoHoles ys
 second_clean [] ys a = a
 second_clean (x ∷ xs) ys a = second_clean xs ys a.1
 
--- some token behind others
+-- some token after others
 not_empty : (xs : Tokens) (c : Placed) (cs : Tokens) → NotEmpty (xs ++ c ∷ cs)
 not_empty [] c cs = tt
 not_empty (x ∷ xs) c cs = tt

@@ -87,7 +87,7 @@ pub close_back : {V : Type 0} (a : V) (c : Bool) (ms us : Tokens) → Takes clos
 close_back a c [] us s = absurd s
 close_back a c (u ∷ ms) us s = (tt, (s.0, always (Unit {0}) c tt), (refl, s.1))
 
--- behind an opening parenthesis
+-- after an opening parenthesis
 abbrev pub InsideText : ℕ → Place → Language RawForm
 InsideText d p = Then (JoinedText 3 d) (λ j. CloseText (closed meant p j))
 

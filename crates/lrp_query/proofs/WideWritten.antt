@@ -81,7 +81,7 @@ unlawful P false e = tt
 
 -- ---- further members
 
--- a token of parts, and what stands behind it
+-- a token of parts, and what stands after it
 pub behind_part : (k : Token) (ps : List Part) (R : Tokens → Type 0) (ms us : Tokens) → Takes (any k ∷ ps) ms us → ((ns : Tokens) → Takes ps ns us → R ns) → Behind k R ms
 behind_part k ps R [] us h onward = absurd h
 behind_part k ps R (t ∷ ms) us h onward = (h.0, onward ms h.1)

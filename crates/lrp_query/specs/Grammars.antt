@@ -56,7 +56,7 @@ module _ {R P F Q : Type 0} (make : Making R P F Q) where
   abbrev pub operators_made : OperatorTrees R P ℤ F
   operators_made = record { word_of = make.word_of; number_of = integer_of; ranged = make.ranged; paired = make.paired }
 
-  -- what stands behind a name that begins a formula
+  -- what stands after a name that begins a formula
   abbrev pub behind_made : BehindName F
   behind_made = with_operators trees_made operators_made
 
@@ -104,7 +104,7 @@ operators_in l = operators_made (raw_making l)
 abbrev pub behind_in : Language → BehindName RawForm
 behind_in l = behind_made (raw_making l)
 
--- ---- the wide language, whose formulas go on behind one that stands alone
+-- ---- the wide language, whose formulas go on after one that stands alone
 
 abbrev pub wide_behind : WideBehindName RawForm
 wide_behind = with_wide_operators meant (operators_in wide)
@@ -137,7 +137,7 @@ part_in first_order depth turns = formula_in first_order depth turns
 part_in temporal depth turns = formula_in temporal depth turns
 part_in wide depth turns = member_of (wide_joined depth turns)
 
--- what stands behind a name that begins a formula, a quantifier, and formulas in parentheses, whose parts are at most so deep
+-- what stands after a name that begins a formula, a quantifier, and formulas in parentheses, whose parts are at most so deep
 abbrev pub behind_at : Language → ℕ → ℕ → Identifier → Place → Parser RawForm
 behind_at first_order depth turns = behind_in first_order (formula_in first_order depth turns) turns
 behind_at temporal depth turns = behind_in temporal (formula_in temporal depth turns) turns
@@ -167,16 +167,16 @@ abbrev pub joined_of : JoinedFormula → Joined RawForm
 joined_of j = record { formula = raw_form_of j.formula; bare = j.bare }
 
 -- the names of a quantifier
-abbrev pub named_at : PlacedName → Identifier × Place
-named_at n = (n.name, n.place)
+abbrev pub name_and_place : PlacedName → Identifier × Place
+name_and_place n = (n.name, n.place)
 
-abbrev pub names_of : Vec PlacedName Global → List (Identifier × Place)
-names_of ns = map named_at ns.items
+abbrev pub names_and_places : Vec PlacedName Global → List (Identifier × Place)
+names_and_places ns = map name_and_place ns.items
 
 -- what a quantifier binds
-abbrev pub bound_by : Quantifier → Place → RawColumn → RawForm → RawForm
-bound_by Existential = raw_exists
-bound_by Universal = raw_forall
+abbrev pub quantified_by : Quantifier → Place → RawColumn → RawForm → RawForm
+quantified_by Existential = raw_exists
+quantified_by Universal = raw_forall
 
 -- what a definition of the program says
 abbrev pub read_definition_of : RawDefinition → Definition RawForm

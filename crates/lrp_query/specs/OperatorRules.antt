@@ -25,7 +25,7 @@ pub record OperatorTrees (R P N F : Type 0) : Type 0 where
 abbrev pub opening : Place → Identifier × Place → Opening
 opening p v = record { place = p; name = v.0; name_place = v.1 }
 
--- the ends of an interval, behind a parenthesis
+-- the ends of an interval, after a parenthesis
 unfoldable pub ends : {N : Type 0} → (Integer → N) → Parser (N × N)
 ends number_of = do
   from ← integer
@@ -34,7 +34,7 @@ ends number_of = do
   expect Close
   pure (number_of from, number_of to)
 
--- an operator with an interval, behind its first word
+-- an operator with an interval, after its first word
 unfoldable pub ranged : {R P N F : Type 0} → OperatorTrees R P N F → Parser F → R → Place → Parser F
 ranged make inner word p = do
   v ← name
@@ -43,7 +43,7 @@ ranged make inner word p = do
   f ← inner
   pure (make.ranged word (opening p v) e.0 e.1 f)
 
--- an operator over two formulas, behind its first word
+-- an operator over two formulas, after its first word
 unfoldable pub paired : {R P N F : Type 0} → OperatorTrees R P N F → Parser F → P → Place → Parser F
 paired make inner word p = do
   v ← name
@@ -54,7 +54,7 @@ paired make inner word p = do
   expect Close
   pure (make.paired word (opening p v) f g)
 
--- an operator, behind its first word; no other name stands before a name
+-- an operator, after its first word; no other name stands before a name
 abbrev pub operator : {R P N F : Type 0} → OperatorTrees R P N F → Parser F → Place → Option (Leading R P) → Parser F
 operator make inner p (Some (OfRange word)) = ranged make inner word p
 operator make inner p (Some (OfPair word)) = paired make inner word p
@@ -66,7 +66,7 @@ wide_operator make inner outer p (Some (OfRange word)) = ranged make inner word 
 wide_operator make inner outer p (Some (OfPair word)) = paired make outer word p
 wide_operator make inner outer p None = fail Syntax
 
--- behind a name that begins a formula: an operator where another name follows, and else what stands there without operators
+-- after a name that begins a formula: an operator where another name follows, and else what stands there without operators
 unfoldable pub with_operators : {K T F Q R P N : Type 0} → Trees K T F Q → OperatorTrees R P N F → BehindName F
 with_operators make operators inner turns n p = do
   again ← look false is_name
@@ -87,7 +87,7 @@ variable = do
   expect Open
   pure v
 
--- a formula and the symbol behind it
+-- a formula and the symbol after it
 unfoldable pub closed_by : {F : Type 0} → Parser F → Symbol → Parser F
 closed_by inner s = do
   f ← inner

@@ -22,7 +22,7 @@ use Rattle.lrp_model.specs.Queries.WrittenTerm.{integer as integer_term, text_te
 use Rattle.lrp_model.specs.QueryMeaning.{term_kind, star_name}
 use Rattle.lrp_model.specs.RawQueries.{RawForm, RawForms, raw_atom, raw_compare, raw_member, raw_not, raw_and, raw_or, raw_implies, raw_group, raw_exists, raw_forall, no_raws, raw, place_of, raw_at}
 use Rattle.lrp_text.specs.Parsers.{Parser, ◌>>=◌, ◌>>◌, pure, fail, accept, look, eat, listed, separated_from}
-use Rattle.lrp_text.specs.Taking.{is_symbol, is_word, is_text, is_name, is_named, expect, expect_named, expect_word, expect_end, name, number, period, text, here}
+use Rattle.lrp_text.specs.Taking.{is_symbol, is_word, is_text, is_name, is_token_named, expect, expect_named, expect_word, expect_end, name, number, period, text, here}
 use Rattle.lrp_text.specs.ColumnRule.{column, sort}
 use Rattle.lrp_text.specs.IntegerRule.{integer}
 use Rattle.lrp_text.specs.OffsetRule.{Offset, unmoved, moved_by, offset}
@@ -181,7 +181,7 @@ op_of (symbol_token gt_sign) = Ok Gt
 op_of (symbol_token Equals) = Ok Eq
 op_of _ = Err Syntax
 
--- a point, behind a term and `in`
+-- a point, after a term and `in`
 unfoldable pub point : {K T F Q : Type 0} → Trees K T F Q → T → Parser F
 point make left = do
   i ← integer
@@ -190,20 +190,20 @@ point make left = do
   expect_word Letter
   pure (make.formulas.membership left i k)
 
--- a comparison and its right side, behind a term
+-- a comparison and its right side, after a term
 unfoldable pub comparing : {K T F Q : Type 0} → Trees K T F Q → T → Parser F
 comparing make left = do
   op ← accept (λ t. op_of t.token)
   right ← term make.terms
   pure (make.formulas.comparison left op right)
 
--- a `!=` and its right side, behind a term: a comparison that is denied at the term's place
+-- a `!=` and its right side, after a term: a comparison that is denied at the term's place
 unfoldable pub differing : {K T F Q : Type 0} → Trees K T F Q → T → Parser F
 differing make left = do
   right ← term make.terms
   pure (make.formulas.difference left right)
 
--- what stands behind the first term of a comparison or an `in`; where the flag is set a `!=` too
+-- what stands after the first term of a comparison or an `in`; where the flag is set a `!=` too
 unfoldable pub tested : {K T F Q : Type 0} → Bool → Trees K T F Q → T → Parser F
 tested false make left = do
   inside ← eat (is_word In)
@@ -214,14 +214,14 @@ tested true make left = do
     differs ← eat (is_symbol Differs)
     if differs then differing make left else comparing make left)
 
--- the terms of an atom, behind its name and its parenthesis
+-- the terms of an atom, after its name and its parenthesis
 unfoldable pub atom_terms : {K T F Q : Type 0} → Bool → Trees K T F Q → ℕ → Identifier → Place → Parser F
 atom_terms wide make turns n p = do
   ts ← listed (argument wide make.terms) (is_symbol Comma) (is_symbol Close) turns
   expect Close
   pure (make.formulas.atom_of p n ts)
 
--- behind a name that begins a formula: an atom where a parenthesis follows, and else a term
+-- after a name that begins a formula: an atom where a parenthesis follows, and else a term
 unfoldable pub behind_name : {K T F Q : Type 0} → Bool → Trees K T F Q → ℕ → Identifier → Place → Parser F
 behind_name wide make turns n p = do
   opens ← eat (is_symbol Open)
@@ -229,7 +229,7 @@ behind_name wide make turns n p = do
     k ← named_term make.terms n
     tested wide make (make.terms.term_at p k))
 
--- a formula that begins with a name, and what stands behind it
+-- a formula that begins with a name, and what stands after it
 unfoldable pub named : {F : Type 0} → (Identifier → Place → Parser F) → Parser F
 named behind = do
   n ← name
@@ -250,7 +250,7 @@ negated make inner p = do
   f ← inner
   pure (make.formulas.negation p f)
 
--- a binder and its formula, behind `exists`
+-- a binder and its formula, after `exists`
 unfoldable pub existing : {K T F Q : Type 0} → Trees K T F Q → Parser F → Place → Parser F
 existing make inner p = do
   expect_word Exists
@@ -258,7 +258,7 @@ existing make inner p = do
   f ← inner
   pure (make.formulas.existential p c f)
 
--- a binder and its formula, behind `forall`
+-- a binder and its formula, after `forall`
 unfoldable pub holding : {K T F Q : Type 0} → Trees K T F Q → Parser F → Place → Parser F
 holding make inner p = do
   expect_word Forall
@@ -266,21 +266,21 @@ holding make inner p = do
   f ← inner
   pure (make.formulas.universal p c f)
 
--- what stands behind `implies`
+-- what stands after `implies`
 unfoldable pub implying : {K T F Q : Type 0} → Trees K T F Q → Parser F → Place → F → Parser F
 implying make inner p f = do
   g ← inner
   expect Close
   pure (make.formulas.implication p f g)
 
--- the members behind the first `and`
+-- the members after the first `and`
 unfoldable pub conjoined : {K T F Q : Type 0} → Trees K T F Q → Parser F → ℕ → Place → F → Parser F
 conjoined make inner turns p f = do
   fs ← separated_from inner (is_word And) turns (f ∷ [])
   expect Close
   pure (make.formulas.conjunction p fs)
 
--- the members behind the first `or`
+-- the members after the first `or`
 unfoldable pub disjoined : {K T F Q : Type 0} → Trees K T F Q → Parser F → ℕ → Place → F → Parser F
 disjoined make inner turns p f = do
   fs ← separated_from inner (is_word Or) turns (f ∷ [])
@@ -293,7 +293,7 @@ alone make p f = do
   expect Close
   pure (make.formulas.parenthesis p f)
 
--- what stands behind a parenthesis and a formula
+-- what stands after a parenthesis and a formula
 unfoldable pub behind_first : {K T F Q : Type 0} → Trees K T F Q → Parser F → ℕ → Place → F → Parser F
 behind_first make inner turns p f = do
   implies ← eat (is_word Implies)
@@ -345,13 +345,13 @@ either make inner turns = do
     fs ← separated_from (member_of (both make inner turns)) (is_word Or) turns (j.formula ∷ [])
     pure (bare_list make make.formulas.disjunction j.formula fs)) else pure j
 
--- the last formula of a chain, behind which no other one may stand, since it would be too deep
+-- the last formula of a chain, after which no other one may stand, since it would be too deep
 unfoldable pub last_link : {K T F Q : Type 0} → Trees K T F Q → F → Joined F → Parser F
 last_link make f j = do
   further ← look false (is_word Implies)
   if further then fail Deep else pure (make.formulas.implication (make.formulas.place_of f) f j.formula)
 
--- what a formula implies in turn, behind an `implies`; `inner` is the parser of the formulas of each depth
+-- what a formula implies in turn, after an `implies`; `inner` is the parser of the formulas of each depth
 unfoldable pub chained : {K T F Q : Type 0} → Trees K T F Q → (ℕ → Parser F) → ℕ → ℕ → F → Parser F
 chained make inner depth zero f = fail Syntax
 chained make inner depth (suc turns) f = do
@@ -362,7 +362,7 @@ chained make inner depth (suc turns) f = do
       g ← chained make inner (depth - 1) turns j.formula
       pure (make.formulas.implication (make.formulas.place_of f) f g)) else pure (make.formulas.implication (make.formulas.place_of f) f j.formula))
 
--- one of these, or what it implies behind it
+-- one of these, or what it implies after it
 unfoldable pub whole : {K T F Q : Type 0} → Trees K T F Q → (ℕ → Parser F) → ℕ → ℕ → Parser (Joined F)
 whole make inner depth turns = do
   j ← either make (inner depth) turns
@@ -375,7 +375,7 @@ whole make inner depth turns = do
 abbrev pub closed : {K T F Q : Type 0} → Trees K T F Q → Place → Joined F → F
 closed make p j = if j.bare then make.formulas.at_place p j.formula else make.formulas.parenthesis p j.formula
 
--- behind the parenthesis
+-- after the parenthesis
 unfoldable pub closed_whole : {K T F Q : Type 0} → Trees K T F Q → Parser (Joined F) → Place → Parser F
 closed_whole make inner p = do
   j ← inner
@@ -389,7 +389,7 @@ enclosed_whole make inner depth turns p = do
 
 -- ---- quantifiers of several names
 
--- the names of a quantifier, behind those found
+-- the names of a quantifier, after those found
 abbrev pub names_from : ℕ → List (Identifier × Place) → Parser (List (Identifier × Place))
 names_from turns found = separated_from name (is_symbol Comma) turns found
 
@@ -402,7 +402,7 @@ abbrev pub each_bound : {F : Type 0} → (Place → RawColumn → F → F) → P
 each_bound bind p [] f = f
 each_bound bind p (c ∷ cs) f = bind p c (each_bound bind p cs f)
 
--- the binders of a quantifier, behind its word
+-- the binders of a quantifier, after its word
 unfoldable pub binders_rule : ℕ → Parser (List RawColumn)
 binders_rule turns = do
   ns ← names_from turns []
@@ -410,7 +410,7 @@ binders_rule turns = do
   s ← sort
   pure (map (column_at s) ns)
 
--- a quantifier behind its word; each of its names counts for the depth, one of them already
+-- a quantifier after its word; each of its names counts for the depth, one of them already
 unfoldable pub quantified : {F : Type 0} → (Place → RawColumn → F → F) → (ℕ → Parser F) → ℕ → ℕ → Place → Parser F
 quantified bind inner depth turns p = do
   cs ← binders_rule turns
@@ -433,7 +433,7 @@ abbrev pub is_hole_token : Token → Bool
 is_hole_token hole_token = true
 is_hole_token _ = false
 
--- a formula that begins so, with others inside that are read so, and what stands behind a name
+-- a formula that begins so, with others inside that are read so, and what stands after a name
 abbrev pub started : {K T F Q : Type 0} → Trees K T F Q → (Identifier → Place → Parser F) → Parser F → ℕ → Place → Start → Parser F
 started make behind inner turns p by_not = negated make inner p
 started make behind inner turns p by_exists = existing make inner p
@@ -468,7 +468,7 @@ wide_formula_over make behind inner depth turns = do
     s ← look by_term (λ t. start_of t.token)
     started_wide make behind inner depth turns p s)
 
--- what a grammar has behind a name that begins a formula, from the parser of the formulas inside and a bound on the turns of each list
+-- what a grammar has after a name that begins a formula, from the parser of the formulas inside and a bound on the turns of each list
 abbrev pub BehindName : Type 0 → Type 0
 BehindName F = Parser F → ℕ → Identifier → Place → Parser F
 
@@ -492,7 +492,7 @@ query_over make inner turns = do
 unfoldable pub query_with : {K T F Q : Type 0} → Trees K T F Q → BehindName F → ℕ → Parser Q
 query_with make behind turns = query_over make (formula_with make behind 64 turns) turns
 
--- behind a name nothing stands but an atom or a term
+-- after a name nothing stands but an atom or a term
 abbrev pub plainly : {K T F Q : Type 0} → Trees K T F Q → BehindName F
 plainly make inner turns = behind_name false make turns
 
@@ -534,11 +534,11 @@ definition_with make behind turns = do
   expect Semicolon
   pure (record { name = n.0; place = n.1; columns = cs; body = f })
 
--- those that come first, behind those found
+-- those that come first, after those found
 unfoldable pub definitions_from : {K T F Q : Type 0} → Trees K T F Q → WideBehindName F → ℕ → ℕ → List (Definition F) → Parser (List (Definition F))
 definitions_from make behind zero turns found = fail Syntax
 definitions_from make behind (suc n) turns found = do
-  defines ← look false (is_named define_word)
+  defines ← look false (is_token_named define_word)
   if defines then (do
     d ← definition_with make behind turns
     definitions_from make behind n turns (found ++ d ∷ [])) else pure found

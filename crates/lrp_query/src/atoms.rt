@@ -35,7 +35,7 @@ fn read_op(tokens: &mut TokenCursor<'_>) -> Result<Op, Fault>
     Ok(op)
 }
 
-// The point behind a term and `in`.
+// The point after a term and `in`.
 #[tactic(auto, unfolding(crate::specs::Rules::point))]
 fn read_point(tokens: &mut TokenCursor<'_>, term: RawTerm) -> Result<RawFormula, Fault>
     ensures value { ReadsAs raw_form_of (point meant term tokens.old) result
@@ -53,7 +53,7 @@ fn read_point(tokens: &mut TokenCursor<'_>, term: RawTerm) -> Result<RawFormula,
     Ok(trees::membership(term, point))
 }
 
-// The comparison behind a term.
+// The comparison after a term.
 #[tactic(auto, unfolding(crate::specs::Rules::comparing))]
 fn read_comparison(
     alloc: Global,
@@ -69,7 +69,7 @@ fn read_comparison(
     Ok(trees::comparison(left, op, right))
 }
 
-// The `!=` behind a term, of which the sign is read.
+// The `!=` after a term, of which the sign is read.
 #[tactic(auto, unfolding(crate::specs::Rules::differing))]
 fn read_difference(
     alloc: Global,
@@ -84,7 +84,7 @@ fn read_difference(
     Ok(trees::difference(alloc, left, right)?)
 }
 
-// What stands behind the first term of a comparison or of an `in`; where the flag is set, a `!=` may.
+// What stands after the first term of a comparison or of an `in`; where the flag is set, a `!=` may.
 #[tactic(auto, unfolding(crate::specs::Rules::tested))]
 fn read_test(
     alloc: Global,
@@ -105,7 +105,7 @@ fn read_test(
     read_comparison(alloc, tokens, left)
 }
 
-// The terms of an atom and its parenthesis, behind its name and the first parenthesis.
+// The terms of an atom and its parenthesis, after its name and the first parenthesis.
 #[tactic(auto, unfolding(crate::specs::Rules::atom_terms))]
 fn read_atom(
     alloc: Global,
@@ -124,7 +124,7 @@ fn read_atom(
     Ok(trees::atom(place, relation, terms))
 }
 
-/// Reads what stands behind a name that begins a formula, the name being given: an atom, a comparison or an `in`.
+/// Reads what stands after a name that begins a formula, the name being given: an atom, a comparison or an `in`.
 #[tactic(auto, unfolding(crate::specs::Rules::behind_name))]
 pub fn read_behind_name(
     alloc: Global,

@@ -3,7 +3,7 @@ ghost use Rattle.std.specs.Prelude.{◌≡◌, ◌<◌, ◌≤◌, ◌-◌, ◌�
 ghost use Rattle.lrp_text.specs.Parsers.{Reads};
 ghost use Rattle.lrp_query.specs.Reading.{ReadsEach};
 ghost use Rattle.lrp_query.specs.Rules.{binders_rule, column_at, names_from};
-ghost use Rattle.lrp_query.specs.Grammars.{named_at};
+ghost use Rattle.lrp_query.specs.Grammars.{name_and_place};
 
 use lrp_model::{Copies, Fault, List, Memory, Name, Place, RawColumn, Sort, Symbol};
 use lrp_text::{TokenCursor, sort};
@@ -16,7 +16,7 @@ struct PlacedName {
     place: Place,
 }
 
-// One more name behind the others.
+// One more name after the others.
 fn add(names: &mut Vec<PlacedName>, one: PlacedName) -> Result<(), Memory>
     ensures { OnOk result (names.new.items ≡ names.old.items ++ one ∷ []) }
 {
@@ -25,7 +25,7 @@ fn add(names: &mut Vec<PlacedName>, one: PlacedName) -> Result<(), Memory>
 
 // One name or more, with commas between.
 fn read_names(alloc: Global, tokens: &mut TokenCursor<'_>) -> Result<Vec<PlacedName>, Fault>
-    ensures value { (turns : ℕ) → length tokens.old < turns → ReadsEach named_at
+    ensures value { (turns : ℕ) → length tokens.old < turns → ReadsEach name_and_place
         (names_from turns [] tokens.old) result tokens.new }
     ensures shorter { IfOk result (λ _. length tokens.new ≤ length tokens.old) }
     ensures some { IfOk result (λ names. 0 < length names.items) }
@@ -47,7 +47,7 @@ fn column_of(
     sort: &Sort,
     sort_place: Place,
 ) -> Result<RawColumn, Memory>
-    ensures { IfOk result (λ made. made ≡ column_at (sort.now, sort_place) (named_at one.now)) }
+    ensures { IfOk result (λ made. made ≡ column_at (sort.now, sort_place) (name_and_place one.now)) }
 {
     Ok(RawColumn {
         name: one.name.copy(alloc)?,
@@ -65,7 +65,7 @@ fn columns_of(
     sort_place: Place,
 ) -> Result<List<RawColumn>, Memory>
     ensures { IfOk result (λ made. made ≡ map (column_at (sort.now, sort_place))
-        (map named_at names.now)) }
+        (map name_and_place names.now)) }
 {
     let mut columns = List::from_vec(Vec::with_capacity(alloc, names.len())?);
     for one in names {
@@ -74,7 +74,7 @@ fn columns_of(
     Ok(columns)
 }
 
-/// The binders of a quantifier, behind its word: one name or more, a colon and a sort.
+/// The binders of a quantifier, after its word: one name or more, a colon and a sort.
 #[tactic(auto, unfolding(crate::specs::Rules::binders_rule))]
 pub fn read_binders(alloc: Global, tokens: &mut TokenCursor<'_>) -> Result<List<RawColumn>, Fault>
     ensures value { (turns : ℕ) → length tokens.old < turns

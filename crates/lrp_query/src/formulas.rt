@@ -5,7 +5,7 @@ ghost use Rattle.lrp_text.specs.Taking.{is_word};
 ghost use Rattle.lrp_query.specs.Reading.{ReadsAs, ReadsEach};
 ghost use Rattle.lrp_query.specs.Rules.{named, negated, behind_first, alone, implying, conjoined, disjoined};
 ghost use Rattle.lrp_query.specs.OperatorRules.{closed_by, ranged_parts, paired_parts};
-ghost use Rattle.lrp_query.specs.Grammars.{meant, operators_in, behind_at, existing_at, holding_at, enclosed_at, formula_in, formulas_in, part_in, whole_in, joined_of, bound_by};
+ghost use Rattle.lrp_query.specs.Grammars.{meant, operators_in, behind_at, existing_at, holding_at, enclosed_at, formula_in, formulas_in, part_in, whole_in, joined_of, quantified_by};
 ghost use Rattle.lrp_query.specs.Rules.{both, either, chained, member_of, quantified, closed_whole};
 ghost use Rattle.lrp_model.specs.RawQueries.{raw_form_of};
 
@@ -64,7 +64,7 @@ fn members_from(alloc: Global, first: RawFormula) -> Result<Vec<RawFormula>, Mem
     Ok(all)
 }
 
-// One more member behind the others.
+// One more member after the others.
 fn add(all: &mut Vec<RawFormula>, one: RawFormula) -> Result<(), Memory>
     ensures { IfOk result (λ _. map raw_form_of all.new.items ≡ map raw_form_of all.old.items
         ++ raw_form_of one ∷ []) }
@@ -190,7 +190,7 @@ fn read_enclosed<G: Grammar>(
     read_behind_first::<G>(alloc, tokens, depth, place, first)
 }
 
-// What stands behind a parenthesis and a formula.
+// What stands after a parenthesis and a formula.
 #[cycle(reading)]
 #[tactic(auto, unfolding(crate::specs::Rules::behind_first))]
 fn read_behind_first<G: Grammar>(
@@ -274,7 +274,7 @@ fn read_disjunction<G: Grammar>(
     Ok(trees::disjunction(place, of))
 }
 
-// The members behind a reserved word that stands between them, and the first one before these.
+// The members after a reserved word that stands between them, and the first one before these.
 #[cycle(reading)]
 fn read_members<G: Grammar>(
     alloc: Global,
@@ -315,7 +315,7 @@ fn read_named<G: Grammar>(
     read_behind::<G>(alloc, tokens, depth, name, place)
 }
 
-// What stands behind a name that begins a formula: an operator where another name follows.
+// What stands after a name that begins a formula: an operator where another name follows.
 #[cycle(reading)]
 fn read_behind<G: Grammar>(
     alloc: Global,
@@ -339,7 +339,7 @@ fn read_behind<G: Grammar>(
     }
 }
 
-// An operator with an interval, behind its first word.
+// An operator with an interval, after its first word.
 #[cycle(reading)]
 #[tactic(auto, unfolding(crate::specs::OperatorRules::ranged_parts))]
 fn read_ranged<G: Grammar>(
@@ -365,7 +365,7 @@ fn read_ranged<G: Grammar>(
     Ok(trees::ranged(alloc, word, opening, ends, of)?)
 }
 
-// An operator over two formulas, behind its first word.
+// An operator over two formulas, after its first word.
 #[cycle(reading)]
 #[tactic(auto, unfolding(crate::specs::OperatorRules::paired_parts))]
 fn read_paired<G: Grammar>(
@@ -391,7 +391,7 @@ fn read_paired<G: Grammar>(
     Ok(trees::paired(alloc, word, opening, left, right)?)
 }
 
-// A formula and the symbol behind it.
+// A formula and the symbol after it.
 #[cycle(reading)]
 #[tactic(auto, unfolding(crate::specs::OperatorRules::closed_by))]
 fn read_closed<G: Grammar>(
@@ -428,7 +428,7 @@ pub fn read_part<G: Grammar>(
     Ok(formula)
 }
 
-// A formula behind a parenthesis, and the one that ends it: a list or an implication has their place.
+// A formula after a parenthesis, and the one that ends it: a list or an implication has their place.
 #[cycle(reading)]
 #[tactic(auto, unfolding(crate::specs::Rules::enclosed_whole))]
 fn read_closed_whole<G: Grammar>(
@@ -501,7 +501,7 @@ fn read_either<G: Grammar>(
     Ok(bare(trees::disjunction(place, of)))
 }
 
-// The members behind the first `or`, and the first one before these.
+// The members after the first `or`, and the first one before these.
 #[cycle(reading)]
 fn read_alternatives<G: Grammar>(
     alloc: Global,
@@ -526,7 +526,7 @@ fn read_alternatives<G: Grammar>(
     }
 }
 
-// One of these, or what it implies behind it.
+// One of these, or what it implies after it.
 #[cycle(reading)]
 #[tactic(auto, unfolding(crate::specs::Rules::whole))]
 fn read_whole<G: Grammar>(
@@ -546,7 +546,7 @@ fn read_whole<G: Grammar>(
     Ok(bare(read_chain::<G>(alloc, tokens, depth, formula)?))
 }
 
-// What a formula implies in turn, behind an `implies`; behind each further one the depth is one more.
+// What a formula implies in turn, after an `implies`; after each further one the depth is one more.
 #[cycle(reading)]
 #[tactic(auto, unfolding(crate::specs::Rules::chained))]
 fn read_chain<G: Grammar>(
@@ -572,7 +572,7 @@ fn read_chain<G: Grammar>(
     Ok(trees::implied(alloc, place, left, right)?)
 }
 
-// A quantifier behind its word: its names, their sort, and its formula. Each name counts for the depth, one of them already.
+// A quantifier after its word: its names, their sort, and its formula. Each name counts for the depth, one of them already.
 #[cycle(reading)]
 #[tactic(auto, unfolding(crate::specs::Rules::quantified))]
 fn read_quantified<G: Grammar>(
@@ -583,7 +583,7 @@ fn read_quantified<G: Grammar>(
     place: Place,
 ) -> Result<RawFormula, Fault>
     ensures value { (turns : ℕ) → length tokens.old < turns
-        → ReadsAs raw_form_of (quantified (bound_by quantifier) (formulas_in G.language turns)
+        → ReadsAs raw_form_of (quantified (quantified_by quantifier) (formulas_in G.language turns)
         depth turns place tokens.old) result tokens.new }
     ensures fewer { IfOk result (λ _. length tokens.new < length tokens.old) }
 {

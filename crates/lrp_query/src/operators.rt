@@ -9,7 +9,7 @@ use lrp_model::{Fault, Name, Place, Symbol};
 use lrp_text::{TokenCursor, integer};
 use std::alloc::Global;
 
-/// The ends of an interval, behind a parenthesis.
+/// The ends of an interval, after a parenthesis.
 #[tactic(auto, unfolding(crate::specs::OperatorRules::ends))]
 pub fn read_ends(tokens: &mut TokenCursor<'_>) -> Result<(i64, i64), Fault>
     ensures value { Reads (ends_rule integer_of tokens.old) result tokens.new }

@@ -50,7 +50,7 @@ fn refusal(kind: Fault, place: Place) -> QueryRead
     }
 }
 
-// The query of some tokens, and the end behind it.
+// The query of some tokens, and the end after it.
 #[tactic(auto, unfolding(crate::specs::Rules::query_over))]
 fn read_tokens<G: Grammar>(alloc: Global, tokens: &mut TokenCursor<'_>) -> Result<RawQuery, Fault>
     ensures { (turns : ℕ) → length tokens.old < turns → ReadsAs raw_question_of
@@ -132,7 +132,7 @@ fn read_definition(alloc: Global, tokens: &mut TokenCursor<'_>) -> Result<RawDef
     })
 }
 
-// One more definition behind the others.
+// One more definition after the others.
 fn add(definitions: &mut Vec<RawDefinition>, one: RawDefinition) -> Result<(), Memory>
     ensures { OnOk result (definitions.new.items ≡ definitions.old.items ++ one ∷ []) }
 {
@@ -156,7 +156,7 @@ fn read_definitions(
     Ok(found)
 }
 
-// The definitions and the query of some tokens, and the end behind them.
+// The definitions and the query of some tokens, and the end after them.
 #[tactic(auto, unfolding(crate::specs::Rules::file_with))]
 fn read_file_tokens(alloc: Global, tokens: &mut TokenCursor<'_>) -> Result<RawFile, Fault>
     ensures { (turns : ℕ) → length tokens.old < turns → ReadsAs raw_file_of

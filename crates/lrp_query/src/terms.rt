@@ -111,7 +111,7 @@ fn terms_from(alloc: Global, first: RawTerm, room: usize) -> Result<List<RawTerm
     Ok(found)
 }
 
-// The terms behind a comma, and the first one before these.
+// The terms after a comma, and the first one before these.
 fn read_more_terms(
     alloc: Global,
     tokens: &mut TokenCursor<'_>,

@@ -2,7 +2,7 @@
 ghost use Rattle.std.specs.Prelude.{◌≡◌, ℕ, map, IfOk};
 ghost use Rattle.lrp_model.specs.declared.written.Integer.{Integer};
 ghost use Rattle.lrp_model.specs.RawQueries.{raw_form_of, raw_ranged, raw_paired};
-ghost use Rattle.lrp_query.specs.Grammars.{meant, opened_operator, bound_by};
+ghost use Rattle.lrp_query.specs.Grammars.{meant, opened_operator, quantified_by};
 ghost use Rattle.lrp_query.specs.Rules.{point_of, each_bound};
 
 use crate::words::Opening;
@@ -153,7 +153,7 @@ fn bound_once(
     of: RawFormula,
 ) -> Result<RawFormula, Memory>
     ensures { IfOk result (λ made. raw_form_of made
-        ≡ bound_by quantifier place binder (raw_form_of of)) }
+        ≡ quantified_by quantifier place binder (raw_form_of of)) }
 {
     match quantifier {
         Quantifier::Existential => some(alloc, place, binder, of),
@@ -170,7 +170,7 @@ pub fn bound(
     of: RawFormula,
 ) -> Result<RawFormula, Memory>
     ensures { IfOk result (λ made. raw_form_of made
-        ≡ each_bound (bound_by quantifier) place binders (raw_form_of of)) }
+        ≡ each_bound (quantified_by quantifier) place binders (raw_form_of of)) }
 {
     let mut left = binders.into_vec();
     let mut made = of;

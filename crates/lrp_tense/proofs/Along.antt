@@ -64,7 +64,7 @@ ranked_is f xs h = same_from f (ranked xs) (operator_number_in xs) (gives_ranked
 
 -- ---- as they are met
 
--- a place behind others
+-- a place after others
 stands : (before : List Place) (p : Place) (ps : List Place) → get_or (map position_of (before ++ p ∷ ps)) (length before) 0 ≡ position_of p
 stands [] p ps = refl
 stands (b ∷ bs) p ps = stands bs p ps
@@ -90,7 +90,7 @@ never_falls xs rises = IsNonDecreasingBy-from_all_adjacent (λ x. x) xs (λ k d 
     let b : get_or xs (k + 1) d ≡ get_or xs (k + 1) 0 = get_or_default xs (k + 1) d 0 lt in
     omega (arith, r, a, b))
 
--- behind places, where operators are numbered as they are met
+-- after places, where operators are numbered as they are met
 pub met_all : (xs ps : List Place) → behind_all (met xs) ps ≡ met (xs ++ ps)
 met_all xs [] = sym (ap met (append-nil xs))
 met_all xs (p ∷ ps) = met_all (xs ++ p ∷ []) ps ∙ ap met (append_assoc xs (p ∷ []) ps)

@@ -17,6 +17,7 @@ use Rattle.lrp_model.specs.RawQueries.{Operator, RawForm, RawForms, RawQuestion,
 use Rattle.lrp_tense.specs.Meaning.{operator_variable, TenseSatisfies, TenseSatisfiesAll, TenseSatisfiesSome}
 use Rattle.lrp_tense.specs.Expanding.{operators, operators_each, Naming, present_name, renamed, renamed_to, IsPlain, moment_of, between_of, time_binder, name_term, expanded, expanded_each, expanded_question, operator_number, HasPlainNames, HavePlainNames, IsExpandable}
 use Rattle.lrp_tense.specs.Laws.{KeepsMeaning}
+use Rattle.lrp_tense.proofs.SameTexts.{same_structure}
 use Rattle.lrp_tense.proofs.Iff.{both_iff, two_iff, three_iff, imply_iff, not_iff, either_iff, some_iff, each_iff, some_time, each_time, le_iff, lt_iff, plus_zero, plus_end}
 use Rattle.lrp_tense.proofs.Timely.{IsTimely, AreTimely, shifted_times, are_times, timely_body}
 use Rattle.lrp_tense.proofs.Numbering.{are_numbered}
@@ -185,5 +186,8 @@ itself : (bs : Binders) (env : Assignment) → Follows [] bs bs env env
 itself bs env = record { sorts = λ w p. refl; times = λ w p e. refl; texts = λ w p e. refl }
 
 pub kept_meaning : (q : RawQuestion) → IsExpandable q → length (operators q.body) < 2 ^ 64 → KeepsMeaning q (expanded_question q)
-kept_meaning q h small db well M env =
-    same_meaning q.body (operator_number (operators q.body)) [] (reverse q.head) (reverse q.head) M env env h.names (are_numbered (operators q.body) small h.places) (nothing_apart (operator_number (operators q.body)) (operators q.body)) (timely_body db (expanded_question q) well) (itself (reverse q.head) env)
+kept_meaning q h small db well = record {
+  texts = same_structure q h small db well;
+  satisfied = λ M env.
+      same_meaning q.body (operator_number (operators q.body)) [] (reverse q.head) (reverse q.head) M env env h.names (are_numbered (operators q.body) small h.places) (nothing_apart (operator_number (operators q.body)) (operators q.body)) (timely_body db (expanded_question q) well) (itself (reverse q.head) env);
+}

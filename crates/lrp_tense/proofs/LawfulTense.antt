@@ -311,7 +311,7 @@ places_taken (p ∷ ps) [] left h = absurd h
 places_taken (at p k ∷ ps) (t ∷ ts) left h = subst (λ x. Some (x ∷ at_places ps) (t.place ∷ map place_at ts)) h.0.1 (kept t.place (at_places ps) (map place_at ts) (places_taken ps ts left h.1))
 places_taken (any k ∷ ps) (t ∷ ts) left h = past t.place (at_places ps) (map place_at ts) (places_taken ps ts left h.1)
 
--- of one list of parts and of another behind it
+-- of one list of parts and of another after it
 pub both_some : (xs us : List Place) (ps qs : List Part) → Some xs (at_places ps) → Some us (at_places qs) → Some (xs ++ us) (at_places (ps ++ qs))
 both_some xs us ps qs s t = subst (Some (xs ++ us)) (sym (places_join ps qs)) (some_join xs (at_places ps) us (at_places qs) s t)
 

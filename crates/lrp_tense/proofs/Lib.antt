@@ -4,7 +4,10 @@ mod Numbering
 pub mod Timely
 pub mod Terms
 pub mod Iff
+pub mod HeadNames
+mod SameTexts
 mod Law
+pub mod SameAnswers
 mod Unchanged
 pub mod NoOperators
 pub mod TokenPlaces

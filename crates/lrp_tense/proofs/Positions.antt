@@ -47,7 +47,7 @@ counted_first t x xs = sum_by-cons (λ y. cond (t y) 1 0) x xs ∙ at_test (t x)
     at_test true n = omega arith
     at_test false n = omega arith
 
--- where all before a point pass a test and none behind it, the point is how many pass it
+-- where all before a point pass a test and none after it, the point is how many pass it
 pub count_point : (t : ℕ → Bool) (xs : List ℕ) (i : ℕ) → i ≤ length xs → ((k : ℕ) → k < i → t (get_or xs k 0) ≡ true) → ((k : ℕ) → i ≤ k → k < length xs → t (get_or xs k 0) ≡ false) → count_by t xs ≡ i
 count_point t [] i le yes' no' = omega (arith, le)
 count_point t (x ∷ xs) zero le yes' no' =

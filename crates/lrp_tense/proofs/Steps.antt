@@ -1,5 +1,5 @@
 -- Formulas one after another: gathered, and written out.
-use Rattle.std.proofs.Common.{◌≡◌, ◌+◌, ◌<◌, ℕ, ℤ, suc, cond, arith, List, [], ◌∷◌, ◌++◌, Vec, Box, Global, length, take, get_or, refl, ap, ap₂, sym, ◌∙◌, append_assoc, append-nil, rules}
+use Rattle.std.proofs.Common.{◌≡◌, ◌+◌, ◌<◌, ℕ, suc, cond, arith, List, [], ◌∷◌, ◌++◌, Vec, Box, Global, length, take, get_or, refl, ap, ap₂, sym, ◌∙◌, append_assoc, append-nil}
 use Rattle.std.specs.Prelude.{reverse, Result, Ok, Err, IfOk, OnOk}
 use Rattle.std.specs.Str.{bytes_eq}
 use Rattle.std.proofs.lemmas.List.{take_more, reverse-append, length-reverse}
@@ -11,13 +11,13 @@ use Rattle.lrp_model.specs.declared.raw.RawFormula.{RawFormula}
 use Rattle.lrp_model.specs.declared.raw.RawKind.{And, Or, Implies, Paired as PairKind}
 use Rattle.lrp_model.specs.declared.raw.Paired.{Paired}
 use Rattle.lrp_tense.specs.declared.written_operators.PairOperator.{PairOperator}
-use Rattle.lrp_tense.specs.declared.expansion.Begun.{Begun}
+use Rattle.lrp_tense.specs.declared.expansion.BegunPair.{BegunPair}
 use Rattle.lrp_tense.specs.Expanding.{Naming, Renaming, present_name, operators, operators_each, moment_name, between_name, form_of_pair}
 use Rattle.lrp_tense.specs.Named.{naming_of}
 use Rattle.lrp_tense.specs.Numbers.{Numbers, next_number, behind_one, behind_all, expanded_from, each_from}
 use Rattle.lrp_tense.specs.Scopes.{ScopeView, inside_variable, past, past_one, past_each, expanded_in, each_in}
 use Rattle.lrp_tense.specs.Written.{operator_of, form_inside, pair_of}
-use Rattle.lrp_tense.specs.Begun.{IsBegun, pair_begun}
+use Rattle.lrp_tense.specs.BegunPair.{IsBegun, pair_begun}
 use Rattle.lrp_model.proofs.RawViews.{raw_kind-And, raw_kind-Or, raw_kind-Implies, raw_kind-Paired}
 
 -- ---- members of a node
@@ -30,7 +30,7 @@ and_node f v fs a e i = ap (λ l. raw_and f.place (each_in a (raw_forms_of l))) 
 pub or_node : (f : RawFormula) (v : Vec RawFormula Global) (fs : List RawFormula) (a : ScopeView) → f.kind ≡ Or v → fs ≡ v.items → raw_or f.place (each_in a (raw_forms_of fs)) ≡ expanded_in a (raw_form_of f)
 or_node f v fs a e i = ap (λ l. raw_or f.place (each_in a (raw_forms_of l))) i ∙ sym (ap (λ k. expanded_in a (raw_kind k f.place)) e ∙ ap (expanded_in a) (raw_kind-Or v f.place))
 
--- behind them
+-- after them
 pub and_past : (f : RawFormula) (v : Vec RawFormula Global) (fs : List RawFormula) (a : ScopeView) → f.kind ≡ And v → fs ≡ v.items → past_each a (raw_forms_of fs) ≡ past a (raw_form_of f)
 and_past f v fs a e i = ap (λ l. past_each a (raw_forms_of l)) i ∙ sym (ap (λ k. past a (raw_kind k f.place)) e ∙ ap (past a) (raw_kind-And v f.place))
 
@@ -68,12 +68,12 @@ unfolding raws_joined
 operators_join no_raws gs = refl
 operators_join (raw f fs) gs = ap (λ x. operators f ++ x) (operators_join fs gs) ∙ sym (append_assoc (operators f) (operators_each fs) (operators_each gs))
 
--- behind some operators and then others
+-- after some operators and then others
 pub behind_append : (n : Numbers) (xs ys : List Place) → behind_all n (xs ++ ys) ≡ behind_all (behind_all n xs) ys
 behind_append n [] ys = refl
 behind_append n (x ∷ xs) ys = behind_append (behind_one n x) xs ys
 
--- behind the formulas so far, and one more
+-- after the formulas so far, and one more
 pub past_step : (fs : List RawFormula) (i : ℕ) (f : RawFormula) (a b c : ScopeView) → i < length fs → f ≡ get_or fs i f → b ≡ past_each a (raw_forms_of (take i fs)) → c ≡ past b (raw_form_of f) → c ≡ past_each a (raw_forms_of (take (i + 1) fs))
 past_step fs i f a b c lt is e h =
     let one : operators_each (raw_forms_of (take (i + 1) fs)) ≡ operators_each (raw_forms_of (take i fs)) ++ operators (raw_form_of f) =
@@ -124,7 +124,7 @@ pub implies_node : (f l r : RawFormula) (left right : Box RawFormula Global) →
 implies_node f l r left right e el er =
     ap₂ (λ x y. raw_implies f.place (raw_form_of x) (raw_form_of y)) el er ∙ sym (ap (λ k. raw_kind k f.place) e ∙ raw_kind-Implies left right f.place)
 
--- an implication whose parts are expanded one behind the other
+-- an implication whose parts are expanded one after the other
 pub implies_joined : (s t : ScopeView) (p : Place) (f g : RawForm) (x : RawForm) → t ≡ past s f → x ≡ expanded_in s f → raw_implies p x (expanded_in t g) ≡ expanded_in s (raw_implies p f g)
 implies_joined s t p f g x e h = ap₂ (λ y a. raw_implies p y (expanded_in a g)) h e
 
@@ -153,7 +153,7 @@ pair_next : (word : Paired) (s : ScopeView) (o : Operator) (f g : RawForm)
 pair_next word s o f g = refl
 
 -- the second formula expanded too, they are the operator's
-pub pair_joined : (s t : ScopeView) (p : PairOperator) (b : Begun) (f g : RawForm) → IsBegun s p f b → t ≡ past (past_one s p.at.places.place) f → pair_begun t p b g ≡ expanded_in s (pair_of p f g)
+pub pair_joined : (s t : ScopeView) (p : PairOperator) (b : BegunPair) (f g : RawForm) → IsBegun s p f b → t ≡ past (past_one s p.at.places.place) f → pair_begun t p b g ≡ expanded_in s (pair_of p f g)
 pair_joined s t p b f g h e =
     let n : Identifier = p.at.name.now in
     let form : ScopeView → Identifier → Identifier → RawForm → RawForm =

@@ -60,7 +60,7 @@ plain_name (b ∷ bs) name =
 
 -- ---- places
 
--- at a place or behind it
+-- at a place or after it
 abbrev pub IsReached : Place → Place → Type 0
 IsReached p q = (p ≡ q) ⊎ IsEarlier p q
 
@@ -191,7 +191,7 @@ same_bytes end_token [] g h = absurd g
 same_bytes bad_token [] g h = absurd g
 same_bytes k (b ∷ bs) g h = tt
 
--- a token with bytes, and those behind it
+-- a token with bytes, and those after it
 follow : (p q : Place) (taken : List ℕ) (rest : List Place) → IsReached p q → HasBytes hole_token taken → RisesFrom (after q taken) rest → RisesFrom p (q ∷ rest)
 unfolding after
 follow p q [] rest r h a = absurd h
@@ -199,7 +199,7 @@ follow p q (b ∷ bs) rest r h a =
     let later : IsEarlier q (after (moved q b) bs) = earlier_through q (moved q b) (after (moved q b) bs) (one_moves q b) (all_reached (moved q b) bs) in
     ((r, reached_all p (after (moved q b) bs) rest (inr (reached_earlier p q (after (moved q b) bs) r later)) a.0), (earlier_all q (after (moved q b) bs) rest later a.0, a.1))
 
--- a token and those behind it
+-- a token and those after it
 headed_rises : (p q : Place) (s : Scanned) (k : Token) (rest : Tokens) → IsReached p q → HasBytes k s.taken → RisesFrom (after q s.taken) (map place_at rest) → RisesFrom p (map place_at (headed q s k rest))
 headed_rises p q s end_token rest r h a = ((r, tt), (tt, tt))
 headed_rises p q s bad_token rest r h a = ((reached_through p q (after q s.taken) r (all_reached q s.taken), tt), (tt, tt))
@@ -256,7 +256,7 @@ pub some_none : (ys : List Place) → Some [] ys
 some_none [] = none
 some_none (y ∷ ys) = past y [] ys (some_none ys)
 
--- of one list and of another behind it
+-- of one list and of another after it
 pub some_join : (xs ys us vs : List Place) → Some xs ys → Some us vs → Some (xs ++ us) (ys ++ vs)
 some_join _ _ us vs none t = t
 some_join _ _ us vs (past y xs ys s) t = past y (xs ++ us) (ys ++ vs) (some_join xs ys us vs s t)

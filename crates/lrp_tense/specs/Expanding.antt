@@ -95,8 +95,8 @@ name_term p n = record { kind = Var n; place = p }
 abbrev pub moved_term : Place → Identifier → ℤ → RawTerm
 moved_term p n plus = record { kind = Shifted n plus; place = p }
 
-abbrev pub both : Place → RawForm → RawForm → RawForm
-both p f g = raw_and p (raw f (raw g no_raws))
+abbrev pub both_forms : Place → RawForm → RawForm → RawForm
+both_forms p f g = raw_and p (raw f (raw g no_raws))
 
 abbrev pub all_three : Place → RawForm → RawForm → RawForm → RawForm
 all_three p f g h = raw_and p (raw f (raw g (raw h no_raws)))
@@ -119,11 +119,11 @@ once_form o x v from to f = raw_exists o.place (time_binder o.place x) (all_thre
 
 -- forall x: time ((x >= v + from and x <= v + to) implies f)
 abbrev pub always_form : Operator → Identifier → Identifier → ℤ → ℤ → RawForm → RawForm
-always_form o x v from to f = raw_forall o.place (time_binder o.place x) (raw_implies o.place (both o.place (beside_end o x Ge v from) (beside_end o x Le v to)) f)
+always_form o x v from to f = raw_forall o.place (time_binder o.place x) (raw_implies o.place (both_forms o.place (beside_end o x Ge v from) (beside_end o x Le v to)) f)
 
 -- forall y: time ((first and second) implies f)
 abbrev pub between_form : Operator → Identifier → RawForm → RawForm → RawForm → RawForm
-between_form o y first second f = raw_forall o.place (time_binder o.place y) (raw_implies o.place (both o.place first second) f)
+between_form o y first second f = raw_forall o.place (time_binder o.place y) (raw_implies o.place (both_forms o.place first second) f)
 
 -- exists x: time (x <= v and g and forall y: time ((y > x and y <= v) implies f))
 abbrev pub since_form : Operator → Identifier → Identifier → Identifier → RawForm → RawForm → RawForm

@@ -1,5 +1,6 @@
 -- What the contract of `run` reaches.
 pub mod Meaning
+pub mod TenseDomains
 pub mod Expanding
 pub mod Laws
 pub mod TenseReading
@@ -11,4 +12,4 @@ pub mod Counting
 pub mod Written
 pub mod Numbers
 pub mod Scopes
-pub mod Begun
+pub mod BegunPair

@@ -5,7 +5,7 @@ use Rattle.lrp_model.specs.declared.tokens.Place.{Place}
 use Rattle.lrp_tense.specs.Expanding.{operators, Naming, renamed, renamed_to, present_name, moment_name, between_name, form_of_range, form_of_pair}
 use Rattle.lrp_tense.specs.Counting.{operator_number_in}
 
--- as they are met, behind those at these places, or by the positions of all of them
+-- as they are met, after those at these places, or by the positions of all of them
 pub data Numbers : Type 0 where
   met : List Place → Numbers
   ranked : List ℕ → Numbers
@@ -15,12 +15,12 @@ abbrev pub next_number : Numbers → Place → ℕ
 next_number (met ps) p = suc (length ps)
 next_number (ranked positions) p = operator_number_in positions p
 
--- behind that operator
+-- after that operator
 abbrev pub behind_one : Numbers → Place → Numbers
 behind_one (met ps) p = met (ps ++ p ∷ [])
 behind_one (ranked positions) p = ranked positions
 
--- behind the operators at these places
+-- after the operators at these places
 abbrev pub behind_all : Numbers → List Place → Numbers
 behind_all n [] = n
 behind_all n (p ∷ ps) = behind_all (behind_one n p) ps

@@ -15,7 +15,7 @@ pub record ScopeView : Type 0 where
 abbrev pub inside_variable : ScopeView → Identifier → Identifier → ScopeView
 inside_variable a v n = record a { names = renamed_to v n ∷ a.names }
 
--- behind the operator at a place, those of a formula, and those of several
+-- after the operator at a place, those of a formula, and those of several
 abbrev pub past_one : ScopeView → Place → ScopeView
 past_one a p = record a { numbers = behind_one a.numbers p }
 

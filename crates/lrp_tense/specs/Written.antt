@@ -18,8 +18,8 @@ use Rattle.lrp_tense.specs.declared.written_out.Inside.{Inside}
 use Rattle.lrp_tense.specs.declared.written_out.Comparand.{Comparand}
 use Rattle.lrp_tense.specs.declared.written_out.Connective.{Connective}
 use Rattle.lrp_tense.specs.declared.written_out.Connective.TheVariants.{And, Or}
-use Rattle.lrp_tense.specs.declared.written_out.Quantifier.{Quantifier}
-use Rattle.lrp_tense.specs.declared.written_out.Quantifier.TheVariants.{Exists, Forall}
+use Rattle.lrp_tense.specs.declared.written_out.QuantifierKind.{QuantifierKind}
+use Rattle.lrp_tense.specs.declared.written_out.QuantifierKind.TheVariants.{Exists, Forall}
 
 -- ---- connectives and quantifiers
 
@@ -27,7 +27,7 @@ abbrev pub joined_form : Connective → Place → RawForms → RawForm
 joined_form And = raw_and
 joined_form Or = raw_or
 
-abbrev pub quantified_form : Quantifier → Place → RawColumn → RawForm → RawForm
+abbrev pub quantified_form : QuantifierKind → Place → RawColumn → RawForm → RawForm
 quantified_form Exists = raw_exists
 quantified_form Forall = raw_forall
 

@@ -7,14 +7,14 @@ ghost use Rattle.lrp_tense.specs.Laws.{KeepsMeaning};
 ghost use Rattle.lrp_tense.specs.Written.{form_inside, joined_form, quantified_form, range_of};
 ghost use Rattle.lrp_tense.specs.Numbers.{met, expanded_from};
 ghost use Rattle.lrp_tense.specs.Scopes.{expanded_in, each_in, past, past_one, past_each, inside_variable};
-ghost use Rattle.lrp_tense.specs.Begun.{IsBegun, pair_begun};
+ghost use Rattle.lrp_tense.specs.BegunPair.{IsBegun, pair_begun};
 
 use crate::counting::{is_ascending, positions_of};
 use crate::renaming::{atom, comparison, membership};
 use crate::scope::{Moments, OperatorScope};
 use crate::written_operators::{PairOperator, RangeOperator, written};
 use crate::written_out::{
-    Connective, Inside, Quantifier, boxed, denied, grouped, implied, joined, quantified,
+    Connective, Inside, QuantifierKind, boxed, denied, grouped, implied, joined, quantified,
 };
 use lrp_model::{
     Copies, Memory, Name, Paired, Place, Ranged, RawColumn, RawFormula, RawKind, RawQuery,
@@ -23,7 +23,7 @@ use std::alloc::Global;
 
 /// The name of an operator's moment, and its first formula inside its variable for each moment between.
 #[derive(Drop)]
-pub struct Begun {
+pub struct BegunPair {
     pub moment: Name,
     pub between: Inside,
 }
@@ -32,7 +32,7 @@ pub struct Begun {
 #[derive(Clone, Copy)]
 struct Binding<'a> {
     place: Place,
-    quantifier: Quantifier,
+    quantifier: QuantifierKind,
     binder: &'a RawColumn,
 }
 
@@ -148,7 +148,7 @@ fn expand_formula<'a>(
         }
         RawKind::Group { of } => expand_group(alloc, scope, place, of),
         RawKind::Exists { binder, of } => {
-            let quantifier = Quantifier::Exists;
+            let quantifier = QuantifierKind::Exists;
             let at = Binding {
                 place,
                 quantifier,
@@ -157,7 +157,7 @@ fn expand_formula<'a>(
             expand_quantified(alloc, scope, at, of)
         }
         RawKind::Forall { binder, of } => {
-            let quantifier = Quantifier::Forall;
+            let quantifier = QuantifierKind::Forall;
             let at = Binding {
                 place,
                 quantifier,
@@ -354,7 +354,7 @@ fn expand_between<'a>(
     scope: &mut OperatorScope<'a>,
     pair: PairOperator<'a>,
     of: &'a RawFormula,
-) -> Result<Begun, Memory>
+) -> Result<BegunPair, Memory>
     ensures begun { IfOk result (λ made. IsBegun scope.old pair.entry (raw_form_of of.now) made) }
     ensures scope { OnOk result (scope.new
         ≡ past (past_one scope.old pair.entry.at.places.place) (raw_form_of of.now)) }
@@ -367,7 +367,7 @@ fn expand_between<'a>(
         between,
     } = names;
     let between = expand_inside(alloc, scope, written, between, of)?;
-    Ok(Begun { moment, between })
+    Ok(BegunPair { moment, between })
 }
 
 // The operator whose first formula is expanded; the second one stands inside its moment.
@@ -376,14 +376,14 @@ fn expand_paired<'a>(
     alloc: Global,
     scope: &mut OperatorScope<'a>,
     pair: PairOperator<'a>,
-    begun: Begun,
+    begun: BegunPair,
     of: &'a RawFormula,
 ) -> Result<Box<RawFormula>, Memory>
     ensures tree { IfOk result (λ made. raw_form_of made.value
         ≡ pair_begun scope.old pair.entry begun (raw_form_of of.now)) }
     ensures scope { OnOk result (scope.new ≡ past scope.old (raw_form_of of.now)) }
 {
-    let Begun { moment, between } = begun;
+    let BegunPair { moment, between } = begun;
     let inside = expand_inside(alloc, scope, pair.at.name, moment, of)?;
     let now = scope.present(pair.at.name);
     let places = &pair.at.places;

@@ -1,8 +1,13 @@
 // What holds of expanded queries: each law is the contract of a function that does nothing.
-ghost use Rattle.std.specs.Prelude.{◌≡◌, ◌<◌, ◌^◌, ℕ, List, length};
+ghost use Rattle.std.specs.Prelude.{◌≡◌, ◌↔◌, ◌<◌, ◌^◌, ℕ, List, length};
+ghost use Rattle.lrp_model.specs.Checked.{plain_question};
 ghost use Rattle.lrp_model.specs.RawQueries.{HasNoOperator, RawQuestion};
+ghost use Rattle.lrp_model.specs.Rows.{Tuple};
+ghost use Rattle.lrp_model.specs.Satisfaction.{IsAnswer};
+ghost use Rattle.lrp_model.specs.Sorting.{IsWellSorted};
+ghost use Rattle.lrp_model.specs.declared.relations.Relation.{Relation};
 ghost use Rattle.lrp_tense.specs.Expanding.{IsExpandable, operators, expanded_question};
-ghost use Rattle.lrp_tense.specs.Laws.{KeepsMeaning};
+ghost use Rattle.lrp_tense.specs.Laws.{KeepsMeaning, IsTenseAnswer};
 ghost use Rattle.lrp_tense.specs.TenseReading.{IsTenseQuery};
 ghost use Rattle.lrp_model.specs.QueryReading.{IsQuery};
 
@@ -10,6 +15,14 @@ ghost use Rattle.lrp_model.specs.QueryReading.{IsQuery};
 pub fn expansion_keeps_meaning()
     ensures { (q : RawQuestion) → IsExpandable q → length (operators q.body) < 2 ^ 64
         → KeepsMeaning q (expanded_question q) }
+{}
+
+/// The expanded query has the answers of the written one, by the operators' own meaning.
+pub fn expansion_keeps_answers()
+    ensures { (q : RawQuestion) (relations : List Relation) (tuple : Tuple) → IsExpandable q
+        → length (operators q.body) < 2 ^ 64 → IsWellSorted relations (expanded_question q)
+        → IsAnswer relations (plain_question (expanded_question q)) tuple
+        ↔ IsTenseAnswer relations q tuple }
 {}
 
 /// A query without operators is its own expansion.

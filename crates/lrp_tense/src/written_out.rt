@@ -5,7 +5,7 @@ ghost use Rattle.std.specs.Prelude.{◌≡◌, IfOk};
 ghost use Rattle.lrp_model.specs.RawQueries.{raw_kind, raw_form_of, raw_forms_of, raw_and, raw_not, raw_group, raw_exists, raw_implies};
 ghost use Rattle.lrp_model.specs.declared.raw.Ranged.TheVariants.{Once, Always};
 ghost use Rattle.lrp_model.specs.declared.raw.Paired.TheVariants.{Since, Until};
-ghost use Rattle.lrp_tense.specs.Expanding.{time_binder as time_column, name_term, moved_term, both, all_three};
+ghost use Rattle.lrp_tense.specs.Expanding.{time_binder as time_column, name_term, moved_term, both_forms, all_three};
 ghost use Rattle.lrp_tense.specs.Written.{form_inside, each_there, term_of_bound, bounded, joined_form, quantified_form, range_at, pair_at};
 
 use lrp_model::{
@@ -36,7 +36,7 @@ pub enum Connective {
 
 /// Which quantifier.
 #[derive(Clone, Copy)]
-pub enum Quantifier {
+pub enum QuantifierKind {
     Exists,
     Forall,
 }
@@ -92,7 +92,7 @@ pub fn implied(
 pub fn quantified(
     alloc: Global,
     place: Place,
-    quantifier: Quantifier,
+    quantifier: QuantifierKind,
     binder: RawColumn,
     of: Box<RawFormula>,
 ) -> Result<Box<RawFormula>, Memory>
@@ -100,8 +100,8 @@ pub fn quantified(
         ≡ quantified_form quantifier place binder (raw_form_of of.value)) }
 {
     match quantifier {
-        Quantifier::Exists => boxed(alloc, place, RawKind::Exists { binder, of }),
-        Quantifier::Forall => boxed(alloc, place, RawKind::Forall { binder, of }),
+        QuantifierKind::Exists => boxed(alloc, place, RawKind::Exists { binder, of }),
+        QuantifierKind::Forall => boxed(alloc, place, RawKind::Forall { binder, of }),
     }
 }
 
@@ -220,7 +220,7 @@ impl OperatorPlaces {
     {
         let all = joined(alloc, self.place, Connective::And, all)?;
         let binder = time_binder(self.place, name);
-        quantified(alloc, self.place, Quantifier::Exists, binder, all)
+        quantified(alloc, self.place, QuantifierKind::Exists, binder, all)
     }
 
     // Where the variable is within both bounds, the formula inside it holds.
@@ -233,7 +233,7 @@ impl OperatorPlaces {
     ) -> Result<Inside, Memory>
         ensures name { IfOk result (λ made. made.name ≡ inside.name) }
         ensures tree { IfOk result (λ made. form_inside made
-            ≡ raw_implies self.now.place (both self.now.place
+            ≡ raw_implies self.now.place (both_forms self.now.place
             (bounded self.now inside.name low.now) (bounded self.now inside.name high.now))
             (form_inside inside)) }
     {
@@ -321,7 +321,7 @@ impl OperatorPlaces {
         let limited = self.limited(alloc, &low, &high, inside)?;
         let Inside { name, of } = limited;
         let binder = time_binder(self.place, name);
-        quantified(alloc, self.place, Quantifier::Forall, binder, of)
+        quantified(alloc, self.place, QuantifierKind::Forall, binder, of)
     }
 
     /// exists x: time (x <= v and g and forall y: time ((y > x and y <= v) implies f))

@@ -6,7 +6,7 @@ use Rattle.lrp_text.specs.Taking.{expect}
 use Rattle.lrp_text.specs.ColumnRule.{sort}
 use Rattle.lrp_text.proofs.Turns.{lifts}
 use Rattle.lrp_query.specs.Rules.{binders_rule, column_at, names_from}
-use Rattle.lrp_query.specs.Grammars.{named_at, names_of}
+use Rattle.lrp_query.specs.Grammars.{name_and_place, names_and_places}
 use Rattle.lrp_query.proofs.binders.read_binders.Goals as goal
 
 pub returns-in_err-names-clause-value : goal.returns-in_err-names-clause-value
@@ -31,12 +31,12 @@ pub returns-clause-value : goal.returns-clause-value
 unfolding binders_rule
 returns-clause-value c = λ turns lt.
     let named = map (column_at (c.in_ok-sort.sort, c.in_ok-sort.place)) in
-    rw (c.in_ok-names.ensures.value turns lt, c.in_ok-expect.ensures.value, c.in_ok-sort.ensures.value) (ap (λ cs. Ok (cs, c.sort.new.tokens)) (sym (c.in_ok-columns_of.ensures ∙ ap (λ ns. named (map named_at ns)) c.as_slice.ensures.value)))
+    rw (c.in_ok-names.ensures.value turns lt, c.in_ok-expect.ensures.value, c.in_ok-sort.ensures.value) (ap (λ cs. Ok (cs, c.sort.new.tokens)) (sym (c.in_ok-columns_of.ensures ∙ ap (λ ns. named (map name_and_place ns)) c.as_slice.ensures.value)))
 
 pub returns-clause-some : goal.returns-clause-some
 returns-clause-some c =
     let of = column_at (c.in_ok-sort.sort, c.in_ok-sort.place) in
-    let long : length c.in_ok-columns_of.field-0 ≡ length (map of (names_of c.in_ok-names.names)) = ap length (c.in_ok-columns_of.ensures ∙ ap (λ ns. map of (map named_at ns)) c.as_slice.ensures.value) in
-    let outer : length (map of (names_of c.in_ok-names.names)) ≡ length (names_of c.in_ok-names.names) = length-map (names_of c.in_ok-names.names) of in
-    let inner : length (names_of c.in_ok-names.names) ≡ length c.in_ok-names.names.items = length-map c.in_ok-names.names.items named_at in
+    let long : length c.in_ok-columns_of.field-0 ≡ length (map of (names_and_places c.in_ok-names.names)) = ap length (c.in_ok-columns_of.ensures ∙ ap (λ ns. map of (map name_and_place ns)) c.as_slice.ensures.value) in
+    let outer : length (map of (names_and_places c.in_ok-names.names)) ≡ length (names_and_places c.in_ok-names.names) = length-map (names_and_places c.in_ok-names.names) of in
+    let inner : length (names_and_places c.in_ok-names.names) ≡ length c.in_ok-names.names.items = length-map c.in_ok-names.names.items name_and_place in
     omega (arith, long, outer, inner, c.in_ok-names.ensures.some)

@@ -12,7 +12,7 @@ use Rattle.lrp_query.specs.declared.starts.Start.TheVariants.{Not as by_not, Exi
 use Rattle.lrp_query.specs.declared.words.Leading.TheVariants.{OfRange, OfPair}
 use Rattle.lrp_query.specs.Rules.{named, negated, existing, holding, enclosed, behind_first, implying, conjoined, disjoined, both, either, chained, whole, closed_whole, member_of, quantified, binders_rule}
 use Rattle.lrp_query.specs.OperatorRules.{closed_by, ranged_parts, paired_parts}
-use Rattle.lrp_query.specs.Grammars.{meant, operators_in, formula_in, formulas_in, part_in, whole_in, word_in, joined_of, bound_by}
+use Rattle.lrp_query.specs.Grammars.{meant, operators_in, formula_in, formulas_in, part_in, whole_in, word_in, joined_of, quantified_by}
 use Rattle.lrp_query.specs.Reading.{ReadsAs}
 use Rattle.lrp_query.proofs.Started.{started_in, cut_in}
 use Rattle.lrp_query.proofs.Parts.{narrow_part, wide_part, narrow_existing, wide_existing, unread_existing, narrow_holding, wide_holding, unread_holding, narrow_enclosed, wide_enclosed, unread_enclosed, plain_behind_at, range_behind_at, pair_behind_at, none_behind_at}
@@ -519,7 +519,7 @@ pub read_quantified-returns-in_err-binders-clause-value : goal.read_quantified-r
 unfolding quantified
 read_quantified-returns-in_err-binders-clause-value g t c = λ turns lt.
     let p = err_from_is_err_and c.from_residual.result c.from_residual.ensures.1 in
-    rw (p.1, p.2) (lifts (binders_rule turns c.args.tokens.now) (quantified (bound_by c.args.quantifier) (formulas_in g.G.Grammar.language turns) c.args.depth turns c.args.place c.args.tokens.now) c.read_binders.new.tokens c.in_err-binders.field-0.0
+    rw (p.1, p.2) (lifts (binders_rule turns c.args.tokens.now) (quantified (quantified_by c.args.quantifier) (formulas_in g.G.Grammar.language turns) c.args.depth turns c.args.place c.args.tokens.now) c.read_binders.new.tokens c.in_err-binders.field-0.0
     (λ j e. rw e refl) (c.in_err-binders.ensures.value turns lt))
 
 pub read_quantified-returns-in_err-of-clause-value : goal.read_quantified-returns-in_err-of-clause-value
@@ -528,7 +528,7 @@ read_quantified-returns-in_err-of-clause-value g t c = λ turns lt.
     let p = err_from_is_err_and c.from_residual-in_err-of.result c.from_residual-in_err-of.ensures.1 in
     let inner : c.deeper-inner.result ≡ c.args.depth - (length c.in_ok-binders.binders - 1) = c.deeper-inner.ensures ∙ ap (λ n. c.args.depth - (n - 1)) c.len.ensures in
     let less : length c.read_binders.new.tokens < turns = omega (arith, c.in_ok-binders.ensures.fewer, lt) in
-    rw (p.1, p.2) (lifts (formula_in g.G.Grammar.language c.deeper-inner.result turns c.read_binders.new.tokens) (quantified (bound_by c.args.quantifier) (formulas_in g.G.Grammar.language turns) c.args.depth turns c.args.place c.args.tokens.now) c.read_formula.new.tokens c.in_err-of.field-0.0
+    rw (p.1, p.2) (lifts (formula_in g.G.Grammar.language c.deeper-inner.result turns c.read_binders.new.tokens) (quantified (quantified_by c.args.quantifier) (formulas_in g.G.Grammar.language turns) c.args.depth turns c.args.place c.args.tokens.now) c.read_formula.new.tokens c.in_err-of.field-0.0
     (λ j e. rw (c.in_ok-binders.ensures.value turns lt, sym inner, e) refl) (c.in_err-of.ensures.value turns less))
 
 pub read_quantified-returns-clause-value : goal.read_quantified-returns-clause-value

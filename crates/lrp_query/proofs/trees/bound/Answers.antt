@@ -2,7 +2,7 @@ use Rattle.std.proofs.Common.{◌≡◌, ◌∙◌, ◌++◌, ◌∷◌, ℕ, Li
 use Rattle.lrp_model.specs.declared.tokens.Place.{Place}
 use Rattle.lrp_model.specs.declared.raw.RawColumn.{RawColumn}
 use Rattle.lrp_model.specs.RawQueries.{raw_form_of}
-use Rattle.lrp_query.specs.Grammars.{bound_by}
+use Rattle.lrp_query.specs.Grammars.{quantified_by}
 use Rattle.lrp_query.specs.Rules.{each_bound}
 use Rattle.lrp_query.proofs.trees.bound.Goals as goal
 
@@ -17,7 +17,7 @@ none_left (x ∷ xs) e = absurd (omega (arith, e))
 
 pub loop-binder-preserved : goal.loop-binder-preserved
 loop-binder-preserved c =
-    let bind = bound_by c.args.quantifier in
+    let bind = quantified_by c.args.quantifier in
     let before = raw_form_of c.loop-binder.made in
     ap (each_bound bind c.args.place c.pop.new.self.items) c.in_ok-made.ensures
     ∙ sym (one_more bind c.args.place c.pop.new.self.items c.in-Some.binder before)
@@ -28,4 +28,4 @@ pub returns : goal.returns
 returns c =
     let size : vec_len c.loop-binder.left ≡ length c.loop-binder.left.items = search rules in
     let none : c.loop-binder.left.items ≡ [] = none_left c.loop-binder.left.items (sym size ∙ c.in_default.ensures.cases.0) in
-    ap (λ cs. each_bound (bound_by c.args.quantifier) c.args.place cs (raw_form_of c.loop-binder.made)) (sym none) ∙ c.loop-binder.invariant
+    ap (λ cs. each_bound (quantified_by c.args.quantifier) c.args.place cs (raw_form_of c.loop-binder.made)) (sym none) ∙ c.loop-binder.invariant
