@@ -37,7 +37,7 @@ use Rattle.lrp_text.proofs.Cuts.{skip_cut, skip_rest, scan_cut_in, scan_rest_in}
 use Rattle.lrp_text.proofs.NameTokens.{all_front, all_behind}
 use Rattle.lrp_text.proofs.Scans.{chosen}
 use Rattle.lrp_rel.proofs.TreeTexts.{TextToken, TextPart, scan_texted, headed_texted, takes_texted}
-use Rattle.lrp_wide.specs.Inlining.{Setting, Known, Passed, itself, equal, own_setting, set_kind, set_term, star_variable, star_total, star_columns, star_terms, some_each, starred_atom, variable_of, pass_variable, passed, passed_name, compared_columns, with_comparisons, compared_form, counted_from, counted_in, use_form, atom_form, known_named, without_relation, meant_by, inlined, inlined_each, plain_definition, known_with, known_of, expanded_file}
+use Rattle.lrp_wide.specs.Inlining.{UseSetting, Known, Passed, itself, equal, own_setting, set_kind, set_term, star_variable, star_total, star_columns, star_terms, some_each, starred_atom, plain_variable, pass_variable, passed, passed_name, compared_columns, with_comparisons, compared_form, counted_from, counted_in, use_form, inlined_atom, known_named, without_relation, meant_by, inlined, inlined_each, plain_definition, known_with, known_of, expanded_file}
 use Rattle.lrp_wide.specs.Meaning.{is_star}
 use Rattle.lrp_reading_laws.proofs.DataTextLemmas.{IsEntry, both, database_entries}
 use Rattle.lrp_reading_laws.proofs.FormulaTexts.{IsGoodKind, IsGoodTerm, HasGoodTexts, HaveGoodTexts, good_entries, expanded_good, written_good}
@@ -139,13 +139,13 @@ file_good bytes f is =
 
 -- ---- uses and `*` that are written out
 
-set_good : (s : Setting) (k : RawTermKind) → IsGoodKind k → IsGoodKind (set_kind s k)
+set_good : (s : UseSetting) (k : RawTermKind) → IsGoodKind k → IsGoodKind (set_kind s k)
 set_good s (text_kind t) h = h
 set_good s (Int x) h = tt
 set_good s (Var v) h = tt
 set_good s (Shifted v plus) h = tt
 
-set_each : (s : Setting) (ts : List RawTerm) → AllByRecursion IsGoodTerm ts → AllByRecursion IsGoodTerm (map (set_term s) ts)
+set_each : (s : UseSetting) (ts : List RawTerm) → AllByRecursion IsGoodTerm ts → AllByRecursion IsGoodTerm (map (set_term s) ts)
 set_each s [] h = tt
 set_each s (t ∷ ts) h = (set_good s t.kind h.0, set_each s ts h.1)
 
@@ -153,7 +153,7 @@ each_good : (p : Place) (cs : List RawColumn) (f : RawForm) → HasGoodTexts f �
 each_good p [] f h = h
 each_good p (c ∷ cs) f h = each_good p cs f h
 
-stars_good : (s : Setting) (p : Place) (cs : List Column) (ts : List RawTerm) (k : ℕ) → AllByRecursion IsGoodTerm ts → AllByRecursion IsGoodTerm (star_terms s p k cs ts)
+stars_good : (s : UseSetting) (p : Place) (cs : List Column) (ts : List RawTerm) (k : ℕ) → AllByRecursion IsGoodTerm ts → AllByRecursion IsGoodTerm (star_terms s p k cs ts)
 stars_good s p [] ts k h = set_each s ts h
 stars_good s p (c ∷ cs) [] k h = tt
 stars_good s p (c ∷ cs) (t ∷ ts) k h = by (is_star t) (λ i. stars_good s p cs ts i h.1)
@@ -162,10 +162,10 @@ stars_good s p (c ∷ cs) (t ∷ ts) k h = by (is_star t) (λ i. stars_good s p 
     by true r = (tt, r (suc k))
     by false r = (set_good s t.kind h.0, r k)
 
-comparisons_good : (s : Setting) (p : Place) (k : ℕ) (cs : List Column) (ts : List RawTerm) (j : ℕ) (f : RawForm) → AllByRecursion IsGoodTerm ts → HasGoodTexts f → HaveGoodTexts (with_comparisons p (passed s p k j cs ts) f)
+comparisons_good : (s : UseSetting) (p : Place) (k : ℕ) (cs : List Column) (ts : List RawTerm) (j : ℕ) (f : RawForm) → AllByRecursion IsGoodTerm ts → HasGoodTexts f → HaveGoodTexts (with_comparisons p (passed s p k j cs ts) f)
 comparisons_good s p k [] ts j f h g = (g, tt)
 comparisons_good s p k (c ∷ cs) [] j f h g = (g, tt)
-comparisons_good s p k (c ∷ cs) (t ∷ ts) j f h g = by (is_star t) (variable_of t.kind) (λ i. comparisons_good s p k cs ts i f h.1 g)
+comparisons_good s p k (c ∷ cs) (t ∷ ts) j f h g = by (is_star t) (plain_variable t.kind) (λ i. comparisons_good s p k cs ts i f h.1 g)
   where
     by : (b : Bool) (o : Option Identifier) → ((i : ℕ) → HaveGoodTexts (with_comparisons p (passed s p k i cs ts) f))
         → HaveGoodTexts (with_comparisons p (if b then itself c.name (star_variable j) ∷ passed s p k (suc j) cs ts else pass_variable s p k c t o ∷ passed s p k j cs ts) f)
@@ -173,24 +173,24 @@ comparisons_good s p k (c ∷ cs) (t ∷ ts) j f h g = by (is_star t) (variable_
     by false (Some v) r = r j
     by false None r = ((tt, set_good s t.kind h.0), r j)
 
-compared_good : (s : Setting) (p : Place) (k : ℕ) (columns : List RawColumn) (cs : List Column) (ts : List RawTerm) (j : ℕ) (f : RawForm) → AllByRecursion IsGoodTerm ts → HasGoodTexts f
+compared_good : (s : UseSetting) (p : Place) (k : ℕ) (columns : List RawColumn) (cs : List Column) (ts : List RawTerm) (j : ℕ) (f : RawForm) → AllByRecursion IsGoodTerm ts → HasGoodTexts f
     → HasGoodTexts (compared_form p columns (passed s p k j cs ts) f)
 compared_good s p k [] cs ts j f h g = g
 compared_good s p k (c ∷ columns) cs ts j f h g = each_good p (c ∷ columns) (raw_and p (with_comparisons p (passed s p k j cs ts) f)) (comparisons_good s p k cs ts j f h g)
 
 -- a definition in each setting
 abbrev IsGoodKnown : Known → Type 0
-IsGoodKnown d = (s : Setting) → HasGoodTexts (d.form s)
+IsGoodKnown d = (s : UseSetting) → HasGoodTexts (d.form s)
 
 abbrev IsGoodMeant : Option Known → Type 0
 IsGoodMeant None = Unit {0}
 IsGoodMeant (Some d) = IsGoodKnown d
 
-atom_good : (s : Setting) (p : Place) (k : ℕ) (n : Identifier) (columns : List Column) (ts : List RawTerm) (o : Option Known) → IsGoodMeant o → AllByRecursion IsGoodTerm ts → HasGoodTexts (atom_form s p k n columns ts o)
+atom_good : (s : UseSetting) (p : Place) (k : ℕ) (n : Identifier) (columns : List Column) (ts : List RawTerm) (o : Option Known) → IsGoodMeant o → AllByRecursion IsGoodTerm ts → HasGoodTexts (inlined_atom s p k n columns ts o)
 atom_good s p k n columns ts None g h = each_good p (star_columns p k columns ts) (raw_atom p n (star_terms s p k columns ts)) (stars_good s p columns ts k h)
 atom_good s p k n columns ts (Some d) g h =
     let ps = passed s p k (suc k) d.columns ts in
-    let inside : Setting = record { name = passed_name ps k; place = λ q. p; number = counted_from (suc k + star_total d.columns ts) d.counted } in
+    let inside : UseSetting = record { name = passed_name ps k; place = λ q. p; number = counted_from (suc k + star_total d.columns ts) d.counted } in
     each_good p (star_columns p (suc k) d.columns ts) (compared_form p (compared_columns ps) ps (d.form inside)) (compared_good s p k (compared_columns ps) d.columns ts (suc k) (d.form inside) h (g inside))
 
 known_good : (ks : List Known) (n : Identifier) → AllByRecursion IsGoodKnown ks → IsGoodMeant (known_named ks n)
@@ -210,7 +210,7 @@ meant_good db ks n g = by (relation_named db n)
 
 module _ (db : List Relation) (ks : List Known) (g : AllByRecursion IsGoodKnown ks) where
   mutual
-    inlined_good : (f : RawForm) (s : Setting) → HasGoodTexts f → HasGoodTexts (inlined db ks f s)
+    inlined_good : (f : RawForm) (s : UseSetting) → HasGoodTexts f → HasGoodTexts (inlined db ks f s)
     inlined_good (raw_atom p n ts) s h = atom_good s (s.place p) (s.number p) n (columns_in (relation_named db n)) ts (meant_by db ks n) (meant_good db ks n g) h
     inlined_good (raw_compare p l op r) s h = (set_good s l.kind h.0, set_good s r.kind h.1)
     inlined_good (raw_member p t point) s h = tt
@@ -224,7 +224,7 @@ module _ (db : List Relation) (ks : List Known) (g : AllByRecursion IsGoodKnown 
     inlined_good (raw_ranged word o from to f) s h = inlined_good f s h
     inlined_good (raw_paired word o f i) s h = (inlined_good f s h.0, inlined_good i s h.1)
 
-    inlined_good_each : (fs : RawForms) (s : Setting) → HaveGoodTexts fs → HaveGoodTexts (inlined_each db ks fs s)
+    inlined_good_each : (fs : RawForms) (s : UseSetting) → HaveGoodTexts fs → HaveGoodTexts (inlined_each db ks fs s)
     inlined_good_each no_raws s h = tt
     inlined_good_each (raw f fs) s h = (inlined_good f s h.0, inlined_good_each fs s h.1)
 

@@ -1,5 +1,5 @@
 // What the texts of databases and queries say, they say in one way.
-ghost use Rattle.std.specs.Prelude.{◌≡◌, ℕ, List};
+ghost use Rattle.std.specs.Prelude.{◌≡◌, ◌⊎◌, ℕ, List};
 ghost use Rattle.std.specs.List.{AllByRecursion};
 ghost use Rattle.lrp_model.specs.Checked.{plain_question};
 ghost use Rattle.lrp_model.specs.DataTexts.{IsDataText};
@@ -11,9 +11,50 @@ ghost use Rattle.lrp_model.specs.Sorting.{IsWellSorted, IsSortFault};
 ghost use Rattle.lrp_model.specs.declared.faults.DbFault.{DbFault};
 ghost use Rattle.lrp_model.specs.declared.faults.QueryFault.{QueryFault};
 ghost use Rattle.lrp_model.specs.declared.relations.Relation.{Relation};
+ghost use Rattle.lrp_edits.specs.EditReading.{IsEditsFault, SaysEdits};
+ghost use Rattle.lrp_reading_laws.specs.Either.{OneOrOther};
 ghost use Rattle.lrp_tense.specs.Expanding.{expanded_question};
 ghost use Rattle.lrp_tense.specs.TenseReading.{IsTenseQuery, IsTenseQueryFault};
 ghost use Rattle.lrp_wide.specs.Inlining.{expanded_file};
+ghost use Rattle.lrp_wide.specs.WideSorting.{IsFileSortFault, IsWellSortedFile};
+
+/// Every text is a database or has a fault of one.
+pub fn every_text_is_a_database_or_faulty()
+    ensures { (bytes : List ℕ) → OneOrOther (IsDatabase bytes) (IsDatabaseFault bytes) }
+{}
+
+/// Every text is a query or has a fault of one.
+pub fn every_text_is_a_query_or_faulty()
+    ensures { (bytes : List ℕ) → OneOrOther (IsQuery bytes) (IsQueryFault bytes) }
+{}
+
+/// Every text is a query with temporal operators or has a fault of one.
+pub fn every_text_is_a_tense_query_or_faulty()
+    ensures { (bytes : List ℕ) → OneOrOther (IsTenseQuery bytes) (IsTenseQueryFault bytes) }
+{}
+
+/// Every text is a file of the wide language or has a fault of one.
+pub fn every_text_is_a_file_or_faulty()
+    ensures { (bytes : List ℕ) → OneOrOther (IsFile bytes) (IsFileFault bytes) }
+{}
+
+/// Every text is edits of a database or has a fault of them.
+pub fn every_text_is_edits_or_faulty()
+    ensures { (bytes : List ℕ) (relations : List Relation)
+        → OneOrOther (SaysEdits bytes relations) (IsEditsFault bytes relations) }
+{}
+
+/// Over a database every query is well-sorted or has a sort fault.
+pub fn every_query_is_well_sorted_or_faulty()
+    ensures { (relations : List Relation) (q : RawQuestion)
+        → IsWellSorted relations q ⊎ ((fault : QueryFault) × IsSortFault relations q fault) }
+{}
+
+/// Over a database every file of the wide language is well-sorted or has a sort fault.
+pub fn every_file_is_well_sorted_or_faulty()
+    ensures { (relations : List Relation) (f : RawFileView) → IsWellSortedFile relations f
+        ⊎ ((fault : QueryFault) × IsFileSortFault relations f fault) }
+{}
 
 /// A text is of one database at most.
 pub fn texts_are_of_one_database()
