@@ -11,7 +11,7 @@ use Rattle.jiff_core.specs.declared.civil.date.Date.{Date as CivilDate}
 use Rattle.jiff_core.proofs.DateLemmas.{civil, days_from_civil-max, epoch_day_injective, epoch_day_range}
 use Rattle.jiff_core.proofs.SignedLemmas.{signed_arith}
 use Rattle.lrp_civil.specs.declared.dates.Date.{Date}
-use Rattle.lrp_civil.specs.Dates.{is_date, day_number, first_day, year_of, month_of, date_of, IsDateOf, IsCivilDay}
+use Rattle.lrp_civil.specs.Dates.{is_date, day_number, first_day, year_of, month_of, date_of, IsDateOf, IsCivil, IsCivilDay}
 use Rattle.lrp_civil.proofs.Counts.{OnlyFirst, count_is}
 use borrow.Author.Differences.{up, down}
 
@@ -157,7 +157,7 @@ pub real_parts : (d : Date) → IsTrue (is_date d) → IsReal d
 real_parts d h = record { year_low = grind (arith, nat_tests, h); year_high = grind (arith, nat_tests, h); month_low = grind (arith, nat_tests, h); month_high = grind (arith, nat_tests, h); day_low = grind (arith, nat_tests, h); day_high = grind (arith, nat_tests, h) }
 
 -- a real date as one of the kit's
-pub civil_date : (d : Date) → IsReal d → CivilDate
+unfoldable pub civil_date : (d : Date) → IsReal d → CivilDate
 civil_date d r = record {
   year = pos d.year;
   month = d.month;
@@ -212,6 +212,13 @@ civil_numbers d day year h e is =
     let real : is_date date ≡ true = is_real year d.month d.day (omega (arith, signed_arith, is, low)) (omega (arith, signed_arith, is, d.year_in)) d.month_in.0 d.month_in.1 d.day_in.0 long in
     let number : day_number date ≡ day = ap (λ y. days_from_civil y d.month d.day) (sym is) ∙ e in
     date_unique date (date_of day) real found.real (number ∙ sym found.number)
+
+-- it is that date
+pub civil_of_day : (d : CivilDate) (day : ℤ) → IsCivilDay day → epoch_day d ≡ day → IsCivil (date_of day) d
+civil_of_day d day h e =
+    let year : d.year ≡ pos (unsigned_abs d.year) = abs_is d.year (omega (arith, signed_arith, civil_year d day h e)) in
+    let same = sym (civil_numbers d day (unsigned_abs d.year) h e year) in
+    record { real = (date_is day h).real; year = ap (λ date. pos date.year) same ∙ sym year; month = ap (λ date. date.month) same; day = ap (λ date. date.day) same }
 
 is_day : (d : Date) (r : IsReal d) → epoch_day (civil_date d r) ≡ day_number d
 unfolding civil_date

@@ -3,6 +3,8 @@ pub mod DateLemmas
 pub mod MomentLemmas
 pub mod Meanings
 pub mod PartLemmas
+pub mod PrintLemmas
+pub mod ReadLemmas
 pub mod Numbers
 pub mod MinuteLemmas
 pub mod Weekdays

@@ -1,5 +1,5 @@
 -- A civil value falls at the minutes that it stands for.
-use Rattle.std.proofs.Common.{◌≡◌, ◌<◌, ◌+◌, ◌*◌, ◌%◌, ◌↔◌, ℕ, ℤ, pos, ◌+ℤ◌, ◌-ℤ◌, ◌*ℤ◌, ◌≤ℤ◌, ap, ◌∙◌, refl, arith}
+use Rattle.std.proofs.Common.{◌≡◌, ◌<◌, ◌+◌, ◌*◌, ◌%◌, ◌↔◌, ℕ, ℤ, pos, ◌+ℤ◌, ◌-ℤ◌, ◌*ℤ◌, ◌≤ℤ◌, ◌∙◌, refl, arith}
 use Rattle.std.specs.Int.{int_div_euclid, int_rem_euclid}
 use Rattle.std.specs.Prelude.{IsTrue, Bool, true, false, ◌&&◌, nat_lt}
 use Rattle.std.proofs.lemmas.Bool.Decides.{nat_tests}
@@ -14,8 +14,6 @@ use Rattle.lrp_civil.specs.Dates.{is_date, day_number}
 use Rattle.lrp_civil.specs.Moments.{day_of, minute_at, time_of_day}
 use Rattle.lrp_civil.specs.declared.values.CivilValue.{CivilValue}
 use Rattle.lrp_civil.specs.declared.values.CivilValue.TheVariants.{Daily, Weekly, On, Every}
-use Rattle.lrp_civil.specs.declared.values.Pace.{Pace}
-use Rattle.lrp_civil.specs.declared.dates.Date.{Date}
 use Rattle.lrp_civil.specs.CivilValues.{is_civil, MeansMinute, FallsAt, pace_minutes}
 use Rattle.lrp_civil.proofs.EveryLemmas.{tests_of}
 use Rattle.lrp_civil.proofs.PaceLemmas.{pace_size}

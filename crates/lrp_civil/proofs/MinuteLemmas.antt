@@ -17,7 +17,7 @@ use Rattle.lrp_civil.proofs.Numbers.{date_in_is, time_in_is}
 pub no_date : (word : List ℕ) → BeginsWithNone is_date date_bytes word → (x : ℤ) → SpellsMinute word x → ⊥
 no_date word none = λ x s. none s.date (84 ∷ clock_bytes s.time) (record { is = s.real; whole = s.word_is })
 
-pub no_letter : (word left : List ℕ) (date : Date) → BeginsAs is_date date_bytes word date left → ((behind : List ℕ) → left ≡ 84 ∷ behind → ⊥) → (x : ℤ) → SpellsMinute word x → ⊥
+pub no_letter : (word left : List ℕ) (date : Date) → BeginsAs is_date date_bytes word date left → ((after : List ℕ) → left ≡ 84 ∷ after → ⊥) → (x : ℤ) → SpellsMinute word x → ⊥
 no_letter word left date r none = λ x s.
     let whole = sym r.whole ∙ s.word_is in
     none (clock_bytes s.time) (cc whole)

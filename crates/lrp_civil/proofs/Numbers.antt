@@ -23,16 +23,16 @@ four n low = omega (arith, digit (n / 100 / 10) (omega arith), digit (n / 100 % 
 minutes : (x y hour minute time : ℕ) → x ≡ hour → y ≡ minute → 60 * hour + minute ≡ time → 60 * x + y ≡ time
 minutes x y hour minute time e f g = omega arith
 
-pub time_in_is : (time : ℕ) (behind : List ℕ) → is_time_of_day time ≡ true → time_in (clock_bytes time ++ behind) ≡ time
-time_in_is time behind h =
+pub time_in_is : (time : ℕ) (rest : List ℕ) → is_time_of_day time ≡ true → time_in (clock_bytes time ++ rest) ≡ time
+time_in_is time rest h =
     let small : time < 1440 = grind (arith, nat_tests) in
     minutes _ _ (time / 60) (time % 60) time (two (time / 60) (omega arith)) (two (time % 60) (omega arith)) (omega arith)
 
-pub date_in_is : (date : Date) (behind : List ℕ) → is_date date ≡ true → date_in (date_bytes date ++ behind) ≡ date
-date_in_is date behind h =
+pub date_in_is : (date : Date) (rest : List ℕ) → is_date date ≡ true → date_in (date_bytes date ++ rest) ≡ date
+date_in_is date rest h =
     let r = real_parts date h in
     let long = days_in_month_bounds (pos date.year) date.month in
-    let year : front_number 4 (date_bytes date ++ behind) ≡ date.year = four date.year (omega (arith, r.year_high)) in
-    let month : front_number 2 (drop 5 (date_bytes date ++ behind)) ≡ date.month = two date.month (omega (arith, r.month_high)) in
-    let day : front_number 2 (drop 8 (date_bytes date ++ behind)) ≡ date.day = two date.day (omega (arith, r.day_high, long.0)) in
-    same_date (date_in (date_bytes date ++ behind)) date year month day
+    let year : front_number 4 (date_bytes date ++ rest) ≡ date.year = four date.year (omega (arith, r.year_high)) in
+    let month : front_number 2 (drop 5 (date_bytes date ++ rest)) ≡ date.month = two date.month (omega (arith, r.month_high)) in
+    let day : front_number 2 (drop 8 (date_bytes date ++ rest)) ≡ date.day = two date.day (omega (arith, r.day_high, long.0)) in
+    same_date (date_in (date_bytes date ++ rest)) date year month day

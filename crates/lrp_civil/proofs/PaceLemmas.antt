@@ -1,12 +1,12 @@
 -- Numbers, units and paces at the front of some bytes.
-use Rattle.std.proofs.Common.{◌≡◌, ◌<◌, ◌≤◌, ◌+◌, ◌-◌, ◌*◌, ◌^◌, ℕ, zero, suc, Bool, true, false, ◌==◌, ◌&&◌, List, [], ◌∷◌, ◌++◌, length, take, drop, get_or, Result, Ok, Err, Option, None, Some, MatchOption, refl, sym, ap, ◌∙◌, subst, codes, append_assoc, arith, cond, rules}
+use Rattle.std.proofs.Common.{◌≡◌, ◌<◌, ◌≤◌, ◌-◌, ◌*◌, ◌^◌, ℕ, zero, suc, Bool, true, false, ◌==◌, List, [], ◌∷◌, ◌++◌, length, take, drop, get_or, Result, Ok, Err, refl, sym, ap, ◌∙◌, subst, append_assoc, arith, rules}
 use Rattle.std.specs.Prelude.{if◌then◌else◌, nat_lt}
 use Rattle.std.specs.Char.{is_ascii_digit}
 use Rattle.std.specs.Fmt.{decimal}
 use Rattle.std.specs.List.{list_all}
 use Rattle.std.specs.Result.{OkIff}
 use Rattle.std.specs.Str.{IsUtf8}
-use Rattle.std.specs.Str.Parse.{AllDigits, ParsesUnsigned, digits_value}
+use Rattle.std.specs.Str.Parse.{ParsesUnsigned, digits_value}
 use Rattle.std.proofs.lemmas.Bool.{false≢true}
 use Rattle.std.proofs.lemmas.Bool.Decides.{nat_tests}
 use Rattle.std.proofs.lemmas.Fmt.{IsAscii-from_digits, decimal-digits_value, decimal_digit, decimal_injective, decimal_is_IsNumeral, first_decimal}
@@ -14,7 +14,7 @@ use Rattle.std.proofs.lemmas.Str.{IsUtf8-from_ascii}
 use Rattle.std.proofs.lemmas.Str.Parse.{IsNumeralModel, numerals_by_value, parse_digits}
 use Rattle.std.proofs.Math.Seq.{drop-append_seam}
 use Rattle.lrp_model.specs.Lexing.{behind_run, run}
-use Rattle.lrp_text.proofs.Runs.{behind_shorter, run_taken, run_whole}
+use Rattle.lrp_text.proofs.Runs.{run_taken, run_whole}
 use Rattle.lrp_print.proofs.Scanned.{Stops, decimal_number, run_over}
 use Rattle.lrp_civil.specs.declared.values.Pace.{Pace}
 use Rattle.lrp_civil.specs.declared.values.Unit.{Unit as UnitOf}
@@ -26,11 +26,11 @@ use Rattle.lrp_civil.proofs.ValueLemmas.{first_of}
 -- ---- digits
 
 -- bytes with which no number goes on end a run of digits
-stops : (behind : List ℕ) → goes_on behind ≡ false → Stops is_ascii_digit behind
+stops : (after : List ℕ) → goes_on after ≡ false → Stops is_ascii_digit after
 stops [] e = tt
 stops (b ∷ bs) e = e
 
--- behind a run of digits no number goes on
+-- after a run of digits no number goes on
 by_digit : (b : ℕ) (bs : List ℕ) (d : Bool) → is_ascii_digit b ≡ d → goes_on (behind_run is_ascii_digit bs) ≡ false → goes_on (if d then behind_run is_ascii_digit bs else b ∷ bs) ≡ false
 by_digit b bs true e rest = rest
 by_digit b bs false e rest = e
@@ -50,22 +50,22 @@ unfolding run
 run_digits [] = refl
 run_digits (b ∷ bs) = by_all b bs (is_ascii_digit b) refl (run_digits bs)
 
--- the bytes before those behind the digits
-pub digits_are : (bytes behind : List ℕ) → behind ≡ behind_run is_ascii_digit bytes → take (length bytes - length behind) bytes ≡ run is_ascii_digit bytes
-digits_are bytes behind e = ap (λ x. take (length bytes - length x) bytes) e ∙ run_taken is_ascii_digit bytes
+-- the bytes before those after the digits
+pub digits_are : (bytes after : List ℕ) → after ≡ behind_run is_ascii_digit bytes → take (length bytes - length after) bytes ≡ run is_ascii_digit bytes
+digits_are bytes after e = ap (λ x. take (length bytes - length x) bytes) e ∙ run_taken is_ascii_digit bytes
 
 -- ---- a number at the front
 
 -- what is known of bytes that a number begins
-pub record IsRunOf (bytes : List ℕ) (n : ℕ) (behind : List ℕ) : Type 0 where
+pub record IsRunOf (bytes : List ℕ) (n : ℕ) (after : List ℕ) : Type 0 where
   pub digits : run is_ascii_digit bytes ≡ decimal n
-  pub left : behind_run is_ascii_digit bytes ≡ behind
+  pub left : behind_run is_ascii_digit bytes ≡ after
 
-pub number_run : (bytes : List ℕ) (n : ℕ) (behind : List ℕ) → n < 2 ^ 64 → bytes ≡ decimal n ++ behind → goes_on behind ≡ false → IsRunOf bytes n behind
-number_run bytes n behind small whole ends =
+pub number_run : (bytes : List ℕ) (n : ℕ) (after : List ℕ) → n < 2 ^ 64 → bytes ≡ decimal n ++ after → goes_on after ≡ false → IsRunOf bytes n after
+number_run bytes n after small whole ends =
     let k = decimal_number n small in
     let one : run is_ascii_digit (decimal n) ≡ decimal n = ap (run is_ascii_digit) k.is ∙ k.whole ∙ sym k.is in
-    let both = run_over is_ascii_digit (decimal n) behind one (stops behind ends) in
+    let both = run_over is_ascii_digit (decimal n) after one (stops after ends) in
     record { digits = ap (run is_ascii_digit) whole ∙ both.0; left = ap (behind_run is_ascii_digit) whole ∙ both.1 }
 
 pub number_unique : (bytes : List ℕ) (n m : ℕ) (x y : List ℕ) → n < 2 ^ 64 → m < 2 ^ 64 → bytes ≡ decimal n ++ x → goes_on x ≡ false → bytes ≡ decimal m ++ y → goes_on y ≡ false → (n ≡ m) × (x ≡ y)
@@ -77,12 +77,12 @@ number_unique bytes n m x y small low e f g h =
 pub number_value : (n : ℕ) → n < 2 ^ 64 → digits_value 10 (decimal n) ≡ n
 number_value n small = (decimal_is_IsNumeral n small).1
 
--- the digits that are not empty and don't begin with 0, and the bytes behind them
+-- the digits that are not empty and don't begin with 0, and the bytes after them
 numerals : IsNumeralModel (λ ds. list_all is_ascii_digit ds ≡ true) (digits_value 10)
 numerals = numerals_by_value (λ ds. list_all is_ascii_digit ds ≡ true) (search rules)
 
-pub number_found : (bytes digits behind : List ℕ) (n : ℕ) → digits ≡ run is_ascii_digit bytes → behind ≡ behind_run is_ascii_digit bytes → 0 < length digits → (get_or digits 0 0 ≡ 48 → ⊥) → n ≡ digits_value 10 digits → n < 2 ^ 64 → IsNumberAt bytes n behind
-number_found bytes digits behind n d b some first value small =
+pub number_found : (bytes digits after : List ℕ) (n : ℕ) → digits ≡ run is_ascii_digit bytes → after ≡ behind_run is_ascii_digit bytes → 0 < length digits → (get_or digits 0 0 ≡ 48 → ⊥) → n ≡ digits_value 10 digits → n < 2 ^ 64 → IsNumberAt bytes n after
+number_found bytes digits after n d b some first value small =
     let all : list_all is_ascii_digit digits ≡ true = ap (list_all is_ascii_digit) d ∙ run_digits bytes in
     let is : decimal n ≡ digits = ap decimal value ∙ decimal-digits_value numerals digits all some (λ z. absurd (first z)) (subst (λ x. x < 2 ^ 64) value small) in
     let zero_is : n ≡ 0 → ⊥ = λ z. first (ap (λ ds. get_or ds 0 0) (sym is ∙ ap decimal z ∙ decimal_digit 0 (omega arith))) in
@@ -98,24 +98,24 @@ number_found bytes digits behind n d b some first value small =
     positive_of (suc n) h = omega arith
 
 -- none
-pub no_digits : (bytes digits : List ℕ) → digits ≡ run is_ascii_digit bytes → length digits ≡ 0 → (n : ℕ) (behind : List ℕ) → IsNumberAt bytes n behind → ⊥
-no_digits bytes digits d none n behind k =
-    let r = number_run bytes n behind k.small k.whole k.ends in
+pub no_digits : (bytes digits : List ℕ) → digits ≡ run is_ascii_digit bytes → length digits ≡ 0 → (n : ℕ) (after : List ℕ) → IsNumberAt bytes n after → ⊥
+no_digits bytes digits d none n after k =
+    let r = number_run bytes n after k.small k.whole k.ends in
     let some : 0 < length (decimal n) = (decimal_is_IsNumeral n k.small).0.0 in
     let e : digits ≡ decimal n = d ∙ r.digits in
     let size : length digits ≡ length (decimal n) = ap length e in
     absurd (omega (arith, some, size, none))
 
-pub no_zero : (bytes digits : List ℕ) → digits ≡ run is_ascii_digit bytes → get_or digits 0 0 ≡ 48 → (n : ℕ) (behind : List ℕ) → IsNumberAt bytes n behind → ⊥
-no_zero bytes digits d first n behind k =
-    let r = number_run bytes n behind k.small k.whole k.ends in
+pub no_zero : (bytes digits : List ℕ) → digits ≡ run is_ascii_digit bytes → get_or digits 0 0 ≡ 48 → (n : ℕ) (after : List ℕ) → IsNumberAt bytes n after → ⊥
+no_zero bytes digits d first n after k =
+    let r = number_run bytes n after k.small k.whole k.ends in
     let e : get_or digits 0 0 ≡ get_or (decimal n) 0 0 = ap (λ ds. get_or ds 0 0) (d ∙ r.digits) in
     let high : 48 < get_or (decimal n) 0 0 = first_decimal n k.positive k.small in
     absurd (omega (arith, high, e, first))
 
-pub no_large : (bytes digits : List ℕ) → digits ≡ run is_ascii_digit bytes → 2 ^ 64 ≤ digits_value 10 digits → (n : ℕ) (behind : List ℕ) → IsNumberAt bytes n behind → ⊥
-no_large bytes digits d large n behind k =
-    let r = number_run bytes n behind k.small k.whole k.ends in
+pub no_large : (bytes digits : List ℕ) → digits ≡ run is_ascii_digit bytes → 2 ^ 64 ≤ digits_value 10 digits → (n : ℕ) (after : List ℕ) → IsNumberAt bytes n after → ⊥
+no_large bytes digits d large n after k =
+    let r = number_run bytes n after k.small k.whole k.ends in
     let e : digits_value 10 digits ≡ n = ap (digits_value 10) (d ∙ r.digits) ∙ number_value n k.small in
     let small = k.small in
     absurd (omega (arith, large, e, small))
@@ -156,14 +156,14 @@ unit_unique u w x y e =
     (same, rest)
 
 -- the unit that may stand there, by its first letter
-pub unit_begun : (bytes : List ℕ) (letter : ℕ) → get_or bytes 0 0 ≡ letter → (u : UnitOf) (behind : List ℕ) → bytes ≡ unit_name u ++ behind → u ≡ unit_by letter
-unit_begun bytes letter e u behind h = sym (unit_back u behind) ∙ ap (λ x. unit_by (get_or x 0 0)) (sym h) ∙ ap unit_by e
+pub unit_begun : (bytes : List ℕ) (letter : ℕ) → get_or bytes 0 0 ≡ letter → (u : UnitOf) (after : List ℕ) → bytes ≡ unit_name u ++ after → u ≡ unit_by letter
+unit_begun bytes letter e u after h = sym (unit_back u after) ∙ ap (λ x. unit_by (get_or x 0 0)) (sym h) ∙ ap unit_by e
 
-pub no_letter : (bytes : List ℕ) → (get_or bytes 0 0 ≡ 109 → ⊥) → (get_or bytes 0 0 ≡ 104 → ⊥) → (get_or bytes 0 0 ≡ 100 → ⊥) → (get_or bytes 0 0 ≡ 119 → ⊥) → (u : UnitOf) (behind : List ℕ) → bytes ≡ unit_name u ++ behind → ⊥
-no_letter bytes m h d w Minutes behind e = m (ap (λ x. get_or x 0 0) e)
-no_letter bytes m h d w Hours behind e = h (ap (λ x. get_or x 0 0) e)
-no_letter bytes m h d w Days behind e = d (ap (λ x. get_or x 0 0) e)
-no_letter bytes m h d w Weeks behind e = w (ap (λ x. get_or x 0 0) e)
+pub no_letter : (bytes : List ℕ) → (get_or bytes 0 0 ≡ 109 → ⊥) → (get_or bytes 0 0 ≡ 104 → ⊥) → (get_or bytes 0 0 ≡ 100 → ⊥) → (get_or bytes 0 0 ≡ 119 → ⊥) → (u : UnitOf) (after : List ℕ) → bytes ≡ unit_name u ++ after → ⊥
+no_letter bytes m h d w Minutes after e = m (ap (λ x. get_or x 0 0) e)
+no_letter bytes m h d w Hours after e = h (ap (λ x. get_or x 0 0) e)
+no_letter bytes m h d w Days after e = d (ap (λ x. get_or x 0 0) e)
+no_letter bytes m h d w Weeks after e = w (ap (λ x. get_or x 0 0) e)
 
 pub unit_some : (u : UnitOf) → 1 ≤ unit_minutes u
 unit_some Minutes = omega arith
@@ -193,15 +193,15 @@ pace_size pace h =
     by n Days some few = record { positive = some; small = omega (arith, few); low = omega (arith, some); high = few }
     by n Weeks some few = record { positive = some; small = omega (arith, few); low = omega (arith, some); high = few }
 
--- the bytes of a pace, with others behind them
-pub pace_whole : (pace : Pace) (behind : List ℕ) → pace_bytes pace ++ behind ≡ decimal pace.number ++ (32 ∷ (unit_name pace.unit ++ behind))
-pace_whole pace behind = append_assoc (decimal pace.number) (32 ∷ unit_name pace.unit) behind
+-- the bytes of a pace, with others after them
+pub pace_whole : (pace : Pace) (after : List ℕ) → pace_bytes pace ++ after ≡ decimal pace.number ++ (32 ∷ (unit_name pace.unit ++ after))
+pace_whole pace after = append_assoc (decimal pace.number) (32 ∷ unit_name pace.unit) after
 
 -- a pace at the front is a number, a blank and a unit
-pub pace_number : (bytes : List ℕ) (pace : Pace) (behind : List ℕ) → BeginsAs is_pace pace_bytes bytes pace behind → IsNumberAt bytes pace.number (32 ∷ (unit_name pace.unit ++ behind))
-pace_number bytes pace behind k =
+pub pace_number : (bytes : List ℕ) (pace : Pace) (after : List ℕ) → BeginsAs is_pace pace_bytes bytes pace after → IsNumberAt bytes pace.number (32 ∷ (unit_name pace.unit ++ after))
+pace_number bytes pace after k =
     let size = pace_size pace k.is in
-    record { positive = size.positive; small = size.small; whole = k.whole ∙ pace_whole pace behind; ends = refl }
+    record { positive = size.positive; small = size.small; whole = k.whole ∙ pace_whole pace after; ends = refl }
 
 pub number_same : (bytes : List ℕ) (n m : ℕ) (x y : List ℕ) → IsNumberAt bytes n x → IsNumberAt bytes m y → (n ≡ m) × (x ≡ y)
 number_same bytes n m x y a b = number_unique bytes n m x y a.small b.small a.whole a.ends b.whole b.ends
@@ -213,23 +213,23 @@ pace_unique bytes p q x y a b =
     (ap (λ (k : ℕ). record { number = k; unit = p.unit }) n.0 ∙ ap (λ (v : UnitOf). record { number = q.number; unit = v }) u.0, u.1)
 
 -- bytes that begin with no pace
-pub no_number : (bytes : List ℕ) → ((n : ℕ) (behind : List ℕ) → IsNumberAt bytes n behind → ⊥) → BeginsWithNone is_pace pace_bytes bytes
-no_number bytes none = λ pace behind k. none pace.number (32 ∷ (unit_name pace.unit ++ behind)) (pace_number bytes pace behind k)
+pub no_number : (bytes : List ℕ) → ((n : ℕ) (after : List ℕ) → IsNumberAt bytes n after → ⊥) → BeginsWithNone is_pace pace_bytes bytes
+no_number bytes none = λ pace after k. none pace.number (32 ∷ (unit_name pace.unit ++ after)) (pace_number bytes pace after k)
 
-pub no_blank : (bytes left : List ℕ) (n : ℕ) → IsNumberAt bytes n left → ((behind : List ℕ) → left ≡ 32 ∷ behind → ⊥) → BeginsWithNone is_pace pace_bytes bytes
-no_blank bytes left n found none = λ pace behind k.
-    let same = number_same bytes n pace.number left (32 ∷ (unit_name pace.unit ++ behind)) found (pace_number bytes pace behind k) in
-    none (unit_name pace.unit ++ behind) same.1
+pub no_blank : (bytes left : List ℕ) (n : ℕ) → IsNumberAt bytes n left → ((after : List ℕ) → left ≡ 32 ∷ after → ⊥) → BeginsWithNone is_pace pace_bytes bytes
+no_blank bytes left n found none = λ pace after k.
+    let same = number_same bytes n pace.number left (32 ∷ (unit_name pace.unit ++ after)) found (pace_number bytes pace after k) in
+    none (unit_name pace.unit ++ after) same.1
 
 pub no_unit : (bytes left rest : List ℕ) (n : ℕ) → IsNumberAt bytes n left → left ≡ 32 ∷ rest → BeginsWithNone (λ (u : UnitOf). true) unit_name rest → BeginsWithNone is_pace pace_bytes bytes
-no_unit bytes left rest n found e none = λ pace behind k.
-    let same = number_same bytes n pace.number left (32 ∷ (unit_name pace.unit ++ behind)) found (pace_number bytes pace behind k) in
-    none pace.unit behind (record { is = refl; whole = cc (sym e ∙ same.1) })
+no_unit bytes left rest n found e none = λ pace after k.
+    let same = number_same bytes n pace.number left (32 ∷ (unit_name pace.unit ++ after)) found (pace_number bytes pace after k) in
+    none pace.unit after (record { is = refl; whole = cc (sym e ∙ same.1) })
 
 pub no_pace : (bytes left rest more : List ℕ) (n : ℕ) (u : UnitOf) → IsNumberAt bytes n left → left ≡ 32 ∷ rest → rest ≡ unit_name u ++ more → is_pace (record { number = n; unit = u }) ≡ false → BeginsWithNone is_pace pace_bytes bytes
-no_pace bytes left rest more n u found e f none = λ pace behind k.
-    let same = number_same bytes n pace.number left (32 ∷ (unit_name pace.unit ++ behind)) found (pace_number bytes pace behind k) in
-    let units = unit_unique u pace.unit more behind (sym f ∙ cc (sym e ∙ same.1)) in
+no_pace bytes left rest more n u found e f none = λ pace after k.
+    let same = number_same bytes n pace.number left (32 ∷ (unit_name pace.unit ++ after)) found (pace_number bytes pace after k) in
+    let units = unit_unique u pace.unit more after (sym f ∙ cc (sym e ∙ same.1)) in
     let is : record { number = n; unit = u } ≡ pace = ap (λ (k : ℕ). record { number = k; unit = u }) same.0 ∙ ap (λ (v : UnitOf). record { number = pace.number; unit = v }) units.0 in
     false≢true (sym none ∙ ap is_pace is ∙ k.is)
 

@@ -1,53 +1,45 @@
 -- Bytes that begin with no part of a text begin with no such text.
-use Rattle.std.proofs.Common.{◌≡◌, ◌/◌, ◌%◌, ℕ, pos, true, List, ◌∷◌, ◌++◌, Option, None, MatchOption, sym, ap, ◌∙◌, subst, arith}
-use Rattle.std.proofs.lemmas.Bool.Decides.{nat_tests}
-use Rattle.jiff_core.proofs.CalendarLemmas.{days_in_month_bounds}
-use Rattle.lrp_civil.specs.declared.dates.Date.{Date}
-use Rattle.lrp_civil.specs.Dates.{is_date}
-use Rattle.lrp_civil.specs.Moments.{clock_bytes, date_bytes, is_short, two_digits, is_time_of_day}
+use Rattle.std.proofs.Common.{◌≡◌, ◌<◌, ℕ, true, false, List, ◌++◌, length, take, drop, Option, None, MatchOption, sym, ap, ◌∙◌, subst, arith}
+use Rattle.std.specs.List.{IsSplitAt}
+use Rattle.std.proofs.lemmas.Bool.{false≢true}
+use Rattle.std.proofs.lemmas.List.{length-append, take-append-drop}
+use Rattle.std.proofs.Math.Seq.{take-append_seam}
+use Rattle.std.specs.Prelude.{Bool}
 use Rattle.lrp_civil.specs.Parts.{BeginsWithNone, BeginsAs}
-use Rattle.lrp_civil.proofs.DateLemmas.{real_parts}
 
 -- a result that is none, where there is nothing
 pub none_is : {A : Type 0} (P : Type 0) (Q : A → Type 0) (r : Option A) → r ≡ None → P → MatchOption r P Q
 none_is {A} P Q r e p = let M : Option A → Type 0 = λ x. MatchOption x P Q in subst M (sym e) p
 
-short_time : (time : ℕ) → is_time_of_day time ≡ true → (is_short (time / 60) ≡ true) × (is_short (time % 60) ≡ true)
-short_time time h = (grind (arith, nat_tests), grind (arith, nat_tests))
+-- ---- texts of one length
 
--- without hours there is no time of day, nor without minutes
-pub no_hours : (bytes : List ℕ) → BeginsWithNone is_short two_digits bytes → BeginsWithNone is_time_of_day clock_bytes bytes
-no_hours bytes none = λ time behind r. none (time / 60) (58 ∷ (two_digits (time % 60) ++ behind)) (record { is = (short_time time r.is).0; whole = r.whole })
+-- the texts of the values with the test have this length
+abbrev pub HaveLength : {A : Type 0} → (A → Bool) → (A → List ℕ) → ℕ → Type 0
+HaveLength {A} test text n = (value : A) → test value ≡ true → length (text value) ≡ n
 
-pub no_minutes : (bytes left rest : List ℕ) (hours : ℕ) → BeginsAs is_short two_digits bytes hours left → left ≡ 58 ∷ rest → BeginsWithNone is_short two_digits rest → BeginsWithNone is_time_of_day clock_bytes bytes
-no_minutes bytes left rest hours r e none = λ time behind s.
-    let whole : two_digits hours ++ (58 ∷ rest) ≡ clock_bytes time ++ behind = ap (λ x. two_digits hours ++ x) (sym e) ∙ sym r.whole ∙ s.whole in
-    none (time % 60) behind (record { is = (short_time time s.is).1; whole = cc whole })
+-- fewer bytes begin with none
+pub none_short : {A : Type 0} (test : A → Bool) (text : A → List ℕ) (n : ℕ) (bytes : List ℕ) → HaveLength test text n → length bytes < n → BeginsWithNone test text bytes
+none_short test text n bytes long few = λ value rest r.
+    omega (arith, ap length r.whole, length-append (text value) rest, long value r.is, few)
 
--- without a part of a date there is no date
-short_date : (d : Date) → is_date d ≡ true → (is_short (d.year / 100) ≡ true) × (is_short (d.year % 100) ≡ true) × (is_short d.month ≡ true) × (is_short d.day ≡ true)
-short_date d h = let r = real_parts d h in (grind (arith, nat_tests, r.year_high), grind (arith, nat_tests), grind (arith, nat_tests, r.month_high), grind (arith, nat_tests, r.day_high, days_in_month_bounds (pos d.year) d.month))
+-- nor do bytes of which as many are none
+pub none_front : {A : Type 0} (test : A → Bool) (text : A → List ℕ) (n : ℕ) (bytes front back : List ℕ) → HaveLength test text n → IsSplitAt bytes n front back
+    → ((value : A) → test value ≡ true → front ≡ text value → ⊥) → BeginsWithNone test text bytes
+none_front test text n bytes front back long s none = λ value rest r.
+    none value r.is (s.1 ∙ ap (take n) r.whole ∙ ap (λ k. take k (text value ++ rest)) (sym (long value r.is)) ∙ take-append_seam (text value) rest)
 
--- the bytes of a date, from its year on
-no_parts : (bytes : List ℕ) → ((c y m d : ℕ) (behind : List ℕ) → is_short c ≡ true → is_short y ≡ true → is_short m ≡ true → is_short d ≡ true
-    → bytes ≡ two_digits c ++ (two_digits y ++ (45 ∷ (two_digits m ++ (45 ∷ (two_digits d ++ behind))))) → ⊥) → BeginsWithNone is_date date_bytes bytes
-no_parts bytes f = λ date behind r. let k = short_date date r.is in f (date.year / 100) (date.year % 100) date.month date.day behind k.0 k.1 k.2 k.3 r.whole
+-- bytes of which as many are the text of one begin with it
+pub front_read : {A : Type 0} (test : A → Bool) (text : A → List ℕ) (n : ℕ) (bytes front back : List ℕ) (value : A) → IsSplitAt bytes n front back → test value ≡ true → front ≡ text value → BeginsAs test text bytes value back
+front_read test text n bytes front back value s is e =
+    record { is = is; whole = sym (take-append-drop n bytes) ∙ ap (λ x. x ++ drop n bytes) (sym s.1 ∙ e) ∙ ap (λ x. text value ++ x) (sym s.2) }
 
-pub no_century : (bytes : List ℕ) → BeginsWithNone is_short two_digits bytes → BeginsWithNone is_date date_bytes bytes
-no_century bytes none = no_parts bytes (λ c y m d behind i j k l e. none c (two_digits y ++ (45 ∷ (two_digits m ++ (45 ∷ (two_digits d ++ behind))))) (record { is = i; whole = e }))
+-- ---- a text that may spell one value alone
 
-pub no_year : (bytes left : List ℕ) (century : ℕ) → BeginsAs is_short two_digits bytes century left → BeginsWithNone is_short two_digits left → BeginsWithNone is_date date_bytes bytes
-no_year bytes left century r none = no_parts bytes (λ c y m d behind i j k l e.
-    let whole = sym r.whole ∙ e in
-    none y (45 ∷ (two_digits m ++ (45 ∷ (two_digits d ++ behind)))) (record { is = j; whole = cc whole }))
+-- it spells none where that has not the test, or another text
+pub none_unlike : {A : Type 0} (test : A → Bool) (text : A → List ℕ) (bytes : List ℕ) (likely : A) → ((value : A) → test value ≡ true → bytes ≡ text value → value ≡ likely)
+    → test likely ≡ false → (value : A) → test value ≡ true → bytes ≡ text value → ⊥
+none_unlike test text bytes likely only no_test value is e = false≢true (sym no_test ∙ ap test (sym (only value is e)) ∙ is)
 
-pub no_month : (bytes left rest more : List ℕ) (century year : ℕ) → BeginsAs is_short two_digits bytes century left → BeginsAs is_short two_digits left year rest → rest ≡ 45 ∷ more → BeginsWithNone is_short two_digits more → BeginsWithNone is_date date_bytes bytes
-no_month bytes left rest more century year r s t none = no_parts bytes (λ c y m d behind i j k l e.
-    let whole = sym r.whole ∙ e in
-    none m (45 ∷ (two_digits d ++ behind)) (record { is = k; whole = cc (whole, s.whole, t) }))
-
-pub no_day : (bytes left rest more last end : List ℕ) (century year month : ℕ) → BeginsAs is_short two_digits bytes century left → BeginsAs is_short two_digits left year rest → rest ≡ 45 ∷ more
-    → BeginsAs is_short two_digits more month last → last ≡ 45 ∷ end → BeginsWithNone is_short two_digits end → BeginsWithNone is_date date_bytes bytes
-no_day bytes left rest more last end century year month r s t u v none = no_parts bytes (λ c y m d behind i j k l e.
-    let whole = sym r.whole ∙ e in
-    none d behind (record { is = l; whole = cc (whole, s.whole, t, u.whole, v) }))
+pub none_other : {A : Type 0} (test : A → Bool) (text : A → List ℕ) (bytes : List ℕ) (likely : A) → ((value : A) → test value ≡ true → bytes ≡ text value → value ≡ likely)
+    → (bytes ≡ text likely → ⊥) → (value : A) → test value ≡ true → bytes ≡ text value → ⊥
+none_other test text bytes likely only no_text value is e = no_text (e ∙ ap text (only value is e))

@@ -8,7 +8,7 @@ use Rattle.std.proofs.Math.Seq.{drop-append_seam}
 use Rattle.lrp_civil.specs.declared.values.CivilValue.{CivilValue}
 use Rattle.lrp_civil.specs.declared.values.CivilText.{CivilText}
 use Rattle.lrp_civil.specs.CivilValues.{padded_bytes, spelled}
-use Rattle.lrp_civil.specs.Tokens.{behind_blanks, is_last}
+use Rattle.lrp_civil.specs.Tokens.{after_blanks, is_last}
 use Rattle.lrp_civil.specs.PlainText.{HasSamePlaces, blanks, plain_as, plain_bytes_of, plain_from, plain_value, signs_of, value_in}
 use Rattle.lrp_civil.proofs.PlainLemmas.{blanks_whole}
 use Rattle.lrp_civil.proofs.PlainSizes.{padded_line, padded_size, spelled_line}
@@ -65,7 +65,7 @@ value_feeds : (kind : CivilText) (f : List ℕ → List ℕ) (here : List ℕ) (
 value_feeds kind f here (Some v) e same =
     let s = as_civil kind here v (value_spelled kind here v e) in
     let rest = drop (length (spelled v)) here in
-    let left : rest ≡ s.behind = ap (drop (length (spelled v))) s.read.whole ∙ drop-append_seam (spelled v) s.behind in
+    let left : rest ≡ s.rest = ap (drop (length (spelled v))) s.read.whole ∙ drop-append_seam (spelled v) s.rest in
     let whole : spelled v ++ rest ≡ here = ap (λ x. spelled v ++ x) left ∙ sym s.read.whole in
     subst (SameFeeds (padded_bytes v ++ f rest)) whole (feeds_append (padded_bytes v) (spelled v) (f rest) rest (feeds_lines (padded_bytes v) (spelled v) (padded_line v s.read.is) (spelled_line v s.read.is) (padded_size v s.read.is)) (same rest))
 value_feeds kind f here None e same = token_feeds kind f here (is_last (scan_in (signs_of kind) here).token) same
@@ -74,7 +74,7 @@ turns_feeds : (kind : CivilText) (n : ℕ) (bytes : List ℕ) → SameFeeds (pla
 unfolding plain_from
 turns_feeds kind zero bytes = feeds_refl bytes
 turns_feeds kind (suc n) bytes =
-    let here = behind_blanks bytes in
+    let here = after_blanks bytes in
     subst (SameFeeds (blanks bytes ++ plain_value kind (plain_from kind n) here (value_in kind here))) (blanks_whole bytes)
     (feeds_append (blanks bytes) (blanks bytes) (plain_value kind (plain_from kind n) here (value_in kind here)) here (feeds_refl (blanks bytes)) (value_feeds kind (plain_from kind n) here (value_in kind here) refl (turns_feeds kind n)))
 

@@ -11,7 +11,7 @@ use Rattle.lrp_civil.specs.declared.values.CivilValue.TheVariants.{Daily, Weekly
 use Rattle.lrp_civil.specs.declared.values.CivilText.{CivilText}
 use Rattle.lrp_civil.specs.Moments.{clock_bytes, date_bytes}
 use Rattle.lrp_civil.specs.CivilValues.{pace_bytes, padded_bytes, spelled}
-use Rattle.lrp_civil.specs.Tokens.{IsBehindToken, behind_blanks, is_last}
+use Rattle.lrp_civil.specs.Tokens.{IsAfterToken, after_blanks, is_last}
 use Rattle.lrp_civil.specs.PlainText.{IsFirstValue, IsSpelledAt, IsSpelledIn, blanks, plain_as, plain_bytes_of, plain_from, plain_value, signs_of, value_in}
 use Rattle.std.specs.Str.{IsUtf8, is_utf8}
 use Rattle.std.proofs.lemmas.Str.{IsUtf8-from_is_utf8, is_utf8-from_IsUtf8}
@@ -21,13 +21,13 @@ use Rattle.lrp_civil.proofs.ValueLemmas.{as_civil}
 
 -- ---- what is taken
 
--- blanks and comments, and what stands behind them
-pub blanks_whole : (bytes : List ℕ) → blanks bytes ++ behind_blanks bytes ≡ bytes
+-- blanks and comments, and what stands after them
+pub blanks_whole : (bytes : List ℕ) → blanks bytes ++ after_blanks bytes ≡ bytes
 blanks_whole bytes =
-    let n = length bytes - length (behind_blanks bytes) in
+    let n = length bytes - length (after_blanks bytes) in
     ap (λ rest. take n bytes ++ rest) (sym (skip_rest start bytes)) ∙ take-append-drop n bytes
 
-pub blanks_shorter : (bytes : List ℕ) → length (behind_blanks bytes) ≤ length bytes
+pub blanks_shorter : (bytes : List ℕ) → length (after_blanks bytes) ≤ length bytes
 blanks_shorter bytes = skip_shorter start bytes
 
 spelled_some : (v : CivilValue) → 0 < length (spelled v)
@@ -36,11 +36,11 @@ spelled_some (Weekly day time) = omega arith
 spelled_some (On date time) = omega arith
 spelled_some (Every pace date time) = omega (arith, length-append (codes "every ") (pace_bytes pace ++ (codes " from " ++ (date_bytes date ++ (codes " " ++ clock_bytes time)))))
 
--- behind a value less is left
+-- after a value less is left
 pub value_shorter : (here : List ℕ) (v : CivilValue) → IsSpelledAt here v → length (drop (length (spelled v)) here) < length here
 value_shorter here v s =
-    let size : length here ≡ length (spelled v) + length s.behind = ap length s.read.whole ∙ length-append (spelled v) s.behind in
-    let left : length (drop (length (spelled v)) here) ≡ length s.behind = ap length (ap (drop (length (spelled v))) s.read.whole ∙ drop-append_seam (spelled v) s.behind) in
+    let size : length here ≡ length (spelled v) + length s.rest = ap length s.read.whole ∙ length-append (spelled v) s.rest in
+    let left : length (drop (length (spelled v)) here) ≡ length s.rest = ap length (ap (drop (length (spelled v))) s.read.whole ∙ drop-append_seam (spelled v) s.rest) in
     omega (arith, spelled_some v)
 
 -- a token that others follow takes some bytes
@@ -72,7 +72,7 @@ value_same : (kind : CivilText) (f g : List ℕ → List ℕ) (here : List ℕ) 
 value_same kind f g here (Some v) e same = ap (λ rest. padded_bytes v ++ rest) (same (drop (length (spelled v)) here) (value_shorter here v (as_civil kind here v (value_spelled kind here v e))))
 value_same kind f g here None e same = token_same kind f g here (is_last (scan_in (signs_of kind) here).token) refl same
 
-one_turn : (kind : CivilText) (n : ℕ) (bytes : List ℕ) → plain_from kind (suc n) bytes ≡ blanks bytes ++ plain_value kind (plain_from kind n) (behind_blanks bytes) (value_in kind (behind_blanks bytes))
+one_turn : (kind : CivilText) (n : ℕ) (bytes : List ℕ) → plain_from kind (suc n) bytes ≡ blanks bytes ++ plain_value kind (plain_from kind n) (after_blanks bytes) (value_in kind (after_blanks bytes))
 unfolding plain_from
 one_turn kind n bytes = refl
 
@@ -80,7 +80,7 @@ turns_same : (kind : CivilText) (n m : ℕ) (bytes : List ℕ) → length bytes 
 turns_same kind zero m bytes h k = absurd (omega arith)
 turns_same kind (suc n) zero bytes h k = absurd (omega arith)
 turns_same kind (suc n) (suc m) bytes h k =
-    let here = behind_blanks bytes in
+    let here = after_blanks bytes in
     let short = blanks_shorter bytes in
     let same : Agree (length here) (plain_from kind n) (plain_from kind m) = λ rest lt. turns_same kind n m rest (omega arith) (omega arith) in
     one_turn kind n bytes ∙ ap (λ rest. blanks bytes ++ rest) (value_same kind (plain_from kind n) (plain_from kind m) here (value_in kind here) refl same) ∙ sym (one_turn kind m bytes)
@@ -90,9 +90,9 @@ unfolding plain_bytes_of
 plain_is kind bytes = refl
 
 -- the plain text by its first token
-pub turn : (kind : CivilText) (bytes : List ℕ) → plain_bytes_of kind bytes ≡ blanks bytes ++ plain_value kind (plain_bytes_of kind) (behind_blanks bytes) (value_in kind (behind_blanks bytes))
+pub turn : (kind : CivilText) (bytes : List ℕ) → plain_bytes_of kind bytes ≡ blanks bytes ++ plain_value kind (plain_bytes_of kind) (after_blanks bytes) (value_in kind (after_blanks bytes))
 turn kind bytes =
-    let here = behind_blanks bytes in
+    let here = after_blanks bytes in
     let short = blanks_shorter bytes in
     let same : Agree (length here) (plain_from kind (length bytes)) (plain_bytes_of kind) = λ rest lt. turns_same kind (length bytes) (suc (length rest)) rest (omega arith) (omega arith) ∙ sym (plain_is kind rest) in
     plain_is kind bytes ∙ one_turn kind (length bytes) bytes ∙ ap (λ rest. blanks bytes ++ rest) (value_same kind (plain_from kind (length bytes)) (plain_bytes_of kind) here (value_in kind here) refl same)
@@ -109,8 +109,8 @@ pub begins_way : (kind : CivilText) (bytes : List ℕ) → IsOnTheWay kind bytes
 begins_way kind bytes = record { front = []; whole = refl; same = refl }
 
 -- the three cases of a turn
-value_turn : (kind : CivilText) (rest : List ℕ) (v : CivilValue) → value_in kind (behind_blanks rest) ≡ Some v → plain_bytes_of kind rest ≡ blanks rest ++ (padded_bytes v ++ plain_bytes_of kind (drop (length (spelled v)) (behind_blanks rest)))
-value_turn kind rest v e = turn kind rest ∙ ap (λ o. blanks rest ++ plain_value kind (plain_bytes_of kind) (behind_blanks rest) o) e
+value_turn : (kind : CivilText) (rest : List ℕ) (v : CivilValue) → value_in kind (after_blanks rest) ≡ Some v → plain_bytes_of kind rest ≡ blanks rest ++ (padded_bytes v ++ plain_bytes_of kind (drop (length (spelled v)) (after_blanks rest)))
+value_turn kind rest v e = turn kind rest ∙ ap (λ o. blanks rest ++ plain_value kind (plain_bytes_of kind) (after_blanks rest) o) e
 
 chosen_false : (b : Bool) (x y : List ℕ) → b ≡ false → (if b then x else y) ≡ y
 chosen_false b x y e = ap (λ c. if c then x else y) e
@@ -118,27 +118,27 @@ chosen_false b x y e = ap (λ c. if c then x else y) e
 chosen_true : (b : Bool) (x y : List ℕ) → b ≡ true → (if b then x else y) ≡ x
 chosen_true b x y e = ap (λ c. if c then x else y) e
 
-token_turn : (kind : CivilText) (rest : List ℕ) → value_in kind (behind_blanks rest) ≡ None → is_last (scan_in (signs_of kind) (behind_blanks rest)).token ≡ false → plain_bytes_of kind rest ≡ blanks rest ++ ((scan_in (signs_of kind) (behind_blanks rest)).taken ++ plain_bytes_of kind (scan_in (signs_of kind) (behind_blanks rest)).left)
+token_turn : (kind : CivilText) (rest : List ℕ) → value_in kind (after_blanks rest) ≡ None → is_last (scan_in (signs_of kind) (after_blanks rest)).token ≡ false → plain_bytes_of kind rest ≡ blanks rest ++ ((scan_in (signs_of kind) (after_blanks rest)).taken ++ plain_bytes_of kind (scan_in (signs_of kind) (after_blanks rest)).left)
 token_turn kind rest e f =
-    let here = behind_blanks rest in
+    let here = after_blanks rest in
     turn kind rest ∙ ap (λ o. blanks rest ++ plain_value kind (plain_bytes_of kind) here o) e ∙ ap (λ x. blanks rest ++ x) (chosen_false (is_last (scan_in (signs_of kind) here).token) here ((scan_in (signs_of kind) here).taken ++ plain_bytes_of kind (scan_in (signs_of kind) here).left) f)
 
-last_turn : (kind : CivilText) (rest : List ℕ) → value_in kind (behind_blanks rest) ≡ None → is_last (scan_in (signs_of kind) (behind_blanks rest)).token ≡ true → plain_bytes_of kind rest ≡ rest
+last_turn : (kind : CivilText) (rest : List ℕ) → value_in kind (after_blanks rest) ≡ None → is_last (scan_in (signs_of kind) (after_blanks rest)).token ≡ true → plain_bytes_of kind rest ≡ rest
 last_turn kind rest e f =
-    let here = behind_blanks rest in
+    let here = after_blanks rest in
     turn kind rest ∙ ap (λ o. blanks rest ++ plain_value kind (plain_bytes_of kind) here o) e ∙ ap (λ x. blanks rest ++ x) (chosen_true (is_last (scan_in (signs_of kind) here).token) here ((scan_in (signs_of kind) here).taken ++ plain_bytes_of kind (scan_in (signs_of kind) here).left) f) ∙ blanks_whole rest
 
--- behind a token
-pub way_on : (kind : CivilText) (bytes rest here left : List ℕ) → IsOnTheWay kind bytes rest → here ≡ behind_blanks rest → value_in kind here ≡ None → IsBehindToken (signs_of kind) here left → IsOnTheWay kind bytes left
+-- after a token
+pub way_on : (kind : CivilText) (bytes rest here left : List ℕ) → IsOnTheWay kind bytes rest → here ≡ after_blanks rest → value_in kind here ≡ None → IsAfterToken (signs_of kind) here left → IsOnTheWay kind bytes left
 way_on kind bytes rest here left w e f k =
-    let s = scan_in (signs_of kind) (behind_blanks rest) in
+    let s = scan_in (signs_of kind) (after_blanks rest) in
     let goes : is_last s.token ≡ false = ap (λ x. is_last (scan_in (signs_of kind) x).token) (sym e) ∙ k.goes_on in
-    let behind : s.left ≡ left = ap (λ x. (scan_in (signs_of kind) x).left) (sym e) ∙ k.left in
+    let after : s.left ≡ left = ap (λ x. (scan_in (signs_of kind) x).left) (sym e) ∙ k.left in
     let more = w.front ++ (blanks rest ++ s.taken) in
     let rest_is : rest ≡ (blanks rest ++ s.taken) ++ left =
-    sym (blanks_whole rest) ∙ ap (λ x. blanks rest ++ x) (sym (scan_taken_in (signs_of kind) (behind_blanks rest)).whole) ∙ sym (append_assoc (blanks rest) s.taken s.left) ∙ ap (λ x. (blanks rest ++ s.taken) ++ x) behind in
+    sym (blanks_whole rest) ∙ ap (λ x. blanks rest ++ x) (sym (scan_taken_in (signs_of kind) (after_blanks rest)).whole) ∙ sym (append_assoc (blanks rest) s.taken s.left) ∙ ap (λ x. (blanks rest ++ s.taken) ++ x) after in
     let plain_rest : plain_bytes_of kind rest ≡ (blanks rest ++ s.taken) ++ plain_bytes_of kind left =
-    token_turn kind rest (ap (value_in kind) (sym e) ∙ f) goes ∙ sym (append_assoc (blanks rest) s.taken (plain_bytes_of kind s.left)) ∙ ap (λ x. (blanks rest ++ s.taken) ++ plain_bytes_of kind x) behind in
+    token_turn kind rest (ap (value_in kind) (sym e) ∙ f) goes ∙ sym (append_assoc (blanks rest) s.taken (plain_bytes_of kind s.left)) ∙ ap (λ x. (blanks rest ++ s.taken) ++ plain_bytes_of kind x) after in
     record {
       front = more;
       whole = w.whole ∙ ap (λ x. w.front ++ x) rest_is ∙ sym (append_assoc w.front (blanks rest ++ s.taken) left);
@@ -146,50 +146,50 @@ way_on kind bytes rest here left w e f k =
     }
 
 -- at a value
-pub way_value : (kind : CivilText) (bytes rest here : List ℕ) (v : CivilValue) → IsOnTheWay kind bytes rest → here ≡ behind_blanks rest → IsSpelledAt here v → value_in kind here ≡ Some v
+pub way_value : (kind : CivilText) (bytes rest here : List ℕ) (v : CivilValue) → IsOnTheWay kind bytes rest → here ≡ after_blanks rest → IsSpelledAt here v → value_in kind here ≡ Some v
     → IsFirstValue kind bytes (take (length bytes - length here) bytes) v (drop (length (spelled v)) here)
 way_value kind bytes rest here v w e s f =
     let before = w.front ++ blanks rest in
-    let behind = drop (length (spelled v)) here in
+    let after = drop (length (spelled v)) here in
     let whole : bytes ≡ before ++ here =
     w.whole ∙ ap (λ x. w.front ++ x) (sym (blanks_whole rest) ∙ ap (λ x. blanks rest ++ x) (sym e)) ∙ sym (append_assoc w.front (blanks rest) here) in
     let size : length bytes - length here ≡ length before = omega (arith, ap length whole, length-append before here) in
     let front : take (length bytes - length here) bytes ≡ before = ap (λ n. take n bytes) size ∙ ap (take (length before)) whole ∙ take-append_seam before here in
-    let made : plain_bytes_of kind rest ≡ blanks rest ++ (padded_bytes v ++ plain_bytes_of kind behind) = value_turn kind rest v (ap (value_in kind) (sym e) ∙ f) ∙ ap (λ x. blanks rest ++ (padded_bytes v ++ plain_bytes_of kind (drop (length (spelled v)) x))) (sym e) in
+    let made : plain_bytes_of kind rest ≡ blanks rest ++ (padded_bytes v ++ plain_bytes_of kind after) = value_turn kind rest v (ap (value_in kind) (sym e) ∙ f) ∙ ap (λ x. blanks rest ++ (padded_bytes v ++ plain_bytes_of kind (drop (length (spelled v)) x))) (sym e) in
     record {
       civil = s.read.is;
-      is = w.same ∙ ap (λ x. w.front ++ x) made ∙ sym (append_assoc w.front (blanks rest) (padded_bytes v ++ plain_bytes_of kind behind)) ∙ ap (λ x. x ++ (padded_bytes v ++ plain_bytes_of kind behind)) (sym front);
+      is = w.same ∙ ap (λ x. w.front ++ x) made ∙ sym (append_assoc w.front (blanks rest) (padded_bytes v ++ plain_bytes_of kind after)) ∙ ap (λ x. x ++ (padded_bytes v ++ plain_bytes_of kind after)) (sym front);
     }
 
 -- at the end
-pub way_end : (kind : CivilText) (bytes rest here : List ℕ) → IsOnTheWay kind bytes rest → here ≡ behind_blanks rest → value_in kind here ≡ None → is_last (scan_in (signs_of kind) here).token ≡ true → plain_bytes_of kind bytes ≡ bytes
+pub way_end : (kind : CivilText) (bytes rest here : List ℕ) → IsOnTheWay kind bytes rest → here ≡ after_blanks rest → value_in kind here ≡ None → is_last (scan_in (signs_of kind) here).token ≡ true → plain_bytes_of kind bytes ≡ bytes
 way_end kind bytes rest here w e f last =
     w.same ∙ ap (λ x. w.front ++ x) (last_turn kind rest (ap (value_in kind) (sym e) ∙ f) (ap (λ x. is_last (scan_in (signs_of kind) x).token) (sym e) ∙ last)) ∙ sym w.whole
 
--- behind a token less is left
-pub token_left : (wide : Bool) (here left : List ℕ) → IsBehindToken wide here left → length left < length here
+-- after a token less is left
+pub token_left : (wide : Bool) (here left : List ℕ) → IsAfterToken wide here left → length left < length here
 token_left wide here left k = omega (arith, token_shorter wide here k.goes_on, ap length k.left)
 
 -- the same of a flag that is the same
-pub behind_signs : (wide signs : Bool) (here left : List ℕ) → wide ≡ signs → IsBehindToken wide here left → IsBehindToken signs here left
-behind_signs wide signs here left e k = subst (λ w. IsBehindToken w here left) e k
+pub after_signs : (wide signs : Bool) (here left : List ℕ) → wide ≡ signs → IsAfterToken wide here left → IsAfterToken signs here left
+after_signs wide signs here left e k = subst (λ w. IsAfterToken w here left) e k
 
 pub last_signs : (wide signs : Bool) (here : List ℕ) → wide ≡ signs → is_last (scan_in wide here).token ≡ true → is_last (scan_in signs here).token ≡ true
 last_signs wide signs here e k = subst (λ w. is_last (scan_in w here).token ≡ true) e k
 
--- the bytes behind the first n, as a slice has them
-pub behind_is : (n : ℕ) (bytes : List ℕ) → take (length bytes - n) (drop n bytes) ≡ drop n bytes
-behind_is n bytes = take_all (length bytes - n) (drop n bytes) (omega (arith, length-drop n bytes))
+-- the bytes after the first n, as a slice has them
+pub after_is : (n : ℕ) (bytes : List ℕ) → take (length bytes - n) (drop n bytes) ≡ drop n bytes
+after_is n bytes = take_all (length bytes - n) (drop n bytes) (omega (arith, length-drop n bytes))
 
 -- at a value, as the code has it
-pub value_here : (kind : CivilText) (bytes rest here : List ℕ) (v : CivilValue) (n : ℕ) → IsOnTheWay kind bytes rest → here ≡ behind_blanks rest → IsSpelledIn kind here v → n ≡ length (spelled v)
+pub value_here : (kind : CivilText) (bytes rest here : List ℕ) (v : CivilValue) (n : ℕ) → IsOnTheWay kind bytes rest → here ≡ after_blanks rest → IsSpelledIn kind here v → n ≡ length (spelled v)
     → IsFirstValue kind bytes (take (length bytes - length here) bytes) v (take (length here - n) (drop n here))
 value_here kind bytes rest here v n w e s size =
-    let P : List ℕ → Type 0 = λ behind. IsFirstValue kind bytes (take (length bytes - length here) bytes) v behind in
-    subst P (ap (λ m. drop m here) (sym size) ∙ sym (behind_is n here)) (way_value kind bytes rest here v w e (as_civil kind here v s) (value_is kind here v s))
+    let P : List ℕ → Type 0 = λ after. IsFirstValue kind bytes (take (length bytes - length here) bytes) v after in
+    subst P (ap (λ m. drop m here) (sym size) ∙ sym (after_is n here)) (way_value kind bytes rest here v w e (as_civil kind here v s) (value_is kind here v s))
 
 pub value_left : (kind : CivilText) (here : List ℕ) (v : CivilValue) (n : ℕ) → IsSpelledIn kind here v → n ≡ length (spelled v) → length (take (length here - n) (drop n here)) < length here
-value_left kind here v n s size = omega (arith, ap length (behind_is n here), ap (λ m. length (drop m here)) size, value_shorter here v (as_civil kind here v s))
+value_left kind here v n s size = omega (arith, ap length (after_is n here), ap (λ m. length (drop m here)) size, value_shorter here v (as_civil kind here v s))
 
 -- ---- the text of a file
 

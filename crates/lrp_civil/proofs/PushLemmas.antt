@@ -36,9 +36,9 @@ padded_is old made new v end now h e f g k =
 
 -- ---- the whole text
 
-pub piece_on : (text before padded behind whole now next : List ℕ) → text ++ now ≡ whole → now ≡ before ++ (padded ++ behind) → next ≡ (text ++ before) ++ padded → next ++ behind ≡ whole
-piece_on text before padded behind whole now next e f g =
-    ap (λ x. x ++ behind) g ∙ append_assoc (text ++ before) padded behind ∙ append_assoc text before (padded ++ behind) ∙ ap (λ x. text ++ x) (sym f) ∙ e
+pub piece_on : (text before padded after whole now next : List ℕ) → text ++ now ≡ whole → now ≡ before ++ (padded ++ after) → next ≡ (text ++ before) ++ padded → next ++ after ≡ whole
+piece_on text before padded after whole now next e f g =
+    ap (λ x. x ++ after) g ∙ append_assoc (text ++ before) padded after ∙ append_assoc text before (padded ++ after) ∙ ap (λ x. text ++ x) (sym f) ∙ e
 
 pub piece_end : (text rest whole now new : List ℕ) → text ++ now ≡ whole → now ≡ rest → new ≡ text ++ rest → new ≡ whole
 piece_end text rest whole now new e f g = g ∙ ap (λ x. text ++ x) (sym f) ∙ e

@@ -1,5 +1,5 @@
 -- The civil value that could stand at the front of some bytes and does is the one that is spelled there.
-use Rattle.std.proofs.Common.{◌≡◌, ◌⊎◌, ◌==◌, ◌+◌, inl, inr, ℕ, zero, suc, Bool, true, false, not, ◌&&◌, nat_eq, get_or, drop-drop, codes, List, [], ◌∷◌, ◌++◌, length, take, drop, Option, None, Some, MatchOption, refl, sym, ap, ap₂, ◌∙◌, subst, cond, arith}
+use Rattle.std.proofs.Common.{◌≡◌, ◌⊎◌, ◌==◌, ◌+◌, inl, inr, ℕ, zero, suc, Bool, true, false, not, ◌&&◌, nat_eq, get_or, drop-drop, codes, List, [], ◌∷◌, ◌++◌, length, take, drop, Option, None, Some, refl, sym, ap, ap₂, ◌∙◌, subst, cond, arith}
 use Rattle.std.specs.Prelude.{find}
 use Rattle.std.specs.List.{starts_with}
 use Rattle.std.specs.Str.{bytes_eq}
@@ -18,19 +18,18 @@ use Rattle.lrp_civil.specs.declared.values.Unit.{Unit as UnitOf}
 use Rattle.lrp_civil.specs.declared.values.Unit.TheVariants.{Minutes, Hours, Days, Weeks}
 use Rattle.lrp_model.specs.Lexing.{run}
 use Rattle.std.specs.Char.{is_ascii_digit}
-use Rattle.std.specs.Fmt.{decimal}
 use Rattle.std.specs.Str.Parse.{digits_value}
 use Rattle.lrp_civil.specs.Dates.{is_date}
 use Rattle.lrp_civil.specs.Moments.{clock_bytes, is_time_of_day}
-use Rattle.lrp_civil.specs.CivilValues.{day_name, has_paces, is_civil, is_value_in, is_weekday, spelled, unit_name}
+use Rattle.lrp_civil.specs.CivilValues.{day_name, is_civil, is_value_in, is_weekday, spelled, unit_name}
 use Rattle.lrp_civil.specs.Parts.{goes_on}
 use Rattle.lrp_civil.specs.PlainText.{IsSpelledAt, IsSpelledIn, begins, date_in, paces, possible, possible_in, time_in, value_in}
 use Rattle.lrp_civil.proofs.Counts.{either}
 use Rattle.lrp_civil.proofs.Numbers.{date_in_is, time_in_is}
 use Rattle.lrp_civil.proofs.EveryLemmas.{every_rest, tail, tail_date, tail_time, tests_of}
-use Rattle.lrp_civil.proofs.PaceLemmas.{IsRunOf, number_run, number_value, pace_number, pace_size, pace_unique}
+use Rattle.lrp_civil.proofs.PaceLemmas.{number_run, number_value, pace_number, pace_size, pace_unique}
 use Rattle.lrp_civil.proofs.ValueLemmas.{as_civil, as_paced, first_of, first_of_value, letters_differ, read_as, week_whole}
-use Rattle.lrp_civil.proofs.Weekdays.{behind_name, name_unique}
+use Rattle.lrp_civil.proofs.Weekdays.{after_name, name_unique}
 
 -- ---- the test and the relation
 
@@ -45,7 +44,7 @@ begins_spelled bytes value h =
     let m = first_of (is_civil value) (starts_with nat_eq bytes (spelled value)) k.0 in
     let front : spelled value ≡ take size bytes = (bytes_eq-Decides (spelled value) (take size bytes)).0 m.1 in
     record {
-      behind = drop size bytes;
+      rest = drop size bytes;
       read = record { is = m.0; whole = sym (take-append-drop size bytes) ∙ ap (λ x. x ++ drop size bytes) (sym front) };
       ends = not_true (goes_on (drop size bytes)) k.1;
     }
@@ -56,30 +55,30 @@ all_three a b c e f g = rw (e, f, g) refl
 pub spelled_begins : (bytes : List ℕ) (value : CivilValue) → IsSpelledAt bytes value → begins bytes value ≡ true
 spelled_begins bytes value s =
     let size = length (spelled value) in
-    let front : spelled value ≡ take size bytes = sym (take-append_seam (spelled value) s.behind) ∙ ap (take size) (sym s.read.whole) in
-    let rest : drop size bytes ≡ s.behind = ap (drop size) s.read.whole ∙ drop-append_seam (spelled value) s.behind in
+    let front : spelled value ≡ take size bytes = sym (take-append_seam (spelled value) s.rest) ∙ ap (take size) (sym s.read.whole) in
+    let rest : drop size bytes ≡ s.rest = ap (drop size) s.read.whole ∙ drop-append_seam (spelled value) s.rest in
     all_three (is_civil value) (bytes_eq (spelled value) (take size bytes)) (goes_on (drop size bytes)) s.read.is ((bytes_eq-Decides (spelled value) (take size bytes)).1 front) (ap goes_on rest ∙ s.ends)
 
 -- ---- the numbers of the value that is spelled
 
 daily_time : (bytes : List ℕ) (time : ℕ) → IsSpelledAt bytes (Daily time) → time_in (drop 6 bytes) ≡ time
-daily_time bytes time s = ap (λ b. time_in (drop 6 b)) s.read.whole ∙ time_in_is time s.behind s.read.is
+daily_time bytes time s = ap (λ b. time_in (drop 6 b)) s.read.whole ∙ time_in_is time s.rest s.read.is
 
 on_date : (bytes : List ℕ) (date : Date) (time : ℕ) → IsSpelledAt bytes (On date time) → date_in (drop 3 bytes) ≡ date
 on_date bytes date time s =
     let k = first_of (is_date date) (is_time_of_day time) s.read.is in
-    ap (λ b. date_in (drop 3 b)) s.read.whole ∙ date_in_is date (32 ∷ (clock_bytes time ++ s.behind)) k.0
+    ap (λ b. date_in (drop 3 b)) s.read.whole ∙ date_in_is date (32 ∷ (clock_bytes time ++ s.rest)) k.0
 
 on_time : (bytes : List ℕ) (date : Date) (time : ℕ) → IsSpelledAt bytes (On date time) → time_in (drop 14 bytes) ≡ time
 on_time bytes date time s =
     let k = first_of (is_date date) (is_time_of_day time) s.read.is in
-    ap (λ b. time_in (drop 14 b)) s.read.whole ∙ time_in_is time s.behind k.1
+    ap (λ b. time_in (drop 14 b)) s.read.whole ∙ time_in_is time s.rest k.1
 
--- the bytes behind the word of a weekly value that is spelled
-behind_week : (bytes : List ℕ) (day time : ℕ) (s : IsSpelledAt bytes (Weekly day time)) → drop 7 bytes ≡ day_name day ++ (32 ∷ (clock_bytes time ++ s.behind))
-behind_week bytes day time s =
-    let rest = (day_name day ++ (32 ∷ clock_bytes time)) ++ s.behind in
-    ap (drop 7) s.read.whole ∙ week_whole bytes rest s.behind day time s.read.whole s.read.whole
+-- the bytes after the word of a weekly value that is spelled
+after_week : (bytes : List ℕ) (day time : ℕ) (s : IsSpelledAt bytes (Weekly day time)) → drop 7 bytes ≡ day_name day ++ (32 ∷ (clock_bytes time ++ s.rest))
+after_week bytes day time s =
+    let rest = (day_name day ++ (32 ∷ clock_bytes time)) ++ s.rest in
+    ap (drop 7) s.read.whole ∙ week_whole bytes rest s.rest day time s.read.whole s.read.whole
 
 drop_more : (bytes : List ℕ) → drop 11 bytes ≡ drop 4 (drop 7 bytes)
 drop_more [] = refl
@@ -94,7 +93,7 @@ drop_more (a ∷ b ∷ c ∷ d ∷ e ∷ f ∷ g ∷ bytes) = refl
 weekly_time : (bytes : List ℕ) (day time : ℕ) → IsSpelledAt bytes (Weekly day time) → time_in (drop 11 bytes) ≡ time
 weekly_time bytes day time s =
     let k = first_of (is_weekday day) (is_time_of_day time) s.read.is in
-    ap time_in (drop_more bytes ∙ ap (drop 4) (behind_week bytes day time s) ∙ behind_name day (clock_bytes time ++ s.behind) k.0) ∙ time_in_is time s.behind k.1
+    ap time_in (drop_more bytes ∙ ap (drop 4) (after_week bytes day time s) ∙ after_name day (clock_bytes time ++ s.rest) k.0) ∙ time_in_is time s.rest k.1
 
 -- ---- one value is spelled, and it is among the possible ones
 
@@ -105,14 +104,14 @@ apart bytes v w a b e f d = absurd (letters_differ a b d (e ∙ f))
 -- the date and the time of a value of a pace
 every_same : (bytes : List ℕ) (p q : Pace) (d e : Date) (t u : ℕ) (s : IsSpelledAt bytes (Every p d t)) (r : IsSpelledAt bytes (Every q e u)) → bytes ≡ codes "every " ++ drop 6 bytes → Every p d t ≡ Every q e u
 every_same bytes p q d e t u s r whole =
-    let same = pace_unique (drop 6 bytes) p q (tail d t s.behind) (tail e u r.behind) (every_rest bytes (drop 6 bytes) p d t whole s) (every_rest bytes (drop 6 bytes) q e u whole r) in
+    let same = pace_unique (drop 6 bytes) p q (tail d t s.rest) (tail e u r.rest) (every_rest bytes (drop 6 bytes) p d t whole s) (every_rest bytes (drop 6 bytes) q e u whole r) in
     let one = tests_of p d t s.read.is in
     let two = tests_of q e u r.read.is in
-    let date : d ≡ e = sym (tail_date d t s.behind one.real_date) ∙ ap (λ x. date_in (drop 6 x)) same.1 ∙ tail_date e u r.behind two.real_date in
-    let time : t ≡ u = sym (tail_time d t s.behind one.real_time) ∙ ap (λ x. time_in (drop 17 x)) same.1 ∙ tail_time e u r.behind two.real_time in
+    let date : d ≡ e = sym (tail_date d t s.rest one.real_date) ∙ ap (λ x. date_in (drop 6 x)) same.1 ∙ tail_date e u r.rest two.real_date in
+    let time : t ≡ u = sym (tail_time d t s.rest one.real_time) ∙ ap (λ x. time_in (drop 17 x)) same.1 ∙ tail_time e u r.rest two.real_time in
     ap (λ x. Every x d t) same.0 ∙ ap₂ (λ x y. Every q x y) date time
 
--- the word, and what stands behind it
+-- the word, and what stands after it
 every_front : (bytes : List ℕ) (p : Pace) (d : Date) (t : ℕ) → IsSpelledAt bytes (Every p d t) → bytes ≡ codes "every " ++ drop 6 bytes
 every_front bytes p d t s = s.read.whole ∙ ap (λ x. codes "every " ++ drop 6 x) (sym s.read.whole)
 
@@ -121,7 +120,7 @@ spelled_unique bytes (Daily t) (Daily u) s r = ap Daily (sym (daily_time bytes t
 spelled_unique bytes (Weekly j t) (Weekly k u) s r =
     let p = first_of (is_weekday j) (is_time_of_day t) s.read.is in
     let q = first_of (is_weekday k) (is_time_of_day u) r.read.is in
-    let day = (name_unique j k (32 ∷ (clock_bytes t ++ s.behind)) (32 ∷ (clock_bytes u ++ r.behind)) p.0 q.0 (sym (behind_week bytes j t s) ∙ behind_week bytes k u r)).0 in
+    let day = (name_unique j k (32 ∷ (clock_bytes t ++ s.rest)) (32 ∷ (clock_bytes u ++ r.rest)) p.0 q.0 (sym (after_week bytes j t s) ∙ after_week bytes k u r)).0 in
     ap₂ Weekly day (sym (weekly_time bytes j t s) ∙ weekly_time bytes k u r)
 spelled_unique bytes (On d t) (On e u) s r = ap₂ On (sym (on_date bytes d t s) ∙ on_date bytes e u r) (sym (on_time bytes d t s) ∙ on_time bytes e u r)
 spelled_unique bytes (Every p d t) (Every q e u) s r = every_same bytes p q d e t u s r (every_front bytes p d t s)
@@ -180,21 +179,21 @@ unit_begins bytes digits after_number e =
     let last : drop (length digits + 1) (digits ++ (32 ∷ after_number)) ≡ after_number = sym (drop-drop 1 (length digits) (digits ++ (32 ∷ after_number))) ∙ ap (drop 1) (drop-append_seam digits (32 ∷ after_number)) in
     ap (λ n. drop n bytes) more ∙ sym (drop-drop (length digits + 1) 6 bytes) ∙ ap (drop (length digits + 1)) e ∙ last
 
-among_unit : (bytes : List ℕ) (n : ℕ) (u : UnitOf) (d : Date) (t : ℕ) (behind : List ℕ) → digits_value 10 (run is_ascii_digit (drop 6 bytes)) ≡ n → drop (7 + length (run is_ascii_digit (drop 6 bytes))) bytes ≡ unit_name u ++ tail d t behind
+among_unit : (bytes : List ℕ) (n : ℕ) (u : UnitOf) (d : Date) (t : ℕ) (after : List ℕ) → digits_value 10 (run is_ascii_digit (drop 6 bytes)) ≡ n → drop (7 + length (run is_ascii_digit (drop 6 bytes))) bytes ≡ unit_name u ++ tail d t after
     → is_date d ≡ true → is_time_of_day t ≡ true → Among (Every (record { number = n; unit = u }) d t) (paces bytes)
-among_unit bytes n Minutes d t behind e f h k = inl (every_at _ n Minutes d _ t _ e (ap (λ x. date_in (drop 13 x)) f ∙ tail_date d t behind h) (ap (λ x. time_in (drop 24 x)) f ∙ tail_time d t behind k))
-among_unit bytes n Hours d t behind e f h k = inr (inl (every_at _ n Hours d _ t _ e (ap (λ x. date_in (drop 11 x)) f ∙ tail_date d t behind h) (ap (λ x. time_in (drop 22 x)) f ∙ tail_time d t behind k)))
-among_unit bytes n Days d t behind e f h k = inr (inr (inl (every_at _ n Days d _ t _ e (ap (λ x. date_in (drop 10 x)) f ∙ tail_date d t behind h) (ap (λ x. time_in (drop 21 x)) f ∙ tail_time d t behind k))))
-among_unit bytes n Weeks d t behind e f h k = inr (inr (inr (inl (every_at _ n Weeks d _ t _ e (ap (λ x. date_in (drop 11 x)) f ∙ tail_date d t behind h) (ap (λ x. time_in (drop 22 x)) f ∙ tail_time d t behind k)))))
+among_unit bytes n Minutes d t after e f h k = inl (every_at _ n Minutes d _ t _ e (ap (λ x. date_in (drop 13 x)) f ∙ tail_date d t after h) (ap (λ x. time_in (drop 24 x)) f ∙ tail_time d t after k))
+among_unit bytes n Hours d t after e f h k = inr (inl (every_at _ n Hours d _ t _ e (ap (λ x. date_in (drop 11 x)) f ∙ tail_date d t after h) (ap (λ x. time_in (drop 22 x)) f ∙ tail_time d t after k)))
+among_unit bytes n Days d t after e f h k = inr (inr (inl (every_at _ n Days d _ t _ e (ap (λ x. date_in (drop 10 x)) f ∙ tail_date d t after h) (ap (λ x. time_in (drop 21 x)) f ∙ tail_time d t after k))))
+among_unit bytes n Weeks d t after e f h k = inr (inr (inr (inl (every_at _ n Weeks d _ t _ e (ap (λ x. date_in (drop 11 x)) f ∙ tail_date d t after h) (ap (λ x. time_in (drop 22 x)) f ∙ tail_time d t after k)))))
 
 among_paces : (bytes : List ℕ) (p : Pace) (d : Date) (t : ℕ) → IsSpelledAt bytes (Every p d t) → Among (Every p d t) (paces bytes)
 among_paces bytes p d t s =
     let tests = tests_of p d t s.read.is in
     let size = pace_size p tests.real_pace in
-    let number = pace_number (drop 6 bytes) p (tail d t s.behind) (every_rest bytes (drop 6 bytes) p d t (every_front bytes p d t s) s) in
-    let digits = number_run (drop 6 bytes) p.number (32 ∷ (unit_name p.unit ++ tail d t s.behind)) size.small number.whole number.ends in
-    let begun : drop 6 bytes ≡ run is_ascii_digit (drop 6 bytes) ++ (32 ∷ (unit_name p.unit ++ tail d t s.behind)) = number.whole ∙ ap (λ x. x ++ (32 ∷ (unit_name p.unit ++ tail d t s.behind))) (sym digits.digits) in
-    among_unit bytes p.number p.unit d t s.behind (ap (digits_value 10) digits.digits ∙ number_value p.number size.small) (unit_begins bytes (run is_ascii_digit (drop 6 bytes)) (unit_name p.unit ++ tail d t s.behind) begun) tests.real_date tests.real_time
+    let number = pace_number (drop 6 bytes) p (tail d t s.rest) (every_rest bytes (drop 6 bytes) p d t (every_front bytes p d t s) s) in
+    let digits = number_run (drop 6 bytes) p.number (32 ∷ (unit_name p.unit ++ tail d t s.rest)) size.small number.whole number.ends in
+    let begun : drop 6 bytes ≡ run is_ascii_digit (drop 6 bytes) ++ (32 ∷ (unit_name p.unit ++ tail d t s.rest)) = number.whole ∙ ap (λ x. x ++ (32 ∷ (unit_name p.unit ++ tail d t s.rest))) (sym digits.digits) in
+    among_unit bytes p.number p.unit d t s.rest (ap (digits_value 10) digits.digits ∙ number_value p.number size.small) (unit_begins bytes (run is_ascii_digit (drop 6 bytes)) (unit_name p.unit ++ tail d t s.rest) begun) tests.real_date tests.real_time
 
 -- in two lists
 among_left : (v : CivilValue) (xs ys : List CivilValue) → Among v xs → Among v (xs ++ ys)

@@ -10,7 +10,7 @@ use Rattle.std.specs.Str.Parse.{digits_value}
 use Rattle.lrp_model.specs.Lexing.{QuotedText, Scanned, behind_run, is_blank, is_letter, is_name_byte, moved, run, skip, start, symbol_in, text_from, text_scanned, word_or_name, scan_in}
 use Rattle.std.specs.Char.{is_ascii_digit}
 use Rattle.lrp_text.proofs.Scans.{chosen}
-use Rattle.lrp_civil.specs.Tokens.{IsBehindSymbol, IsBehindToken, behind_text, is_last}
+use Rattle.lrp_civil.specs.Tokens.{IsAfterSymbol, IsAfterToken, after_quoted, is_last}
 
 -- what blanks and comments take does not depend on the place
 pub skip_place : (comment : Bool) (p q : Place) (bytes : List ℕ) → (skip comment p bytes).bytes ≡ (skip comment q bytes).bytes
@@ -69,41 +69,41 @@ scan_symbol : (wide : Bool) (b : ℕ) (bytes : List ℕ) → is_letter b ≡ fal
 unfolding scan_in
 scan_symbol wide b bytes e f g = rw (e, f, g) refl
 
-pub name_behind : (wide : Bool) (bytes behind : List ℕ) → 1 ≤ length bytes → is_letter (get_or bytes 0 0) ≡ true → behind ≡ behind_run is_name_byte bytes → IsBehindToken wide bytes behind
-name_behind wide [] behind h e f = absurd (omega arith)
-name_behind wide (b ∷ bytes) behind h e f =
+pub name_after : (wide : Bool) (bytes after : List ℕ) → 1 ≤ length bytes → is_letter (get_or bytes 0 0) ≡ true → after ≡ behind_run is_name_byte bytes → IsAfterToken wide bytes after
+name_after wide [] after h e f = absurd (omega arith)
+name_after wide (b ∷ bytes) after h e f =
     let s = scan_name wide b bytes e in
     record { goes_on = ap (λ x. is_last x.token) s ∙ word_goes (run is_name_byte (b ∷ bytes)); left = ap (λ x. x.left) s ∙ sym f }
 
-pub number_behind : (wide : Bool) (bytes behind : List ℕ) → 1 ≤ length bytes → is_letter (get_or bytes 0 0) ≡ false → is_ascii_digit (get_or bytes 0 0) ≡ true → behind ≡ behind_run is_ascii_digit bytes → IsBehindToken wide bytes behind
-number_behind wide [] behind h e f g = absurd (omega arith)
-number_behind wide (b ∷ bytes) behind h e f g =
+pub number_after : (wide : Bool) (bytes after : List ℕ) → 1 ≤ length bytes → is_letter (get_or bytes 0 0) ≡ false → is_ascii_digit (get_or bytes 0 0) ≡ true → after ≡ behind_run is_ascii_digit bytes → IsAfterToken wide bytes after
+number_after wide [] after h e f g = absurd (omega arith)
+number_after wide (b ∷ bytes) after h e f g =
     let s = scan_number wide b bytes e f in
     record { goes_on = ap (λ x. is_last x.token) s; left = ap (λ x. x.left) s ∙ sym g }
 
--- what is known of a result that may be the bytes behind a token
+-- what is known of a result that may be the bytes after a token
 abbrev Finds : Bool → List ℕ → Option (Bor (List ℕ)) → Type 0
-Finds wide bytes r = MatchOption r (is_last (scan_in wide bytes).token ≡ true) (λ behind. IsBehindToken wide bytes behind.now)
+Finds wide bytes r = MatchOption r (is_last (scan_in wide bytes).token ≡ true) (λ after. IsAfterToken wide bytes after.now)
 
-text_at : (wide : Bool) (bytes : List ℕ) (t : Result QuotedText Scanned) (r : Option (Bor (List ℕ))) → scan_in wide bytes ≡ text_scanned t → option_map (λ (behind : Bor (List ℕ)). behind.now) r ≡ behind_text t → Finds wide bytes r
+text_at : (wide : Bool) (bytes : List ℕ) (t : Result QuotedText Scanned) (r : Option (Bor (List ℕ))) → scan_in wide bytes ≡ text_scanned t → option_map (λ (after : Bor (List ℕ)). after.now) r ≡ after_quoted t → Finds wide bytes r
 text_at wide bytes (Ok t) None e f = absurd (cc f)
 text_at wide bytes (Ok t) (Some b) e f = record { goes_on = ap (λ x. is_last x.token) e; left = ap (λ x. x.left) e ∙ cc f }
 text_at wide bytes (Err s) None e f = ap (λ x. is_last x.token) e
 text_at wide bytes (Err s) (Some b) e f = absurd (cc f)
 
-pub text_behind : (wide : Bool) (bytes rest : List ℕ) (r : Option (Bor (List ℕ))) → bytes ≡ 34 ∷ rest → option_map (λ (behind : Bor (List ℕ)). behind.now) r ≡ behind_text (text_from false rest) → Finds wide bytes r
-text_behind wide bytes rest r e f = text_at wide bytes (text_from false rest) r (ap (scan_in wide) e ∙ scan_text wide rest) f
+pub text_after : (wide : Bool) (bytes rest : List ℕ) (r : Option (Bor (List ℕ))) → bytes ≡ 34 ∷ rest → option_map (λ (after : Bor (List ℕ)). after.now) r ≡ after_quoted (text_from false rest) → Finds wide bytes r
+text_after wide bytes rest r e f = text_at wide bytes (text_from false rest) r (ap (scan_in wide) e ∙ scan_text wide rest) f
 
-symbol_at : (wide : Bool) (bytes rest : List ℕ) (b : ℕ) (r : Option (Bor (List ℕ))) → scan_in wide bytes ≡ symbol_in wide b rest → MatchOption r (is_last (symbol_in wide b rest).token ≡ true) (λ behind. IsBehindSymbol wide b rest behind.now) → Finds wide bytes r
+symbol_at : (wide : Bool) (bytes rest : List ℕ) (b : ℕ) (r : Option (Bor (List ℕ))) → scan_in wide bytes ≡ symbol_in wide b rest → MatchOption r (is_last (symbol_in wide b rest).token ≡ true) (λ after. IsAfterSymbol wide b rest after.now) → Finds wide bytes r
 symbol_at wide bytes rest b None e f = ap (λ x. is_last x.token) e ∙ f
 symbol_at wide bytes rest b (Some x) e f = record { goes_on = ap (λ y. is_last y.token) e ∙ f.goes_on; left = ap (λ y. y.left) e ∙ f.left }
 
-pub symbol_behind : (wide : Bool) (bytes rest : List ℕ) (b : ℕ) (r : Option (Bor (List ℕ))) → bytes ≡ b ∷ rest → is_letter b ≡ false → is_ascii_digit b ≡ false → (b == 34) ≡ false → MatchOption r (is_last (symbol_in wide b rest).token ≡ true) (λ behind. IsBehindSymbol wide b rest behind.now) → Finds wide bytes r
-symbol_behind wide bytes rest b r e f g h k = symbol_at wide bytes rest b r (ap (scan_in wide) e ∙ scan_symbol wide b rest f g h) k
+pub symbol_after : (wide : Bool) (bytes rest : List ℕ) (b : ℕ) (r : Option (Bor (List ℕ))) → bytes ≡ b ∷ rest → is_letter b ≡ false → is_ascii_digit b ≡ false → (b == 34) ≡ false → MatchOption r (is_last (symbol_in wide b rest).token ≡ true) (λ after. IsAfterSymbol wide b rest after.now) → Finds wide bytes r
+symbol_after wide bytes rest b r e f g h k = symbol_at wide bytes rest b r (ap (scan_in wide) e ∙ scan_symbol wide b rest f g h) k
 
 -- ---- one byte of blanks and comments
 
--- the bytes behind the first
+-- the bytes after the first
 tail_is : (b : ℕ) (bytes : List ℕ) → take (length (b ∷ bytes) - 1) bytes ≡ bytes
 tail_is b bytes = take_all (length (b ∷ bytes) - 1) bytes (omega arith)
 

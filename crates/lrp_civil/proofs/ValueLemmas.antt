@@ -1,5 +1,5 @@
 -- Which civil values bytes begin with, part by part.
-use Rattle.std.proofs.Common.{◌≡◌, ℕ, Bool, true, false, ◌==◌, ◌+◌, ◌&&◌, List, ◌∷◌, ◌++◌, length, take, drop, get_or, arith, Option, None, Some, MatchOption, Bor, refl, sym, ap, ◌∙◌, codes, append_assoc}
+use Rattle.std.proofs.Common.{◌≡◌, ℕ, Bool, true, false, ◌==◌, ◌+◌, ◌&&◌, List, ◌∷◌, ◌++◌, length, take, drop, get_or, Option, None, Some, MatchOption, Bor, refl, sym, ap, ◌∙◌, codes, append_assoc}
 use Rattle.std.specs.Str.{bytes_eq}
 use Rattle.std.proofs.lemmas.Bool.{eq-eqb, false≢true}
 use Rattle.std.proofs.lemmas.Slice.Eq.{bytes_eq-Decides}
@@ -19,19 +19,19 @@ use Rattle.lrp_civil.proofs.Weekdays.{name_unique}
 
 -- ---- a prefix
 
-prefix_some : (bytes prefix behind : List ℕ) → bytes_eq (take (length prefix) bytes) prefix ≡ true → behind ≡ drop (length prefix) bytes → bytes ≡ prefix ++ behind
-prefix_some bytes prefix behind e f =
+prefix_some : (bytes prefix after : List ℕ) → bytes_eq (take (length prefix) bytes) prefix ≡ true → after ≡ drop (length prefix) bytes → bytes ≡ prefix ++ after
+prefix_some bytes prefix after e f =
     let front : take (length prefix) bytes ≡ prefix = (bytes_eq-Decides (take (length prefix) bytes) prefix).0 e in
     sym (take-append-drop (length prefix) bytes) ∙ ap (λ x. x ++ drop (length prefix) bytes) front ∙ ap (λ x. prefix ++ x) (sym f)
 
-prefix_none : (bytes prefix : List ℕ) → bytes_eq (take (length prefix) bytes) prefix ≡ false → (behind : List ℕ) → bytes ≡ prefix ++ behind → ⊥
-prefix_none bytes prefix e behind f =
-    let front : take (length prefix) bytes ≡ prefix = ap (take (length prefix)) f ∙ take-append_seam prefix behind in
+prefix_none : (bytes prefix : List ℕ) → bytes_eq (take (length prefix) bytes) prefix ≡ false → (after : List ℕ) → bytes ≡ prefix ++ after → ⊥
+prefix_none bytes prefix e after f =
+    let front : take (length prefix) bytes ≡ prefix = ap (take (length prefix)) f ∙ take-append_seam prefix after in
     false≢true (sym e ∙ (bytes_eq-Decides (take (length prefix) bytes) prefix).1 front)
 
 pub prefix_found : (bytes prefix : List ℕ) (n : ℕ) (r : Option (Bor (List ℕ)))
     → MatchOption r (bytes_eq (take (length prefix) bytes) prefix ≡ false) (λ x. (bytes_eq (take (length prefix) bytes) prefix ≡ true) × (x.now ≡ drop (length prefix) bytes) × (length x.now + length prefix ≡ length bytes))
-    → MatchOption r ((behind : List ℕ) → bytes ≡ prefix ++ behind → ⊥) (λ behind. bytes ≡ prefix ++ behind.now)
+    → MatchOption r ((after : List ℕ) → bytes ≡ prefix ++ after → ⊥) (λ after. bytes ≡ prefix ++ after.now)
 prefix_found bytes prefix n None h = prefix_none bytes prefix h
 prefix_found bytes prefix n (Some x) h = prefix_some bytes prefix x.now h.0 h.1
 
@@ -39,43 +39,43 @@ prefix_found bytes prefix n (Some x) h = prefix_some bytes prefix x.now h.0 h.1
 
 pub no_daily_time : (bytes rest : List ℕ) → bytes ≡ codes "daily " ++ rest → HasNoLast is_time_of_day clock_bytes rest → (time : ℕ) → IsSpelledAt bytes (Daily time) → ⊥
 no_daily_time bytes rest e none = λ time s.
-    let whole : rest ≡ clock_bytes time ++ s.behind = cc (sym e ∙ s.read.whole) in
-    none time (record { behind = s.behind; read = record { is = s.read.is; whole = whole }; ends = s.ends })
+    let whole : rest ≡ clock_bytes time ++ s.rest = cc (sym e ∙ s.read.whole) in
+    none time (record { rest = s.rest; read = record { is = s.read.is; whole = whole }; ends = s.ends })
 
 -- both of two tests
 pub first_of : (a b : Bool) → (a && b) ≡ true → (a ≡ true) × (b ≡ true)
 first_of true b h = (refl, h)
 first_of false b h = absurd (false≢true h)
 
--- the bytes behind the word of a weekly value
-pub week_whole : (bytes rest behind : List ℕ) (day time : ℕ) → bytes ≡ codes "weekly " ++ rest → bytes ≡ spelled (Weekly day time) ++ behind → rest ≡ day_name day ++ (32 ∷ (clock_bytes time ++ behind))
-week_whole bytes rest behind day time e f =
-    let same : rest ≡ (day_name day ++ (32 ∷ clock_bytes time)) ++ behind = cc (sym e ∙ f) in
-    same ∙ append_assoc (day_name day) (32 ∷ clock_bytes time) behind
+-- the bytes after the word of a weekly value
+pub week_whole : (bytes rest after : List ℕ) (day time : ℕ) → bytes ≡ codes "weekly " ++ rest → bytes ≡ spelled (Weekly day time) ++ after → rest ≡ day_name day ++ (32 ∷ (clock_bytes time ++ after))
+week_whole bytes rest after day time e f =
+    let same : rest ≡ (day_name day ++ (32 ∷ clock_bytes time)) ++ after = cc (sym e ∙ f) in
+    same ∙ append_assoc (day_name day) (32 ∷ clock_bytes time) after
 
 pub no_day : (bytes rest : List ℕ) → bytes ≡ codes "weekly " ++ rest → BeginsWithNone is_weekday day_name rest → (day time : ℕ) → IsSpelledAt bytes (Weekly day time) → ⊥
 no_day bytes rest e none = λ day time s.
     let k = first_of (is_weekday day) (is_time_of_day time) s.read.is in
-    none day (32 ∷ (clock_bytes time ++ s.behind)) (record { is = k.0; whole = week_whole bytes rest s.behind day time e s.read.whole })
+    none day (32 ∷ (clock_bytes time ++ s.rest)) (record { is = k.0; whole = week_whole bytes rest s.rest day time e s.read.whole })
 
 pub no_weekly_time : (bytes rest left more : List ℕ) (named : ℕ) → bytes ≡ codes "weekly " ++ rest → BeginsAs is_weekday day_name rest named left → left ≡ 32 ∷ more → HasNoLast is_time_of_day clock_bytes more → (day time : ℕ) → IsSpelledAt bytes (Weekly day time) → ⊥
 no_weekly_time bytes rest left more named e r f none = λ day time s.
     let k = first_of (is_weekday day) (is_time_of_day time) s.read.is in
-    let same = name_unique named day left (32 ∷ (clock_bytes time ++ s.behind)) r.is k.0 (sym r.whole ∙ week_whole bytes rest s.behind day time e s.read.whole) in
-    let whole : more ≡ clock_bytes time ++ s.behind = cc (sym f ∙ same.1) in
-    none time (record { behind = s.behind; read = record { is = k.1; whole = whole }; ends = s.ends })
+    let same = name_unique named day left (32 ∷ (clock_bytes time ++ s.rest)) r.is k.0 (sym r.whole ∙ week_whole bytes rest s.rest day time e s.read.whole) in
+    let whole : more ≡ clock_bytes time ++ s.rest = cc (sym f ∙ same.1) in
+    none time (record { rest = s.rest; read = record { is = k.1; whole = whole }; ends = s.ends })
 
 pub no_date : (bytes rest : List ℕ) → bytes ≡ codes "on " ++ rest → BeginsWithNone is_date date_bytes rest → (date : Date) (time : ℕ) → IsSpelledAt bytes (On date time) → ⊥
 no_date bytes rest e none = λ date time s.
     let k = first_of (is_date date) (is_time_of_day time) s.read.is in
-    let whole : rest ≡ date_bytes date ++ (32 ∷ (clock_bytes time ++ s.behind)) = cc (sym e ∙ s.read.whole) in
-    none date (32 ∷ (clock_bytes time ++ s.behind)) (record { is = k.0; whole = whole })
+    let whole : rest ≡ date_bytes date ++ (32 ∷ (clock_bytes time ++ s.rest)) = cc (sym e ∙ s.read.whole) in
+    none date (32 ∷ (clock_bytes time ++ s.rest)) (record { is = k.0; whole = whole })
 
 pub no_on_time : (bytes rest left more : List ℕ) (read : Date) → bytes ≡ codes "on " ++ rest → BeginsAs is_date date_bytes rest read left → left ≡ 32 ∷ more → HasNoLast is_time_of_day clock_bytes more → (date : Date) (time : ℕ) → IsSpelledAt bytes (On date time) → ⊥
 no_on_time bytes rest left more read e r f none = λ date time s.
     let k = first_of (is_date date) (is_time_of_day time) s.read.is in
-    let whole : more ≡ clock_bytes time ++ s.behind = cc (sym e ∙ s.read.whole, r.whole, f) in
-    none time (record { behind = s.behind; read = record { is = k.1; whole = whole }; ends = s.ends })
+    let whole : more ≡ clock_bytes time ++ s.rest = cc (sym e ∙ s.read.whole, r.whole, f) in
+    none time (record { rest = s.rest; read = record { is = k.1; whole = whole }; ends = s.ends })
 
 -- ---- by the first byte
 
@@ -117,7 +117,7 @@ value_civil kind (On date time) h = h
 value_civil kind (Every pace date time) h = (first_of (has_paces kind) (is_civil (Every pace date time)) h).1
 
 pub read_as : (test other : CivilValue → Bool) (bytes : List ℕ) (value : CivilValue) → (test value ≡ true → other value ≡ true) → IsReadLast test spelled bytes value → IsReadLast other spelled bytes value
-read_as test other bytes value f s = record { behind = s.behind; read = record { is = f s.read.is; whole = s.read.whole }; ends = s.ends }
+read_as test other bytes value f s = record { rest = s.rest; read = record { is = f s.read.is; whole = s.read.whole }; ends = s.ends }
 
 pub as_civil : (kind : CivilText) (bytes : List ℕ) (value : CivilValue) → IsSpelledIn kind bytes value → IsSpelledAt bytes value
 as_civil kind bytes value s = read_as (is_value_in kind) is_civil bytes value (value_civil kind value) s

@@ -44,16 +44,16 @@ name_unique a b x y h k e =
       sym (drop-append_seam (day_name a) x) ∙ ap (λ n. drop n (day_name a ++ x)) (p.size ∙ sym q.size) ∙ ap (drop (length (day_name b))) e ∙ drop-append_seam (day_name b) y,
     )
 
--- what stands behind a name and a blank
-pub behind_name : (day : ℕ) (rest : List ℕ) → is_weekday day ≡ true → drop 4 (day_name day ++ (32 ∷ rest)) ≡ rest
-behind_name zero rest h = refl
-behind_name (suc zero) rest h = refl
-behind_name (suc (suc zero)) rest h = refl
-behind_name (suc (suc (suc zero))) rest h = refl
-behind_name (suc (suc (suc (suc zero)))) rest h = refl
-behind_name (suc (suc (suc (suc (suc zero))))) rest h = refl
-behind_name (suc (suc (suc (suc (suc (suc zero)))))) rest h = refl
-behind_name (suc (suc (suc (suc (suc (suc (suc n))))))) rest h = absurd (none n h)
+-- what stands after a name and a blank
+pub after_name : (day : ℕ) (rest : List ℕ) → is_weekday day ≡ true → drop 4 (day_name day ++ (32 ∷ rest)) ≡ rest
+after_name zero rest h = refl
+after_name (suc zero) rest h = refl
+after_name (suc (suc zero)) rest h = refl
+after_name (suc (suc (suc zero))) rest h = refl
+after_name (suc (suc (suc (suc zero)))) rest h = refl
+after_name (suc (suc (suc (suc (suc zero))))) rest h = refl
+after_name (suc (suc (suc (suc (suc (suc zero)))))) rest h = refl
+after_name (suc (suc (suc (suc (suc (suc (suc n))))))) rest h = absurd (none n h)
 
 -- a name is of one line
 pub name_line : (day : ℕ) → is_weekday day ≡ true → OneLine (day_name day)

@@ -1,5 +1,5 @@
 -- Civil values: how they are spelled, what they stand for, and when they fall.
-use Rattle.std.specs.Prelude.{◌≡◌, ℕ, ℤ, pos, ◌+◌, ◌-◌, ◌*◌, ◌%◌, ◌+ℤ◌, ◌*ℤ◌, nat_lt, Bool, true, false, ◌&&◌, List, [], ◌∷◌, ◌++◌, Option, MatchOption, length, replicate, slice_index_or, codes}
+use Rattle.std.specs.Prelude.{◌≡◌, ℕ, ℤ, pos, ◌+◌, ◌-◌, ◌*◌, ◌%◌, ◌+ℤ◌, ◌*ℤ◌, nat_lt, Bool, true, false, ◌&&◌, List, [], ◌∷◌, ◌++◌, length, replicate, slice_index_or, codes}
 use Rattle.std.specs.Fmt.{signed_decimal}
 use Rattle.jiff_core.specs.Calendar.{weekday_number}
 use Rattle.lrp_theory.specs.Divides.{IsPointMember}
@@ -61,10 +61,6 @@ day_names = codes "mon" ∷ codes "tue" ∷ codes "wed" ∷ codes "thu" ∷ code
 abbrev pub day_name : ℕ → List ℕ
 day_name day = slice_index_or day_names day []
 
--- the weekday of a name, or none
-abbrev pub FindsWeekday : List ℕ → Option ℕ → Type 0
-FindsWeekday name found = MatchOption found ((day : ℕ) → is_weekday day ≡ true → name ≡ day_name day → ⊥) (λ day. (is_weekday day ≡ true) × (name ≡ day_name day))
-
 -- how it is spelled: `daily HH:MM`, `weekly DAY HH:MM`, `on YYYY-MM-DD HH:MM` or `every N UNIT from YYYY-MM-DD HH:MM`
 abbrev pub spelled : CivilValue → List ℕ
 spelled (Daily time) = codes "daily " ++ clock_bytes time
@@ -104,7 +100,7 @@ plain_bytes (Weekly day time) = point_bytes (weekly_point day time)
 plain_bytes (On date time) = signed_decimal (minute_at date time)
 plain_bytes (Every pace date time) = point_bytes (pace_point pace (minute_at date time))
 
--- the plain value with blanks behind it, as long as the civil value
+-- the plain value with blanks after it, as long as the civil value
 abbrev pub padded_bytes : CivilValue → List ℕ
 padded_bytes value = plain_bytes value ++ replicate (length (spelled value) - length (plain_bytes value)) 32
 

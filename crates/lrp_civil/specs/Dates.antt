@@ -54,3 +54,7 @@ pub record IsCivil (date : Date) (civil : CivilDate) : Type 0 where
   pub year : pos date.year ≡ civil.year
   pub month : date.month ≡ civil.month
   pub day : date.day ≡ civil.day
+
+-- the numbers of one of the kit's dates, without the sign of its year
+abbrev pub date_numbers : CivilDate → Date
+date_numbers civil = record { year = unsigned_abs civil.year; month = civil.month; day = civil.day }

@@ -1,8 +1,10 @@
 -- Minutes from 1970-01-01 00:00 on: their days and times of day, and how these are written.
-use Rattle.std.specs.Prelude.{ℕ, ℤ, pos, ◌+◌, ◌/◌, ◌%◌, ◌+ℤ◌, ◌*ℤ◌, ◌≤ℤ◌, unsigned_abs, nat_lt, Bool, List, [], ◌∷◌, ◌++◌, codes}
+use Rattle.std.specs.Prelude.{◌≡◌, ℕ, ℤ, pos, ◌+◌, ◌/◌, ◌%◌, ◌+ℤ◌, ◌*ℤ◌, ◌≤ℤ◌, unsigned_abs, nat_lt, Bool, List, [], ◌∷◌, ◌++◌, codes}
 use Rattle.std.specs.Int.{int_div_euclid, int_rem_euclid}
 use Rattle.lrp_civil.specs.declared.dates.Date.{Date}
-use Rattle.lrp_civil.specs.Dates.{day_number, date_of}
+use Rattle.jiff_core.specs.declared.civil.datetime.DateTime.{DateTime as CivilDateTime}
+use Rattle.jiff_core.specs.declared.civil.time.Time.{Time as CivilTime}
+use Rattle.lrp_civil.specs.Dates.{IsCivil, day_number, date_of}
 
 -- the day number of a minute: the minute divided by 1440, rounded down
 abbrev pub day_of : ℤ → ℤ
@@ -24,10 +26,7 @@ IsCivilMinute x = (minute_at (record { year = 1; month = 1; day = 1 }) 0 ≤ℤ 
 abbrev pub is_time_of_day : ℕ → Bool
 is_time_of_day time = nat_lt time 1440
 
--- a number of at most two digits, and how it is written in two
-abbrev pub is_short : ℕ → Bool
-is_short n = nat_lt n 100
-
+-- a number below 100 in two digits
 abbrev pub two_digits : ℕ → List ℕ
 two_digits n = (48 + n / 10) ∷ (48 + n % 10) ∷ []
 
@@ -42,3 +41,13 @@ date_bytes d = two_digits (d.year / 100) ++ (two_digits (d.year % 100) ++ (codes
 -- YYYY-MM-DD HH:MM of a minute
 abbrev pub moment_bytes : ℤ → List ℕ
 moment_bytes x = date_bytes (date_of (day_of x)) ++ (codes " " ++ clock_bytes (time_of_day x))
+
+-- the kit's time has the hour and the minute of the time of day
+pub record IsClock (time : ℕ) (civil : CivilTime) : Type 0 where
+  pub hour : civil.hour ≡ time / 60
+  pub minute : civil.minute ≡ time % 60
+
+-- the kit's date and time have the date and the time of day of the minute
+pub record IsMoment (x : ℤ) (civil : CivilDateTime) : Type 0 where
+  pub date : IsCivil (date_of (day_of x)) civil.date
+  pub clock : IsClock (time_of_day x) civil.time

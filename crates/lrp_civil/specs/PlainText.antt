@@ -16,7 +16,7 @@ use Rattle.lrp_civil.specs.declared.values.CivilText.TheVariants.{Database, Wide
 use Rattle.lrp_civil.specs.declared.values.Unit.TheVariants.{Minutes, Hours, Days, Weeks}
 use Rattle.lrp_civil.specs.CivilValues.{has_paces, is_civil, is_value_in, spelled, padded_bytes}
 use Rattle.lrp_civil.specs.Parts.{IsReadLast, goes_on}
-use Rattle.lrp_civil.specs.Tokens.{behind_blanks, is_last}
+use Rattle.lrp_civil.specs.Tokens.{after_blanks, is_last}
 
 -- ---- the civil value that stands at the front of some bytes
 
@@ -31,7 +31,7 @@ time_in bytes = 60 * front_number 2 bytes + front_number 2 (drop 3 bytes)
 abbrev pub date_in : List ℕ → Date
 date_in bytes = record { year = front_number 4 bytes; month = front_number 2 (drop 5 bytes); day = front_number 2 (drop 8 bytes) }
 
--- the bytes begin with the civil value as it is spelled, and no number goes on behind it
+-- the bytes begin with the civil value as it is spelled, and no number goes on after it
 abbrev pub begins : List ℕ → CivilValue → Bool
 begins bytes value = is_civil value && starts_with nat_eq bytes (spelled value) && not (goes_on (drop (length (spelled value)) bytes))
 
@@ -67,12 +67,12 @@ possible bytes =
     Daily (time_in (drop 6 bytes)) ∷ On (date_in (drop 3 bytes)) (time_in (drop 14 bytes))
     ∷ weekly_on 0 ∷ weekly_on 1 ∷ weekly_on 2 ∷ weekly_on 3 ∷ weekly_on 4 ∷ weekly_on 5 ∷ weekly_on 6 ∷ []
 
--- the same with a pace: a number behind the first word, a unit, and the date and the time at the end
+-- the same with a pace: a number after the first word, a unit, and the date and the time at the end
 abbrev pub paces : List ℕ → List CivilValue
 paces bytes =
     let digits = run is_ascii_digit (drop 6 bytes) in
-    let behind = drop (7 + length digits) bytes in
-    let paced = λ (unit : UnitOf) (size : ℕ). Every (record { number = digits_value 10 digits; unit = unit }) (date_in (drop (size + 6) behind)) (time_in (drop (size + 17) behind)) in
+    let rest = drop (7 + length digits) bytes in
+    let paced = λ (unit : UnitOf) (size : ℕ). Every (record { number = digits_value 10 digits; unit = unit }) (date_in (drop (size + 6) rest)) (time_in (drop (size + 17) rest)) in
     paced Minutes 7 ∷ paced Hours 5 ∷ paced Days 4 ∷ paced Weeks 5 ∷ []
 
 -- which values a text of some kind may have, and whether its symbols are those of the wide language
@@ -92,7 +92,7 @@ value_in kind bytes = find (begins bytes) (possible_in kind bytes)
 
 -- the blanks and comments that come first
 abbrev pub blanks : List ℕ → List ℕ
-blanks bytes = take (length bytes - length (behind_blanks bytes)) bytes
+blanks bytes = take (length bytes - length (after_blanks bytes)) bytes
 
 -- the plain text from a token on: the token, and what is made of the rest; from the end or a bad byte on, all stays
 abbrev pub plain_token : (List ℕ → List ℕ) → List ℕ → Scanned → List ℕ
@@ -103,23 +103,23 @@ abbrev pub plain_value : CivilText → (List ℕ → List ℕ) → List ℕ → 
 plain_value kind rewritten bytes (Some value) = padded_bytes value ++ rewritten (drop (length (spelled value)) bytes)
 plain_value kind rewritten bytes None = plain_token rewritten bytes (scan_in (signs_of kind) bytes)
 
--- the plain text of bytes that begin behind a token; each turn takes a token or a civil value
+-- the plain text of bytes that begin after a token; each turn takes a token or a civil value
 unfoldable pub plain_from : CivilText → ℕ → List ℕ → List ℕ
 plain_from kind zero bytes = bytes
-plain_from kind (suc n) bytes = let here = behind_blanks bytes in blanks bytes ++ plain_value kind (plain_from kind n) here (value_in kind here)
+plain_from kind (suc n) bytes = let here = after_blanks bytes in blanks bytes ++ plain_value kind (plain_from kind n) here (value_in kind here)
 
 -- the same with as many turns as there may be
 unfoldable pub plain_bytes_of : CivilText → List ℕ → List ℕ
 plain_bytes_of kind bytes = plain_from kind (suc (length bytes)) bytes
 
--- the value stands behind these bytes, of which all stays, and before others; the plain text is made of the three
-pub record IsFirstValue (kind : CivilText) (bytes before : List ℕ) (value : CivilValue) (behind : List ℕ) : Type 0 where
+-- the value stands after these bytes, of which all stays, and before others; the plain text is made of the three
+pub record IsFirstValue (kind : CivilText) (bytes before : List ℕ) (value : CivilValue) (rest : List ℕ) : Type 0 where
   pub civil : IsTrue (is_civil value)
-  pub is : plain_bytes_of kind bytes ≡ before ++ (padded_bytes value ++ plain_bytes_of kind behind)
+  pub is : plain_bytes_of kind bytes ≡ before ++ (padded_bytes value ++ plain_bytes_of kind rest)
 
 -- the first value of the bytes, or none where all stays
 abbrev pub FindsFirst : CivilText → List ℕ → Option Found → Type 0
-FindsFirst kind bytes found = MatchOption found (plain_bytes_of kind bytes ≡ bytes) (λ first. IsFirstValue kind bytes first.before.now first.value first.behind.now)
+FindsFirst kind bytes found = MatchOption found (plain_bytes_of kind bytes ≡ bytes) (λ first. IsFirstValue kind bytes first.before.now first.value first.rest.now)
 
 -- the plain text of a file; bytes that are no UTF-8 stay
 unfoldable pub plain_as : CivilText → List ℕ → List ℕ

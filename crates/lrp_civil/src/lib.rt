@@ -1,6 +1,7 @@
 //! Civil times: minutes from 1970-01-01 00:00 on as dates and times of day, in databases, in words and in lines.
 #![tactic(auto)]
 
+mod clocks;
 mod dates;
 mod lines;
 mod minutes;

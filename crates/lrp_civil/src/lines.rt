@@ -10,9 +10,9 @@ ghost use Rattle.lrp_answers.specs.Spots.{spot_tuple};
 ghost use Rattle.lrp_answer_text.specs.Lines.{IsFormOf, is_json};
 ghost use Rattle.lrp_civil.specs.CivilLines.{civil_line, civil_time_bytes};
 ghost use Rattle.lrp_civil.specs.Dates.{IsDateOf, date_of};
-ghost use Rattle.lrp_civil.specs.Moments.{IsCivilMinute, day_of};
+ghost use Rattle.lrp_civil.specs.Moments.{IsCivilMinute, day_of, moment_bytes};
 
-use crate::moments::moment;
+use crate::moments::write_moment;
 use lrp_answer_text::{Form, write_line_in};
 use lrp_answers::Answer;
 use lrp_io::{Failed, Sink};
@@ -63,20 +63,21 @@ impl Notation for Moments {
 
     fn write<S: Sink>(&self, out: &mut S, time: &i64) -> Result<(), Failed> {
         if self.json {
-            write_between_quotes(out, &moment(time))
+            write_between_quotes(out, time)
         } else {
-            write_bytes(out, &moment(time))
+            write_moment(out, time)
         }
     }
 }
 
-// These bytes in quotes.
-fn write_between_quotes<S: Sink>(out: &mut S, bytes: &[u8]) -> Result<(), Failed>
+// A date and a time of day in quotes.
+fn write_between_quotes<S: Sink>(out: &mut S, minute: &i64) -> Result<(), Failed>
+    requires { IsCivilMinute minute.now }
     ensures text { IsWritten (S.written out.old) (S.written out.new)
-        (codes "\"" ++ (bytes.now ++ codes "\"")) result }
+        (codes "\"" ++ (moment_bytes minute.now ++ codes "\"")) result }
     ensures cause { HasCause (S.faults out.old) (S.faults out.new) result }
 {
     write_bytes(out, b"\"")?;
-    write_bytes(out, bytes)?;
+    write_moment(out, minute)?;
     write_bytes(out, b"\"")
 }

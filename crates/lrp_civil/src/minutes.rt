@@ -4,7 +4,7 @@ ghost use Rattle.lrp_civil.specs.Minutes.{SpellsMinute, minute_by};
 ghost use Rattle.lrp_civil.specs.Moments.{IsCivilMinute};
 
 use crate::moments::minute_at;
-use crate::parts::{behind_byte, date_at, time_at};
+use crate::parts::{after_byte, date_at, time_at};
 
 /// The minute that a text of the form `YYYY-MM-DDTHH:MM` spells. No other text spells one, nor a date that the calendar
 /// does not have.
@@ -23,10 +23,10 @@ fn spelled_by(word: &[u8]) -> Option<i64>
         (SpellsMinute word.now) }
     ensures range { IfSome result IsCivilMinute }
 {
-    let (date, behind) = date_at(word)?;
-    let behind = behind_byte(behind, b'T')?;
-    let (time, behind) = time_at(behind)?;
-    if behind.is_empty() {
+    let (date, rest) = date_at(word)?;
+    let rest = after_byte(rest, b'T')?;
+    let (time, rest) = time_at(rest)?;
+    if rest.is_empty() {
         Some(minute_at(date, time))
     } else {
         None

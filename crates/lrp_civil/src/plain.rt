@@ -8,16 +8,16 @@ ghost use Rattle.lrp_civil.specs.PlainText.{FindsFirst, HasSamePlaces, IsSpelled
 ghost use Rattle.lrp_civil.specs.declared.values.CivilValue.{CivilValue as CivilValueOf};
 
 use crate::moments::minute_at;
-use crate::tokens::{behind_blanks, behind_token};
+use crate::tokens::{after_blanks, after_token};
 use crate::values::{CivilText, CivilValue};
 use itoa::Buffer;
 use lrp_model::{List, Memory};
 use std::alloc::Global;
 use std::str::from_utf8;
 
-/// A text of some kind with the plain value of each civil value in its place, and blanks behind it, so that each place stays.
+/// A text of some kind with the plain value of each civil value in its place, and blanks after it, so that each place stays.
 ///
-/// A civil value begins where a name does and ends where a token does, so one in a comment, in a quoted text or behind a
+/// A civil value begins where a name does and ends where a token does, so one in a comment, in a quoted text or after a
 /// byte that begins no token stays. Bytes that are no UTF-8 are given back as they are.
 pub fn plain_text_of(alloc: Global, bytes: &[u8], kind: CivilText) -> Result<List<u8>, Memory>
     ensures text { IfOk result (λ text. text ≡ plain_as kind bytes.now) }
@@ -52,40 +52,40 @@ fn rewritten(alloc: Global, bytes: &[u8], kind: CivilText) -> Result<Vec<u8>, Me
     while let Some(found) = first_value(kind, rest) {
         push(&mut text, found.before)?;
         push_padded(&mut text, &found.value)?;
-        rest = found.behind;
+        rest = found.rest;
     }
     push(&mut text, rest)?;
     Ok(text)
 }
 
-// A civil value, the bytes before it and those behind it.
+// A civil value, the bytes before it and those after it.
 #[derive(Clone, Copy)]
 struct Found<'a> {
     before: &'a [u8],
     value: CivilValue,
-    behind: &'a [u8],
+    rest: &'a [u8],
 }
 
-// The first civil value of bytes that begin behind a token.
+// The first civil value of bytes that begin after a token.
 fn first_value(kind: CivilText, bytes: &[u8]) -> Option<Found<'_>>
     ensures first { FindsFirst kind bytes.now result }
-    ensures shorter { IfSome result (λ found. length found.behind.now < length bytes.now) }
+    ensures shorter { IfSome result (λ found. length found.rest.now < length bytes.now) }
 {
     let mut rest = bytes;
     loop {
-        let token = behind_blanks(rest);
+        let token = after_blanks(rest);
         if let Some(value) = CivilValue::at(kind, token) {
             return Some(Found {
                 before: &bytes[..bytes.len() - token.len()],
                 value,
-                behind: &token[value.len()..],
+                rest: &token[value.len()..],
             });
         }
-        rest = behind_token(kind.has_signs(), token)?;
+        rest = after_token(kind.has_signs(), token)?;
     }
 }
 
-// The plain value with blanks behind it, as long as the civil value.
+// The plain value with blanks after it, as long as the civil value.
 fn push_padded(text: &mut Vec<u8>, value: &CivilValue) -> Result<(), Memory>
     requires { IsTrue (is_civil value.now) }
     ensures { OnOk result (text.new.items ≡ text.old.items ++ padded_bytes value.now) }
@@ -140,7 +140,7 @@ fn push_point(text: &mut Vec<u8>, offset: u64, period: u64) -> Result<(), Memory
     push(text, b"n")
 }
 
-// Bytes behind the text.
+// Bytes after the text.
 fn push(text: &mut Vec<u8>, bytes: &[u8]) -> Result<(), Memory>
     ensures { OnOk result (text.new.items ≡ text.old.items ++ bytes.now) }
 {

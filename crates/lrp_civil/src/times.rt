@@ -8,12 +8,12 @@ ghost use Rattle.lrp_civil.specs.Dated.{dated_bytes, dated_line, is_civil_minute
 ghost use Rattle.lrp_civil.specs.Moments.{IsCivilMinute};
 
 use crate::lines::Moments;
-use crate::moments::moment;
+use crate::moments::write_moment;
 use lrp_answer_text::{Form, write_line_in};
 use lrp_answers::Answer;
 use lrp_io::{Failed, Sink};
 use lrp_model::Spot;
-use lrp_print::{Notation, write_bytes, write_integer};
+use lrp_print::{Notation, write_integer};
 
 /// The minute 0001-01-01 00:00.
 const FIRST: i64 = -1_035_593_280;
@@ -56,7 +56,7 @@ impl Notation for Dates {
 
     fn write<S: Sink>(&self, out: &mut S, time: &i64) -> Result<(), Failed> {
         if is_civil_minute(time) {
-            write_bytes(out, &moment(time))
+            write_moment(out, time)
         } else {
             write_integer(out, time)
         }

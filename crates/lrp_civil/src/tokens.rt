@@ -3,7 +3,7 @@ ghost use Rattle.std.specs.Prelude.{◌≡◌, ◌≤◌, ◌<◌, IfSome, lengt
 ghost use Rattle.std.specs.Option.{option_map};
 ghost use Rattle.lrp_model.specs.Lexing.{behind_run, is_blank as is_blank_byte, is_forbidden as is_forbidden_byte, is_letter as is_letter_byte, is_name_byte as is_byte_of_names, text_from};
 ghost use Rattle.std.specs.Char.{is_ascii_digit};
-ghost use Rattle.lrp_civil.specs.Tokens.{FindsCharacter, FindsSymbol, FindsToken, behind_blanks as behind_blanks_of, behind_equals as behind_equals_of, behind_text as behind_text_of};
+ghost use Rattle.lrp_civil.specs.Tokens.{FindsCharacter, FindsSymbol, FindsToken, after_blanks as after_blanks_of, after_equals as after_equals_of, after_quoted as after_text_of};
 
 fn is_letter(b: u8) -> bool
     ensures { result ≡ is_letter_byte b }
@@ -29,10 +29,10 @@ fn is_forbidden(b: u8) -> bool
     b <= 31 || b == 127
 }
 
-/// What stands behind the blanks and comments that come first.
+/// What stands after the blanks and comments that come first.
 #[tactic(auto, unfolding(lrp_model::specs::Lexing::skip), using(crate::proofs::TokenLemmas::skip_place))]
-pub fn behind_blanks(bytes: &[u8]) -> &[u8]
-    ensures rest { result.now ≡ behind_blanks_of bytes.now }
+pub fn after_blanks(bytes: &[u8]) -> &[u8]
+    ensures rest { result.now ≡ after_blanks_of bytes.now }
     ensures shorter { length result.now ≤ length bytes.now }
 {
     let mut rest = bytes;
@@ -50,9 +50,9 @@ pub fn behind_blanks(bytes: &[u8]) -> &[u8]
     rest
 }
 
-// What stands behind the letters, digits and underscores that come first.
+// What stands after the letters, digits and underscores that come first.
 #[tactic(auto, unfolding(lrp_model::specs::Lexing::behind_run))]
-fn behind_name(bytes: &[u8]) -> &[u8]
+fn after_name(bytes: &[u8]) -> &[u8]
     ensures { result.now ≡ behind_run is_byte_of_names bytes.now }
 {
     let mut rest = bytes;
@@ -65,9 +65,9 @@ fn behind_name(bytes: &[u8]) -> &[u8]
     rest
 }
 
-/// What stands behind the digits that come first.
+/// What stands after the digits that come first.
 #[tactic(auto, unfolding(lrp_model::specs::Lexing::behind_run))]
-pub fn behind_digits(bytes: &[u8]) -> &[u8]
+pub fn after_digits(bytes: &[u8]) -> &[u8]
     ensures { result.now ≡ behind_run is_ascii_digit bytes.now }
 {
     let mut rest = bytes;
@@ -80,9 +80,9 @@ pub fn behind_digits(bytes: &[u8]) -> &[u8]
     rest
 }
 
-// What stands behind the next byte of a text; none at a quote, and at what may not stand in a text.
+// What stands after the next byte of a text; none at a quote, and at what may not stand in a text.
 #[tactic(auto, unfolding(lrp_model::specs::Lexing::text_from))]
-fn behind_character(bytes: &[u8]) -> Option<&[u8]>
+fn after_character(bytes: &[u8]) -> Option<&[u8]>
     ensures text { FindsCharacter bytes.now result }
     ensures shorter { IfSome result (λ tail. length tail.now < length bytes.now) }
 {
@@ -97,13 +97,13 @@ fn behind_character(bytes: &[u8]) -> Option<&[u8]>
     }
 }
 
-// What stands behind the rest of a text and its closing quote; none where it has no such end.
-fn behind_text(bytes: &[u8]) -> Option<&[u8]>
-    ensures { option_map (λ behind. behind.now) result
-        ≡ behind_text_of (text_from false bytes.now) }
+// What stands after the rest of a text and its closing quote; none where it has no such end.
+fn after_text(bytes: &[u8]) -> Option<&[u8]>
+    ensures { option_map (λ after. after.now) result
+        ≡ after_text_of (text_from false bytes.now) }
 {
     let mut rest = bytes;
-    while let Some(tail) = behind_character(rest) {
+    while let Some(tail) = after_character(rest) {
         rest = tail;
     }
     match rest {
@@ -112,13 +112,13 @@ fn behind_text(bytes: &[u8]) -> Option<&[u8]>
     }
 }
 
-// What stands behind the symbol that a byte and those behind it begin with.
+// What stands after the symbol that a byte and those after it begin with.
 #[tactic(auto, unfolding(lrp_model::specs::Lexing::symbol_in))]
-fn behind_symbol(wide: bool, first: u8, rest: &[u8]) -> Option<&[u8]>
+fn after_symbol(wide: bool, first: u8, rest: &[u8]) -> Option<&[u8]>
     ensures { FindsSymbol wide first rest.now result }
 {
     match first {
-        b'<' | b'>' => Some(behind_equals(rest)),
+        b'<' | b'>' => Some(after_equals(rest)),
         b'(' | b')' | b'{' | b'}' | b',' | b':' | b';' | b'|' | b'+' | b'-' | b'=' => Some(rest),
         b'*' if wide => Some(rest),
         b'!' if wide => match rest {
@@ -129,9 +129,9 @@ fn behind_symbol(wide: bool, first: u8, rest: &[u8]) -> Option<&[u8]>
     }
 }
 
-// What stands behind an equals sign, if one comes first.
-fn behind_equals(bytes: &[u8]) -> &[u8]
-    ensures { result.now ≡ behind_equals_of bytes.now }
+// What stands after an equals sign, if one comes first.
+fn after_equals(bytes: &[u8]) -> &[u8]
+    ensures { result.now ≡ after_equals_of bytes.now }
 {
     match bytes {
         [b'=', tail @ ..] => tail,
@@ -139,17 +139,17 @@ fn behind_equals(bytes: &[u8]) -> &[u8]
     }
 }
 
-/// What stands behind the token that the bytes begin with; none at the end and at a byte that begins no token. The flag says
+/// What stands after the token that the bytes begin with; none at the end and at a byte that begins no token. The flag says
 /// that the symbols of the wide language are among the tokens.
 #[tactic(auto, unfolding(lrp_model::specs::Lexing::scan_in))]
-pub fn behind_token(wide: bool, bytes: &[u8]) -> Option<&[u8]>
+pub fn after_token(wide: bool, bytes: &[u8]) -> Option<&[u8]>
     ensures { FindsToken wide bytes.now result }
 {
     match bytes {
         [] => None,
-        [b, ..] if is_letter(*b) => Some(behind_name(bytes)),
-        [b, ..] if b.is_ascii_digit() => Some(behind_digits(bytes)),
-        [b'"', tail @ ..] => behind_text(tail),
-        [b, tail @ ..] => behind_symbol(wide, *b, tail),
+        [b, ..] if is_letter(*b) => Some(after_name(bytes)),
+        [b, ..] if b.is_ascii_digit() => Some(after_digits(bytes)),
+        [b'"', tail @ ..] => after_text(tail),
+        [b, tail @ ..] => after_symbol(wide, *b, tail),
     }
 }

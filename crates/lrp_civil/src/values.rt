@@ -6,11 +6,11 @@ ghost use Rattle.std.specs.Str.Parse.{digits_value};
 ghost use Rattle.lrp_civil.specs.declared.values.Unit.{Unit as UnitOf};
 ghost use Rattle.lrp_civil.specs.CivilValues.{is_pace, pace_bytes, unit_name};
 ghost use Rattle.lrp_civil.specs.Moments.{clock_bytes, is_time_of_day};
-ghost use Rattle.lrp_civil.specs.Parts.{Finds, FindsBehind, FindsLast, FindsNumber};
+ghost use Rattle.lrp_civil.specs.Parts.{Finds, FindsAfter, FindsLast, FindsNumber};
 
 use crate::dates::Date;
-use crate::parts::{behind_byte, date_at, time_at, weekday_at};
-use crate::tokens::behind_digits;
+use crate::parts::{after_byte, date_at, time_at, weekday_at};
+use crate::tokens::after_digits;
 use itoa::Buffer;
 use lrp_model::LIMIT;
 use std::str::from_utf8;
@@ -136,7 +136,7 @@ impl CivilValue {
     ghost use Rattle.lrp_civil.specs.CivilValues.{is_civil, is_value_in, spelled};
     ghost use Rattle.lrp_civil.specs.PlainText.{FindsDaily, FindsEvery, FindsOn, FindsPaced, FindsWeekly};
 
-    /// The civil value of a text of some kind that the bytes begin with, where no number goes on behind it.
+    /// The civil value of a text of some kind that the bytes begin with, where no number goes on after it.
     pub fn at(kind: CivilText, bytes: &[u8]) -> Option<CivilValue>
         ensures { FindsLast (is_value_in kind) spelled bytes.now result }
     {
@@ -164,12 +164,12 @@ impl CivilValue {
     fn every(bytes: &[u8]) -> Option<CivilValue>
         ensures { FindsEvery bytes.now result }
     {
-        let behind = behind_prefix(bytes, b"every ")?;
-        let (pace, behind) = pace_at(behind)?;
-        let behind = behind_prefix(behind, b" from ")?;
-        let (date, behind) = date_at(behind)?;
-        let behind = behind_byte(behind, b' ')?;
-        let time = last_time_at(behind)?;
+        let rest = after_prefix(bytes, b"every ")?;
+        let (pace, rest) = pace_at(rest)?;
+        let rest = after_prefix(rest, b" from ")?;
+        let (date, rest) = date_at(rest)?;
+        let rest = after_byte(rest, b' ')?;
+        let time = last_time_at(rest)?;
         Some(CivilValue::Every { pace, date, time })
     }
 
@@ -177,8 +177,8 @@ impl CivilValue {
     fn daily(bytes: &[u8]) -> Option<CivilValue>
         ensures { FindsDaily bytes.now result }
     {
-        let behind = behind_prefix(bytes, b"daily ")?;
-        let time = last_time_at(behind)?;
+        let rest = after_prefix(bytes, b"daily ")?;
+        let time = last_time_at(rest)?;
         Some(CivilValue::Daily { time })
     }
 
@@ -186,10 +186,10 @@ impl CivilValue {
     fn weekly(bytes: &[u8]) -> Option<CivilValue>
         ensures { FindsWeekly bytes.now result }
     {
-        let behind = behind_prefix(bytes, b"weekly ")?;
-        let (day, behind) = weekday_at(behind)?;
-        let behind = behind_byte(behind, b' ')?;
-        let time = last_time_at(behind)?;
+        let rest = after_prefix(bytes, b"weekly ")?;
+        let (day, rest) = weekday_at(rest)?;
+        let rest = after_byte(rest, b' ')?;
+        let time = last_time_at(rest)?;
         Some(CivilValue::Weekly { day, time })
     }
 
@@ -197,10 +197,10 @@ impl CivilValue {
     fn on(bytes: &[u8]) -> Option<CivilValue>
         ensures { FindsOn bytes.now result }
     {
-        let behind = behind_prefix(bytes, b"on ")?;
-        let (date, behind) = date_at(behind)?;
-        let behind = behind_byte(behind, b' ')?;
-        let time = last_time_at(behind)?;
+        let rest = after_prefix(bytes, b"on ")?;
+        let (date, rest) = date_at(rest)?;
+        let rest = after_byte(rest, b' ')?;
+        let time = last_time_at(rest)?;
         Some(CivilValue::On { date, time })
     }
 
@@ -218,17 +218,17 @@ impl CivilValue {
     }
 }
 
-// A number below 2^64 that doesn't begin with 0, and what stands behind it.
+// A number below 2^64 that doesn't begin with 0, and what stands after it.
 fn number_at(bytes: &[u8]) -> Option<(u64, &[u8])>
     ensures { FindsNumber bytes.now result }
 {
-    let behind = behind_digits(bytes);
-    let digits = &bytes[..bytes.len() - behind.len()];
+    let rest = after_digits(bytes);
+    let digits = &bytes[..bytes.len() - rest.len()];
     let (first, _) = digits.split_first()?;
     if *first == b'0' {
         return None;
     }
-    Some((written(digits)?, behind))
+    Some((written(digits)?, rest))
 }
 
 // The number that digits write, where it is below 2^64.
@@ -257,20 +257,20 @@ fn parsed(digits: &str) -> Option<u64>
     }
 }
 
-// A unit, and what stands behind it.
+// A unit, and what stands after it.
 fn unit_at(bytes: &[u8]) -> Option<(Unit, &[u8])>
     ensures { Finds (λ _. true) unit_name bytes.now result }
 {
     let unit = likely_unit(bytes)?;
-    let behind = behind_prefix(bytes, unit.name())?;
-    Some((unit, behind))
+    let rest = after_prefix(bytes, unit.name())?;
+    Some((unit, rest))
 }
 
 // The one unit whose name may stand first, by its first letter.
 fn likely_unit(bytes: &[u8]) -> Option<Unit>
-    ensures { MatchOption result ((unit : UnitOf) (behind : List ℕ) → bytes.now
-        ≡ unit_name unit ++ behind → ⊥) (λ likely. (unit : UnitOf) (behind : List ℕ) → bytes.now
-        ≡ unit_name unit ++ behind → unit ≡ likely) }
+    ensures { MatchOption result ((unit : UnitOf) (rest : List ℕ) → bytes.now
+        ≡ unit_name unit ++ rest → ⊥) (λ likely. (unit : UnitOf) (rest : List ℕ) → bytes.now
+        ≡ unit_name unit ++ rest → unit ≡ likely) }
 {
     match bytes {
         [b'm', ..] => Some(Unit::Minutes),
@@ -285,25 +285,25 @@ fn likely_unit(bytes: &[u8]) -> Option<Unit>
 fn pace_at(bytes: &[u8]) -> Option<(Pace, &[u8])>
     ensures { Finds is_pace pace_bytes bytes.now result }
 {
-    let (number, behind) = number_at(bytes)?;
-    let behind = behind_byte(behind, b' ')?;
-    let (unit, behind) = unit_at(behind)?;
-    Some((Pace::of(number, unit)?, behind))
+    let (number, rest) = number_at(bytes)?;
+    let rest = after_byte(rest, b' ')?;
+    let (unit, rest) = unit_at(rest)?;
+    Some((Pace::of(number, unit)?, rest))
 }
 
-// What stands behind a prefix.
-fn behind_prefix<'a>(bytes: &'a [u8], prefix: &[u8]) -> Option<&'a [u8]>
-    ensures { FindsBehind prefix.now bytes.now result }
+// What stands after a prefix.
+fn after_prefix<'a>(bytes: &'a [u8], prefix: &[u8]) -> Option<&'a [u8]>
+    ensures { FindsAfter prefix.now bytes.now result }
 {
     bytes.strip_prefix(prefix)
 }
 
-// `HH:MM`, where no number goes on behind it.
+// `HH:MM`, where no number goes on after it.
 fn last_time_at(bytes: &[u8]) -> Option<u16>
     ensures { FindsLast is_time_of_day clock_bytes bytes.now result }
 {
-    let (time, behind) = time_at(bytes)?;
-    match behind {
+    let (time, rest) = time_at(bytes)?;
+    match rest {
         [b, ..] if b.is_ascii_digit() => None,
         _ => Some(time),
     }

@@ -13,18 +13,18 @@ use Rattle.lrp_model.specs.Lexing.{tokens, start, scan_in, run, behind_run, word
 use Rattle.lrp_model.specs.Limits.{most_bytes}
 use Rattle.lrp_model.specs.Names.{IsName}
 use Rattle.lrp_text.specs.Parsers.{look}
-use Rattle.lrp_text.specs.Taking.{is_named, is_named_token}
+use Rattle.lrp_text.specs.Taking.{is_token_named, is_named_token}
 use Rattle.lrp_text.proofs.NameTokens.{NamedToken, tokens_named}
 use Rattle.lrp_words.specs.Commands.{is_name_of, spells_name}
 
 -- what is seen of the first token
-seen : (text : Text) (ts : Tokens) (b : Bool) → look false (is_named text) ts ≡ Ok (b, ts) → b ≡ spells_name text ts
+seen : (text : Text) (ts : Tokens) (b : Bool) → look false (is_token_named text) ts ≡ Ok (b, ts) → b ≡ spells_name text ts
 unfolding look
 seen text [] b e =
     let p : ◌≡◌ {A = Bool × Tokens} (false, []) (b, []) = cc in
     sym (ap (λ x. x.0) p)
 seen text (t ∷ ts) b e =
-    let p : ◌≡◌ {A = Bool × Tokens} (is_named text t, t ∷ ts) (b, t ∷ ts) = cc in
+    let p : ◌≡◌ {A = Bool × Tokens} (is_token_named text t, t ∷ ts) (b, t ∷ ts) = cc in
     sym (ap (λ x. x.0) p)
 
 -- a name token that all of the text spells
@@ -46,7 +46,7 @@ is_name : (text : Text) → spells_name text (tokens text) ≡ true → IsName t
 is_name text e = first_named text (tokens text) (tokens_named false (suc (length text)) start text) e
 
 -- a text that is short enough, and one that is too long
-pub name_short : (text : Text) (ts : Tokens) (b : Bool) → ts ≡ tokens text → look false (is_named text) ts ≡ Ok (b, ts) → length text ≤ most_bytes → b ≡ is_name_of text
+pub name_short : (text : Text) (ts : Tokens) (b : Bool) → ts ≡ tokens text → look false (is_token_named text) ts ≡ Ok (b, ts) → length text ≤ most_bytes → b ≡ is_name_of text
 name_short text ts b e h le = seen text ts b h ∙ ap (spells_name text) e ∙ ap (λ c. c && spells_name text (tokens text)) (sym (le-leb (length text) 16777216 le))
 
 beyond : (n m : ℕ) → m < n → nat_le n m ≡ false
@@ -55,7 +55,7 @@ beyond n m h = grind (arith, nat_tests, h)
 pub name_long : (text : Text) → most_bytes < length text → nat_le (length text) most_bytes ≡ is_name_of text
 name_long text h = beyond (length text) 16777216 h ∙ ap (λ c. c && spells_name text (tokens text)) (sym (beyond (length text) 16777216 h))
 
-pub name_is : (text : Text) (ts : Tokens) (b : Bool) → ts ≡ tokens text → look false (is_named text) ts ≡ Ok (b, ts) → b ≡ true → IsName text
+pub name_is : (text : Text) (ts : Tokens) (b : Bool) → ts ≡ tokens text → look false (is_token_named text) ts ≡ Ok (b, ts) → b ≡ true → IsName text
 name_is text ts b e h t = is_name text (ap (spells_name text) (sym e) ∙ sym (seen text ts b h) ∙ t)
 
 -- the name that a relation of answers has where none is given

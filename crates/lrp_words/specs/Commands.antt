@@ -9,7 +9,7 @@ use Rattle.lrp_model.specs.declared.plans.Planning.TheVariants.{Written, Guarded
 use Rattle.lrp_civil.specs.Minutes.{minute_by}
 use Rattle.lrp_model.specs.Lexing.{tokens}
 use Rattle.lrp_model.specs.Tokens.{Tokens}
-use Rattle.lrp_text.specs.Taking.{is_named}
+use Rattle.lrp_text.specs.Taking.{is_token_named}
 use Rattle.lrp_words.specs.declared.keys.Key.{Key}
 use Rattle.lrp_words.specs.declared.keys.Key.TheVariants.{Db, Query, Edits, Cap, Plan, From, To, Limit, After, Form, Tense, Wide, Canon, As, Civil, Show, Kept, Seed, Size}
 use Rattle.lrp_words.specs.declared.command.Command.{Command}
@@ -174,7 +174,7 @@ canon_of words = flag_of (value_for Canon words)
 -- whether the first of the tokens is the name that all of the text spells
 abbrev pub spells_name : Text → Tokens → Bool
 spells_name text [] = false
-spells_name text (t ∷ ts) = is_named text t
+spells_name text (t ∷ ts) = is_token_named text t
 
 -- the text is a name of the grammar, and no longer than a file
 abbrev pub is_name_of : Text → Bool
@@ -204,7 +204,7 @@ files_to_lint words =
     with_some (database_name words) (λ db. with_some (optional_file (value_for Query words)) (λ query. with_some (tense_flag words) (λ tense. with_some (civil_of words) (λ civil.
     Some (record { database = db; query = query; tense = tense; civil = civil })))))
 
--- ---- each command from the words behind its name, and its keys
+-- ---- each command from the words after its name, and its keys
 
 abbrev pub ask_of : List Text → Option Task
 ask_of words = with_some (files_in words) (λ of. with_some (cap_of words) (λ cap. with_some (canon_of words) (λ canon. with_some (relation_name_of words) (λ name. Some (ask of cap canon name)))))

@@ -37,13 +37,13 @@ abbrev pub parts : Text → Option (Text × Text)
 parts word = if list_any is_equals word then Some (before_first is_equals word, after_first is_equals word) else None
 
 -- the value that parts give a key: the second part, where the first is the key
-abbrev pub value_in : Key → Option (Text × Text) → Option Text
-value_in key None = None
-value_in key (Some p) = if bytes_eq p.0 (key_name key) then Some p.1 else None
+abbrev pub value_of_key : Key → Option (Text × Text) → Option Text
+value_of_key key None = None
+value_of_key key (Some p) = if bytes_eq p.0 (key_name key) then Some p.1 else None
 
 -- the value that a word gives a key
 abbrev pub given : Key → Text → Option Text
-given key word = value_in key (parts word)
+given key word = value_of_key key (parts word)
 
 -- whether it gives it one
 abbrev pub gives : Key → Text → Bool

@@ -34,7 +34,7 @@ pub fn read_words(words: &[String]) -> Result<Command<'_>, Usage>
     }
 }
 
-/// The command of a name from the words behind it.
+/// The command of a name from the words after it.
 fn named<'a>(name: &str, words: &'a [String]) -> Option<Command<'a>>
     ensures task { tasks_of result ≡ command (name.now ∷ map string_bytes words.now) }
     ensures range { IfSome result (λ found. IsInRange (task_of found)) }

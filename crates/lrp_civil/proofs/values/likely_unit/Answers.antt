@@ -1,5 +1,5 @@
 use Rattle.std.proofs.Common.{rules, ◌≡◌, get_or}
-use Rattle.lrp_civil.proofs.PaceLemmas.{no_letter, unit_begun}
+use Rattle.lrp_civil.proofs.PaceLemmas.{unit_begun}
 use Rattle.lrp_civil.proofs.values.likely_unit.Goals as goal
 
 pub returns-in-109 : goal.returns-in-109

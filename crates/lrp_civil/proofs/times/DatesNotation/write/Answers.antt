@@ -6,7 +6,7 @@ use Rattle.lrp_civil.proofs.times.DatesNotation.write.Goals as goal
 
 pub returns-then-is_civil_minute-clause-text : goal.returns-then-is_civil_minute-clause-text
 returns-then-is_civil_minute-clause-text g c =
-    written_as _ _ _ _ _ (c.moment.ensures ∙ dated_is c.args.time.now true (sym c.is_civil_minute.ensures.value ∙ c.if-is_civil_minute.true)) c.write_bytes.ensures.text
+    written_as _ _ _ _ _ (dated_is c.args.time.now true (sym c.is_civil_minute.ensures.value ∙ c.if-is_civil_minute.true)) c.write_moment.ensures.text
 
 pub returns-else-is_civil_minute-clause-text : goal.returns-else-is_civil_minute-clause-text
 returns-else-is_civil_minute-clause-text g c =

@@ -1,6 +1,6 @@
-use Rattle.std.proofs.Common.{◌≡◌, ◌≤◌, true, subst, arith, length}
+use Rattle.std.proofs.Common.{◌≡◌, true, subst, arith}
 use Rattle.lrp_civil.specs.declared.values.CivilValue.TheVariants.{Every}
-use Rattle.lrp_civil.specs.CivilValues.{is_civil, pace_bytes}
+use Rattle.lrp_civil.specs.CivilValues.{is_civil}
 use Rattle.lrp_civil.proofs.PlainSizes.{pace_short}
 use Rattle.lrp_civil.proofs.values.CivilValue.len.Goals as goal
 

@@ -1,7 +1,7 @@
 use Rattle.std.proofs.Common.{◌≡◌, length}
 use Rattle.lrp_model.specs.Lexing.{behind_run}
 use Rattle.std.specs.Char.{is_ascii_digit}
-use Rattle.lrp_civil.proofs.tokens.behind_digits.Given as goal
+use Rattle.lrp_civil.proofs.tokens.after_digits.Given as goal
 
 -- going on from here gives the same
 abbrev pub invariant-loop-rest : goal.invariant-loop-rest

@@ -1,6 +1,6 @@
 use Rattle.std.proofs.Common.{◌≡◌, ◌≤◌, false, length}
 use Rattle.lrp_model.specs.Lexing.{skip, start}
-use Rattle.lrp_civil.proofs.tokens.behind_blanks.Given as goal
+use Rattle.lrp_civil.proofs.tokens.after_blanks.Given as goal
 
 -- going on from here gives the same
 abbrev pub invariant-loop-rest : goal.invariant-loop-rest

@@ -1,6 +1,6 @@
 use Rattle.std.proofs.Common.{rules, ◌∙◌, sym, refl}
 use Rattle.lrp_civil.proofs.TokenLemmas.{comment_step, hash_step, blank_step}
-use Rattle.lrp_civil.proofs.tokens.behind_blanks.Goals as goal
+use Rattle.lrp_civil.proofs.tokens.after_blanks.Goals as goal
 
 pub loop-rest-preserved-then-comment : goal.loop-rest-preserved-then-comment
 loop-rest-preserved-then-comment c = record {

@@ -1,6 +1,6 @@
 use Rattle.std.proofs.Common.{◌≡◌, length}
 use Rattle.lrp_model.specs.Lexing.{is_name_byte, behind_run}
-use Rattle.lrp_civil.proofs.tokens.behind_name.Given as goal
+use Rattle.lrp_civil.proofs.tokens.after_name.Given as goal
 
 -- going on from here gives the same
 abbrev pub invariant-loop-rest : goal.invariant-loop-rest

@@ -1,6 +1,0 @@
-use Rattle.std.proofs.Common.{sym}
-use Rattle.lrp_civil.proofs.TokenLemmas.{name_behind}
-use Rattle.lrp_civil.proofs.tokens.behind_token.Goals as goal
-
-pub returns-in-len1-up : goal.returns-in-len1-up
-returns-in-len1-up c = name_behind c.args.wide c.args.bytes.now c.behind_name.result.now c.in-len1-up.len_at_least (sym c.if-is_letter.ensures) c.behind_name.ensures
