@@ -4,3 +4,9 @@ pub mod Lengths
 pub mod Spelled
 pub mod Databases
 pub mod Queries
+pub mod Few
+pub mod FormCells
+pub mod Days
+pub mod TripCells
+pub mod PlanCells
+pub mod FirstDay

@@ -26,7 +26,7 @@ here t at = record { place = place at; item = t }
 abbrev given : WrittenTerm → ℕ → Located (WrittenArgument first_order)
 given t at = record { place = place at; item = argument t }
 
--- some trip leaves at u or within 15 minutes behind it
+-- some trip leaves at u or within 15 minutes after it
 abbrev written_some : WrittenFormula first_order
 written_some =
     some (place 60) (binder (codes "v") 67 Time 70) (some (place 75) (binder (codes "w") 82 Time 85) (some (place 90) (binder (codes "k") 97 Data 100) (all_of (place 105)

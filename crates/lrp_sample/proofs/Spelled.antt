@@ -139,7 +139,7 @@ each_day p rest =
     let r = after q (codes "1440") in
     both (plus p (codes "1440n, " ++ rest)) (both (minutes q (codes "n, " ++ rest) refl) (both (letter_word r (codes ", " ++ rest) refl) (separator (after r (codes "n")) rest)))
 
--- the parenthesis behind the values, and the word behind it
+-- the parenthesis after the values, and the word after it
 where_spelled : (p : Place) (rest : List ℕ) → Spelled (any (symbol_token Close) ∷ any (word_token Where) ∷ []) p (codes ") where ") rest
 where_spelled p rest =
     let q = after (after p (codes ")")) (codes " ") in

@@ -61,7 +61,7 @@ time name plus = time_var name (pos plus)
 abbrev pub trip_atom : Identifier → Identifier → Identifier → Form
 trip_atom d a l = atom (codes "trip") (time_term (time d 0) ∷ time_term (time a 0) ∷ data_term (data_var l) ∷ [])
 
--- some trip leaves at u or within 15 minutes behind it
+-- some trip leaves at u or within 15 minutes after it
 abbrev pub some_leaves : Form
 some_leaves =
     exists (codes "v") Time (exists (codes "w") Time (exists (codes "k") Data (conjunction (

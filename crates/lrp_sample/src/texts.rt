@@ -27,7 +27,7 @@ impl Copies for Texts {
 const QUERY: &str =
     "{ t: time, l: data | exists u: time (trip(t, u, l) and not exists v: time exists w: time exists k: data (trip(v, w, k) and v >= u and v <= u + 15)) }\n";
 
-// The line of a trip, behind the lines of those before it.
+// The line of a trip, after the lines of those before it.
 fn write_trip(text: &mut String, seed: u32, i: u32) -> Result<(), Memory>
     requires seed { seed ≤ 1000000 }
     requires number { i < 500 }

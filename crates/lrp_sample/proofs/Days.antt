@@ -9,7 +9,7 @@ use Rattle.lrp_model.specs.declared.relations.Row.{Row}
 use Rattle.lrp_model.proofs.Logic.{all_append}
 use Rattle.lrp_sample.specs.Texts.{duration}
 use Rattle.lrp_sample.specs.Trees.{trip, sample_relations, sample_question}
-use Rattle.lrp_sample_laws.specs.Plans.{sample_steps}
+use Rattle.lrp_sample.specs.Plans.{sample_steps}
 
 -- ---- numbers that are all 1440
 

@@ -13,7 +13,7 @@ use Rattle.lrp_model.specs.Satisfaction.{Structure, Assignment, Satisfies, IsOfS
 use Rattle.lrp_model.specs.Cells.{FormCell, LiesIn, IsInhabited, Agree, Differ, ManyCells}
 use Rattle.lrp_model.specs.declared.relations.Sort.{Sort}
 use Rattle.lrp_model.specs.declared.relations.Sort.TheVariants.{Time, Data, Named}
-use Rattle.lrp_sample_laws.proofs.Few.{HasSome, few}
+use Rattle.lrp_sample.proofs.Few.{HasSome, few}
 
 -- the variable's integer has the cell's residue modulo K, which is from 0 to K - 1; or its text is the cell's
 abbrev pub Lies : ℕ → Assignment → FormCell → Variable → Type 0

@@ -16,10 +16,10 @@ use Rattle.lrp_model.specs.Texts.{Text}
 use Rattle.lrp_model.proofs.Resume.{tuples_total}
 use Rattle.lrp_sample.specs.Texts.{departure, line}
 use Rattle.lrp_sample.specs.Trees.{sample_question, sample_relations}
-use Rattle.lrp_sample_laws.specs.Plans.{IsOfFirstDay}
-use Rattle.lrp_sample_laws.proofs.Few.{HasSome, few}
-use Rattle.lrp_sample_laws.proofs.FormCells.{one_residue}
-use Rattle.lrp_sample_laws.proofs.PlanCells.{head_lies}
+use Rattle.lrp_sample.specs.Plans.{IsOfFirstDay}
+use Rattle.lrp_sample.proofs.Few.{HasSome, few}
+use Rattle.lrp_sample.proofs.FormCells.{one_residue}
+use Rattle.lrp_sample.proofs.PlanCells.{head_lies}
 
 -- ---- tuples that rise differ
 

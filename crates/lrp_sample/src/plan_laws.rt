@@ -3,7 +3,7 @@ ghost use Rattle.std.specs.Prelude.{◌≡◌, ◌≤◌, ◌*◌, ℕ, List, le
 ghost use Rattle.std.specs.List.{AllByRecursion};
 ghost use Rattle.lrp_model.specs.Pages.{Rises};
 ghost use Rattle.lrp_model.specs.Rows.{Tuple};
-ghost use Rattle.lrp_sample_laws.specs.Plans.{IsSampleSize, planned_kinds, sample_kinds, sample_period, sample_reach, IsOfFirstDay, IsSampleWithinLimits, HasAtMostCells};
+ghost use Rattle.lrp_sample.specs.Plans.{IsSampleSize, planned_kinds, sample_kinds, sample_period, sample_reach, IsOfFirstDay, IsSampleWithinLimits, HasAtMostCells};
 
 /// The plan has the same steps for all trips. Its period is a day, and so it is within the limits.
 pub fn sample_is_within_limits()

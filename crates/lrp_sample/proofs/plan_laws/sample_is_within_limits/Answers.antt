@@ -1,5 +1,5 @@
-use Rattle.lrp_sample_laws.proofs.Days.{body_is_daily, reach_is_small, is_in_range}
-use Rattle.lrp_sample_laws.proofs.laws.sample_is_within_limits.Goals as goal
+use Rattle.lrp_sample.proofs.Days.{body_is_daily, reach_is_small, is_in_range}
+use Rattle.lrp_sample.proofs.plan_laws.sample_is_within_limits.Goals as goal
 
 pub returns-clause-period : goal.returns-clause-period
 returns-clause-period c = λ seed size h. body_is_daily seed size h.some

@@ -18,7 +18,7 @@ use Rattle.lrp_model.specs.declared.formulas.Op.TheVariants.{Le}
 use Rattle.lrp_model.specs.declared.formulas.Test.TheVariants.{Compare}
 use Rattle.lrp_sample.specs.Texts.{departure, arrival, line}
 use Rattle.lrp_sample.specs.Trees.{trip, sample_relations, sample_question, trip_atom, time as time_at}
-use Rattle.lrp_sample_laws.proofs.FormCells.{Lies, LiesAt, LieIn}
+use Rattle.lrp_sample.proofs.FormCells.{Lies, LiesAt, LieIn}
 
 -- ---- what the relation holds
 

@@ -13,10 +13,10 @@ use Rattle.lrp_model.specs.Steps.{PlanStep, Steps, step_at}
 use Rattle.lrp_model.specs.Caps.{step_variables, ManyAt}
 use Rattle.lrp_model.specs.declared.relations.Sort.TheVariants.{Time, Data}
 use Rattle.lrp_sample.specs.Trees.{sample_relations, sample_question, trip_atom, some_leaves}
-use Rattle.lrp_sample_laws.specs.Plans.{sample_steps}
-use Rattle.lrp_sample_laws.proofs.FormCells.{LieIn, few_cells, of_first, widened, dropped}
-use Rattle.lrp_sample_laws.proofs.Days.{scan_period, join_period, body_period, scan_is_daily, join_is_daily, minus_is_daily}
-use Rattle.lrp_sample_laws.proofs.TripCells.{world, LiesByTrip, numbered, own_cell, before_cell, trip_variables, own_trip, other_trip, not_after, leaves, leaves_variables, trip_leaves}
+use Rattle.lrp_sample.specs.Plans.{sample_steps}
+use Rattle.lrp_sample.proofs.FormCells.{LieIn, few_cells, of_first, widened, dropped}
+use Rattle.lrp_sample.proofs.Days.{scan_period, join_period, body_period, scan_is_daily, join_is_daily, minus_is_daily}
+use Rattle.lrp_sample.proofs.TripCells.{world, LiesByTrip, numbered, own_cell, before_cell, trip_variables, own_trip, other_trip, not_after, leaves, leaves_variables, trip_leaves}
 
 -- ---- the formulas of the steps
 
