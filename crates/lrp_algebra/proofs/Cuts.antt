@@ -27,6 +27,6 @@ module _ {X : Type 0} (nought : X) (place n : ℕ) (old new : List X) (cut : IsC
       within : (i : ℕ) → i < length (take n new) → i < n
       within i h = omega (arith, short)
 
-  -- and behind them there is nothing
+  -- and after them there is nothing
   pub cut_padded : IsPadded nought (n + 1) old → IsPadded nought n new
   cut_padded p = record { size = cut.size; zeros = λ i h. cut.behind i (omega arith) ∙ p.zeros (i + 1) (omega arith) }

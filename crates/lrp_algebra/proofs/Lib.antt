@@ -7,6 +7,7 @@ pub mod Extended
 pub mod Filled
 pub mod Found
 pub mod Grouped
+pub mod InCommon
 pub mod Leaves
 pub mod Nearby
 pub mod NewZones

@@ -2,6 +2,7 @@
 use Rattle.std.proofs.Common.{◌≡◌, ℕ, zero, suc, ◌+◌, ◌-◌, ◌<◌, ◌≤◌, ◌^◌, ◌⊎◌, inl, inr, List, [], ◌∷◌, ◌++◌, length, map, take, Bool, true, false, IsSome, refl, sym, ap, subst, ◌∙◌, arith, get_or, Contains, eq-eqb}
 use Rattle.std.specs.Prelude.{ℤ, pos, All, ◌==◌, if◌then◌else◌}
 use Rattle.std.specs.FinMap as finite
+use Rattle.std.specs.FinMap.{empty_of_len}
 use Rattle.std.specs.List.{flat_map}
 use Rattle.std.proofs.lemmas.List.{ext_get_or, length-map, get_or-take, get_or_default}
 use Rattle.lrp_model.specs.Texts.{Text}
@@ -14,8 +15,8 @@ use Rattle.lrp_store.specs.Growing.{IsGrown, IsAdded, IsRefused, IsTupleOf}
 use Rattle.lrp_store.specs.Tables.{AreNumbered}
 use Rattle.lrp_store.specs.Reading.{entries_of}
 use Rattle.lrp_store.proofs.Grown.{Set}
-use Rattle.lrp_store.proofs.Held.{Table, held_of}
-use Rattle.lrp_store.proofs.Aligning.{head_in, tail_in}
+use Rattle.lrp_store.proofs.Held.{Table, held_of, other_spare}
+use Rattle.lrp_store.proofs.Aligning.{head_in, nothing_held, tail_in}
 use Rattle.lrp_systems.specs.Parts.{Fits as FitsIn}
 use Rattle.lrp_tables.specs.Pieces.{piece_of, pieces_at, pieces_in, IsPieceOf, InPiece, InPieces, ArePieces, FitsCell}
 use Rattle.lrp_tables.specs.declared.pieces.Piece.{Piece}
@@ -110,6 +111,23 @@ module _ (s out : StoreView) (is : IsStore s) (valid : IsStore out) (places : Pl
     -- or refused
     pub alike_refused : ((high : ℕ) → HasReach s high → IsRefused (InStore s) cap high out new) → (high : ℕ) → HasBrought s out.period high → IsRefused (IsOver out.shape size (IsFound s places pattern)) cap high out new
     alike_refused all high b = refused_as cap (InStore s) (IsOver out.shape size (IsFound s places pattern)) high high (omega arith) out new valid to_found (all high (brought_reach s out.period high alike.period b))
+
+-- ---- a store without a cell
+
+-- a store that is equal but for its spare slots has what the other has
+pub copied_added : (s old new : StoreView) → IsStore s → IsStore old → s.shape ≡ old.shape → s.period ≡ old.period → finite.len old.tables ≡ 0 → new ≡ record s { spare = new.spare } → (cap : ℕ) → finite.len s.tables ≤ cap → (high : ℕ) → HasReach s high → IsAdded (InStore s) cap high old new
+copied_added s old new is valid shape period none same cap low high reach = subst (λ v. IsAdded (InStore s) cap high old v) (sym same) (record {
+  grown = record {
+    valid = other_spare s new.spare is;
+    shape = shape;
+    period = period;
+    kept = λ xs ns h. absurd (nothing_held old (empty_of_len old.tables none) xs ns h);
+    sound = λ xs ns h. inr (record { cell = h.cell; table = h.table; held = h.held; named = h.named; inside = h.inside });
+    few = λ h. low;
+    reach = λ k l h. record { each = λ c t b. let r = reach.each c t b in omega (arith, r, l) };
+  };
+  whole = record { each = λ xs ns h. record { cell = h.cell; table = h.table; held = h.held; named = h.named; inside = h.inside } };
+})
 
 -- ---- zone after zone
 

@@ -190,7 +190,7 @@ pub node_none : (n : ℕ) → node [] n ≡ pos 0
 node_none zero = refl
 node_none (suc n) = refl
 
--- a time column behind the first one
+-- a time column after the first one
 pub behind : (x : ℤ) (xs : List ℤ) (n : ℕ) → n ≢ 1 → node (x ∷ xs) n ≡ node xs (n - 1)
 behind x [] zero h = refl
 behind x (y ∷ xs) zero h = refl
@@ -205,7 +205,7 @@ next_of terms i item low is = drop_more terms i item low ∙ ap (λ u. u ∷ dro
 pub first_left : (env : Assignment) (terms : List Term) (i : ℕ) (item : Term) (t : TimeTerm) (n : ℕ) → i < length terms → item ≡ get_or terms i item → item ≡ time_term t → n ≡ 1 → node (term_times env (drop i terms)) n ≡ time_value env t
 first_left env terms i item t n low is e en = ap (λ l. node (term_times env l) n) (next_of terms i item low is ∙ ap (λ u. u ∷ drop (i + 1) terms) e) ∙ ap (node (time_value env t ∷ term_times env (drop (i + 1) terms))) en
 
--- a later one, behind a time
+-- a later one, after a time
 pub later_left : (env : Assignment) (terms : List Term) (i : ℕ) (item : Term) (t : TimeTerm) (n next : ℕ) → i < length terms → item ≡ get_or terms i item → item ≡ time_term t → n ≢ 1 → next ≡ n - 1 → node (term_times env (drop i terms)) n ≡ node (term_times env (drop (i + 1) terms)) next
 later_left env terms i item t n next low is e other en = ap (λ l. node (term_times env l) n) (next_of terms i item low is ∙ ap (λ u. u ∷ drop (i + 1) terms) e) ∙ behind (time_value env t) (term_times env (drop (i + 1) terms)) n other ∙ ap (node (term_times env (drop (i + 1) terms))) (sym en)
 

@@ -1,7 +1,7 @@
 -- Columns that go.
 use Rattle.std.specs.Prelude.{◌≡◌, ℕ, ◌+◌, ◌<◌, ◌≤◌, List, length, slice_index_or}
 
--- eight values without that at a place; those behind it move up, and nought is last
+-- eight values without that at a place; those after it move up, and nought is last
 pub record IsCut {X : Type 0} (nought : X) (place : ℕ) (old new : List X) : Type 0 where
   pub size : length new ≡ 8
   pub before : (i : ℕ) → i < place → slice_index_or new i nought ≡ slice_index_or old i nought

@@ -158,7 +158,7 @@ fn texts_of_terms(alloc: Global, terms: &List<Term>) -> Result<List<Name>, Memor
     Ok(names)
 }
 
-// Puts the variable of a term, if it is a time term with one, behind the names.
+// Puts the variable of a term, if it is a time term with one, after the names.
 fn push_times(alloc: Global, term: &Term, names: &mut List<Name>) -> Result<(), Memory>
     ensures { OnOk result (names.new ≡ names.old ++ times_of_term term.now) }
 {
@@ -168,7 +168,7 @@ fn push_times(alloc: Global, term: &Term, names: &mut List<Name>) -> Result<(), 
     }
 }
 
-// Puts the variable of a term, if it is a data term with one, behind the names.
+// Puts the variable of a term, if it is a data term with one, after the names.
 fn push_texts(alloc: Global, term: &Term, names: &mut List<Name>) -> Result<(), Memory>
     ensures { OnOk result (names.new ≡ names.old ++ texts_of_term term.now) }
 {
@@ -178,7 +178,7 @@ fn push_texts(alloc: Global, term: &Term, names: &mut List<Name>) -> Result<(), 
     }
 }
 
-// Puts the variable of a time term, if it has one, behind the names.
+// Puts the variable of a time term, if it has one, after the names.
 fn push_time(alloc: Global, term: &TimeTerm, names: &mut List<Name>) -> Result<(), Memory>
     ensures { OnOk result (names.new ≡ names.old ++ names_of_time term.now) }
 {
@@ -188,7 +188,7 @@ fn push_time(alloc: Global, term: &TimeTerm, names: &mut List<Name>) -> Result<(
     Ok(())
 }
 
-// Puts the variable of a data term, if it has one, behind the names.
+// Puts the variable of a data term, if it has one, after the names.
 fn push_text(alloc: Global, term: &DataTerm, names: &mut List<Name>) -> Result<(), Memory>
     ensures { OnOk result (names.new ≡ names.old ++ names_of_data term.now) }
 {

@@ -2,7 +2,7 @@
 ghost use Rattle.std.specs.Prelude.{◌≡◌, ◌+◌, ◌<◌, ◌≤◌, ℕ, pos, length, slice_index_or};
 ghost use Rattle.lrp_algebra.specs.Columns.{IsCut};
 
-/// The residues without that at a place; those behind it move up, and a zero is last.
+/// The residues without that at a place; those after it move up, and a zero is last.
 pub fn without_residue(residues: &[i64; 8], place: usize) -> [i64; 8]
     requires size { length residues.now ≡ 8 }
     requires place { place < 8 }
@@ -16,7 +16,7 @@ pub fn without_residue(residues: &[i64; 8], place: usize) -> [i64; 8]
     out
 }
 
-/// The numbers without that at a place; those behind it move up, and a zero is last.
+/// The numbers without that at a place; those after it move up, and a zero is last.
 pub fn without_number(numbers: &[u32; 8], place: usize) -> [u32; 8]
     requires size { length numbers.now ≡ 8 }
     requires place { place < 8 }

@@ -13,7 +13,7 @@ use Rattle.lrp_hulls.specs.declared.hull.Hull.{Hull}
 use Rattle.lrp_hulls.specs.declared.hull.TextSpan.{TextSpan}
 use Rattle.lrp_hulls.specs.declared.span.ColumnSpan.{ColumnSpan}
 
--- what holds of the first i values holds of one more that is put behind them
+-- what holds of the first i values holds of one more that is put after them
 pub set_more : {X : Type 0} (P : ℕ → X → Type 0) (d : X) (xs : List X) (i : ℕ) (x : X) → i < length xs → ((j : ℕ) → j < i → P j (get_or xs j d)) → P i x → (j : ℕ) → j < i + 1 → P j (get_or (set xs i x) j d)
 set_more P d xs i x low all one j h = elim (cases_eq j i) [
   | inl e ↦ subst (λ k. P k (get_or (set xs i x) k d)) (sym e) (subst (P i) (sym (get_or-set_same xs i x d low)) one)

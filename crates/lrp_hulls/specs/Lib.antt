@@ -3,6 +3,7 @@
 -- What contracts of public calls say.
 pub mod Queries
 pub mod Ranges
+pub mod Common
 -- What functions inside say to one another.
 pub mod Spans
 pub mod Hulls

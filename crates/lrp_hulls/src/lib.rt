@@ -2,6 +2,7 @@
 #![tactic(auto)]
 
 mod axis;
+mod common;
 mod hull;
 mod query;
 mod range;

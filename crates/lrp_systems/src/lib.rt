@@ -33,4 +33,4 @@ pub use part::Part;
 pub use system::add_system;
 pub use wholes::add_zone;
 pub use window::ResidueWindow;
-pub use windows::{Windows, windows_of};
+pub use windows::{Windows, windows_of, windows_within};

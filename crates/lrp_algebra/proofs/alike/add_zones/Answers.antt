@@ -1,9 +1,12 @@
 -- Zone after zone, all that the store holds is added.
-use Rattle.std.proofs.Common.{◌∙◌, subst, sym}
+use Rattle.std.proofs.Common.{◌∙◌, rules, subst, sym}
 use Rattle.lrp_tables.specs.Pieces.{pieces_from}
 use Rattle.lrp_tables.proofs.Pieced.{one_given}
-use Rattle.lrp_algebra.proofs.Likeness.{IsTaking, pieces_of, entries_pieces, taking_none, taking_fits, taking_more, taking_refused, taken_all}
+use Rattle.lrp_algebra.proofs.Likeness.{IsTaking, copied_added, pieces_of, entries_pieces, taking_none, taking_fits, taking_more, taking_refused, taken_all}
 use Rattle.lrp_algebra.proofs.alike.add_zones.Goals as goal
+
+pub returns-then-can_be_copied-clause-ok : goal.returns-then-can_be_copied-clause-ok
+returns-then-can_be_copied-clause-ok c = copied_added c.args.store.now c.args.out.now c.in_ok-copied.copied c.requires.held c.requires.valid c.requires.shape c.requires.period (c.can_be_copied.ensures.none (search rules)) c.in_ok-copied.ensures.value c.args.cap (c.can_be_copied.ensures.few (search rules))
 
 pub loop-cell-init : goal.loop-cell-init
 loop-cell-init c = taking_none c.args.store.now c.args.out.now c.requires.held c.requires.valid c.requires.shape c.requires.period c.args.cap _ (entries_pieces c.args.store.now c.requires.held _ (c.into_iter-cell-iterator.ensures.into_iter_gives ∙ c.entries-cell-items.ensures.value))

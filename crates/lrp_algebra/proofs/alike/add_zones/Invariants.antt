@@ -1,4 +1,4 @@
--- What is held in the zones that are behind was added.
+-- What is held in the zones that are after was added.
 use Rattle.lrp_tables.specs.Pieces.{pieces_from}
 use Rattle.lrp_algebra.proofs.Likeness.{IsTaking, pieces_of}
 use Rattle.lrp_algebra.proofs.alike.add_zones.Given as goal

@@ -1,4 +1,4 @@
--- The names so far, and behind them those of the columns that are left, are all.
+-- The names so far, and after them those of the columns that are left, are all.
 use Rattle.std.proofs.Common.{◌≡◌, ◌++◌, drop}
 use Rattle.lrp_tables.specs.Columns.{head_texts}
 use Rattle.lrp_algebra.proofs.columns.texts_of.Given as goal

@@ -1,4 +1,4 @@
--- The variables of the terms that are behind.
+-- The variables of the terms that are after.
 use Rattle.std.proofs.Common.{◌≡◌, take}
 use Rattle.std.specs.Prelude.{flat_map}
 use Rattle.lrp_tables.specs.Columns.{texts_of_term}

@@ -1,4 +1,4 @@
--- What is left of the tuples of the zones that are behind was added.
+-- What is left of the tuples of the zones that are after was added.
 use Rattle.std.proofs.Common.{◌-◌, ◌^◌}
 use Rattle.lrp_algebra.specs.Tuples.{IsWithoutText}
 use Rattle.lrp_tables.proofs.Passing.{IsPassing}

@@ -1,4 +1,4 @@
--- The values before the place stay, and those behind it move up so far.
+-- The values before the place stay, and those after it move up so far.
 use Rattle.std.proofs.Common.{◌≡◌, ℕ, ◌+◌, ◌<◌, ◌≤◌, pos, length, slice_index_or}
 use Rattle.lrp_algebra.proofs.places.without_residue.Given as goal
 

@@ -1,4 +1,4 @@
--- The bounds that are behind are shifted.
+-- The bounds that are after are shifted.
 use Rattle.std.proofs.Common.{take}
 use Rattle.lrp_algebra.proofs.ReadRows.{AreShifted}
 use Rattle.lrp_algebra.proofs.row_bounds.with_bounds.Given as goal

@@ -1,4 +1,4 @@
--- The pattern asks for the values that are behind.
+-- The pattern asks for the values that are after.
 use Rattle.std.proofs.Common.{take}
 use Rattle.lrp_algebra.specs.Rows.{IsWithValues}
 use Rattle.lrp_algebra.proofs.rows.with_values.Given as goal

@@ -1,4 +1,4 @@
--- The tuples of the rows that are behind were added.
+-- The tuples of the rows that are after were added.
 use Rattle.std.proofs.Common.{drop}
 use Rattle.lrp_model.specs.Reach.{scan_reach}
 use Rattle.lrp_algebra.proofs.Scanned.{IsScanning}

@@ -1,4 +1,4 @@
--- The pattern asks that the tests that are behind pass.
+-- The pattern asks that the tests that are after pass.
 use Rattle.std.proofs.Common.{take}
 use Rattle.lrp_algebra.specs.Conditions.{IsWithTests}
 use Rattle.lrp_algebra.proofs.tested.with_tests.Given as goal

@@ -1,4 +1,4 @@
--- What is left of the tuples of the zones that are behind was added, and the cells that are remembered are held whole.
+-- What is left of the tuples of the zones that are after was added, and the cells that are remembered are held whole.
 use Rattle.std.proofs.Common.{◌*◌, ◌-◌, ◌^◌}
 use Rattle.lrp_algebra.specs.Tuples.{IsWithoutTime}
 use Rattle.lrp_systems.specs.Wholes.{AreWhole}

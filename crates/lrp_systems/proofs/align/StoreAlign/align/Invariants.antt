@@ -1,4 +1,4 @@
--- The tuples of the zones that are behind were added, and no others.
+-- The tuples of the zones that are after were added, and no others.
 use Rattle.lrp_systems.proofs.Aligning.{IsAligning}
 use Rattle.lrp_systems.proofs.align.StoreAlign.align.Given as goal
 

@@ -1,0 +1,6 @@
+-- The tuples of the zones so far meet the bound.
+use Rattle.lrp_hulls.proofs.Commoned.{MetBefore}
+use Rattle.lrp_hulls.proofs.common.common_bound.Given as goal
+
+abbrev pub invariant-loop-piece : goal.invariant-loop-piece
+invariant-loop-piece l = MetBefore l.pieces l.i l.j l.piece-index l.most
