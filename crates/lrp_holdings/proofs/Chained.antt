@@ -1,5 +1,5 @@
 -- Links that are chained stay so where one is taken out or put in.
-use Rattle.std.proofs.Common.{◌≡◌, ◌≢◌, ℕ, zero, suc, ◌+◌, ◌<◌, ◌≤◌, ◌⊎◌, inl, inr, List, length, Option, Some, None, IsSome, refl, sym, ap, subst, ◌∙◌, arith}
+use Rattle.std.proofs.Common.{◌≡◌, ◌≢◌, ℕ, zero, suc, ◌<◌, ◌⊎◌, inl, inr, List, length, Option, Some, None, IsSome, refl, sym, ap, subst, ◌∙◌, arith}
 use Rattle.std.specs.Prelude.{slice_set}
 use Rattle.std.proofs.lemmas.List.{get_or-set_same, get_or-set_other, length-set}
 use Rattle.lrp_holdings.proofs.Cases.{eq_or}
@@ -108,7 +108,7 @@ module _ (P Q : OwnerLink → Owner → Type 0) (old new : List (Option OwnerLin
       by None e = ap (λ (cs : List (Option OwnerLink)). length cs) (led.first e) ∙ length-set old o.number o.next
       by (Some b) e = ap (λ (cs : List (Option OwnerLink)). length cs) (led.later b e)
 
-  -- a link with this one before or behind it is another one
+  -- a link with this one before or after it is another one
   apart_before : (m : OwnerLink) (p : Owner) → P m p → p.before ≡ Some l → m ≢ l
   apart_before m p h b e = let x = c.before m p l h b in let s : c.serial l < c.serial m = x.4 in let t : c.serial m ≡ c.serial l = ap c.serial e in omega (arith, s, t)
 

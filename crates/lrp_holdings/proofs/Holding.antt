@@ -1,5 +1,5 @@
 -- What a value that is held, and an owner that is released, make of all that is held.
-use Rattle.std.proofs.Common.{◌≡◌, ◌≢◌, ℕ, zero, suc, ◌<◌, ◌≤◌, ◌^◌, ◌⊎◌, inl, inr, List, [], ◌∷◌, ◌+◌, length, map, take, get_or, Option, Some, None, IsSome, refl, sym, ap, subst, ◌∙◌, arith}
+use Rattle.std.proofs.Common.{◌≡◌, ℕ, zero, suc, ◌<◌, ◌≤◌, ◌^◌, inl, inr, List, [], ◌∷◌, ◌+◌, length, map, take, get_or, Option, Some, None, IsSome, refl, sym, ap, subst, ◌∙◌, arith}
 use Rattle.std.specs.Prelude.{slice_get, Contains}
 use Rattle.std.specs.List.{All}
 use Rattle.std.proofs.Math.ListN.{get_or-map}
@@ -45,13 +45,13 @@ room_for_one_more ns i d cs ds lt all room low =
     low
 
 module _ {V : Type 0} where
-  abbrev view_of : Slab (Holding V) → HoldingsView V
+  abbrev pub view_of : Slab (Holding V) → HoldingsView V
   view_of s = record { slots = map held_in s.slots }
 
   pub view_at : (s : Slab (Holding V)) (k : ℕ) → held_at (view_of s) k ≡ held_in (get s k)
   view_at s k = get_or-map held_in s.slots k None
 
-  some_back : (x y : Option (Holding V)) → held_in y ≡ held_in x → IsSome y → IsSome x
+  pub some_back : (x y : Option (Holding V)) → held_in y ≡ held_in x → IsSome y → IsSome x
   some_back (Some a) y e h = refl
   some_back None None e h = absurd (not_some (Holding V) h)
   some_back None (Some b) e h = absurd (none_some (record { owners = map number b.owners.items; value = b.value }) (sym e))

@@ -1,15 +1,14 @@
 -- What is held after a value, or all values of an owner, are let go, and after a value is held.
-use Rattle.std.proofs.Common.{◌≡◌, ◌≢◌, ℕ, zero, suc, ◌+◌, ◌<◌, ◌≤◌, ◌⊎◌, inl, inr, List, [], ◌∷◌, length, map, get_or, Option, Some, None, IsSome, refl, sym, ap, subst, ◌∙◌, arith}
+use Rattle.std.proofs.Common.{◌≡◌, ℕ, zero, suc, ◌+◌, ◌<◌, ◌≤◌, inl, inr, List, [], ◌∷◌, length, map, get_or, Option, Some, None, IsSome, refl, sym, ap, subst, ◌∙◌, arith}
 use Rattle.std.specs.Prelude.{slice_get, IfSome, OnSome, Contains}
-use Rattle.std.specs.Option.{option_map}
 use Rattle.std.proofs.lemmas.List.{length-map, get_or_past}
-use Rattle.std.proofs.lemmas.Option.{slice_get_past, slice_get_within, slice_get-get_or}
+use Rattle.std.proofs.lemmas.Option.{slice_get_within, slice_get-get_or}
 use Rattle.slab.specs.Slab.{Slab, Updates, get, slab_len}
 use Rattle.slab.proofs.SlabLemmas.{Contains-cons_cases}
 use Rattle.lrp_holdings.proofs.Cases.{eq_or}
 use Rattle.lrp_model.proofs.Decided.{contains_first, contains_later, contains_none}
-use Rattle.lrp_holdings.specs.Chains.{AreAllChained, AreChained, AreChainedBelow, AreChainedFrom, AreLoose, IsHeldInChains, IsLetGo, IsReleasedFrom, IsRelinked, IsShort, first_of, held_in, loose_owner, owner_at, owner_in}
-use Rattle.lrp_holdings.specs.Holdings.{Held, HoldingsView, held_at}
+use Rattle.lrp_holdings.specs.Chains.{AreAllChained, AreChainedBelow, AreChainedFrom, IsHeldInChains, IsLetGo, IsReleasedFrom, IsRelinked, IsShort, first_of, held_in, owner_at, owner_in}
+use Rattle.lrp_holdings.specs.Holdings.{Held}
 use Rattle.lrp_holdings.specs.declared.chains.OwnerLink.{OwnerLink}
 use Rattle.lrp_holdings.specs.declared.chains.Owner.{Owner}
 use Rattle.lrp_holdings.specs.declared.chains.Holding.{Holding}

@@ -5,3 +5,5 @@ pub mod Relinked
 pub mod LetGo
 pub mod Holding
 pub mod Held
+pub mod Tournament
+pub mod Ordering

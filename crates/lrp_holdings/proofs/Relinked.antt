@@ -1,16 +1,16 @@
 -- What the writes of links make of the links that are chained.
-use Rattle.std.proofs.Common.{◌≡◌, ◌≢◌, ℕ, zero, suc, ◌+◌, ◌<◌, ◌≤◌, ◌⊎◌, inl, inr, List, [], ◌∷◌, length, map, get_or, cond, Option, Some, None, IsSome, refl, sym, ap, subst, ◌∙◌, arith}
+use Rattle.std.proofs.Common.{◌≡◌, ◌≢◌, ℕ, zero, suc, ◌+◌, ◌<◌, ◌≤◌, inl, inr, List, [], ◌∷◌, length, map, get_or, cond, Option, Some, None, IsSome, refl, sym, ap, subst, ◌∙◌, arith}
 use Rattle.std.specs.Prelude.{slice_get, slice_set, IfSome, is_some, count_by}
 use Rattle.std.proofs.lemmas.List.Sums.{sum_by-cons}
 use Rattle.std.proofs.lemmas.Option.{slice_get-get_or}
 use Rattle.lrp_holdings.proofs.Cases.{eq_or}
 use Rattle.slab.specs.Slab.{Slab, Updates, get, with_value}
 use Rattle.slab.proofs.SlabLemmas.{Updates-with_value}
-use Rattle.lrp_holdings.specs.Chains.{AreAllChained, AreChained, AreChainedBelow, AreChainedFrom, AreLoose, IsChanged, IsLedTo, IsRelinked, IsSetAt, first_of, held_in, owner_at, owner_in, with_before, with_next}
+use Rattle.lrp_holdings.specs.Chains.{AreChainedBelow, AreChainedFrom, AreLoose, IsChanged, IsLedTo, IsRelinked, IsSetAt, first_of, held_in, owner_at, owner_in, with_before, with_next}
 use Rattle.lrp_holdings.specs.declared.chains.OwnerLink.{OwnerLink}
 use Rattle.lrp_holdings.specs.declared.chains.Owner.{Owner}
 use Rattle.lrp_holdings.specs.declared.chains.Holding.{Holding}
-use Rattle.lrp_holdings.proofs.Chained.{IsFronted, IsLinked, IsRedirected, IsUnlinked, linked, none_some, not_some, same_link, some_is, some_or, some_stands, unlinked}
+use Rattle.lrp_holdings.proofs.Chained.{IsFronted, IsRedirected, linked, none_some, not_some, same_link, some_is, some_or, some_stands, unlinked}
 
 set_count : (X : Type 0) (xs : List (Option X)) (i : ℕ) (v : X) → IsSome (get_or xs i None) → count_by is_some (slice_set xs i (Some v)) ≡ count_by is_some xs
 set_count X [] i v h = absurd (not_some X h)
@@ -243,7 +243,7 @@ module _ {V : Type 0} where
     put = linked (Below s link.slot link.place) (Below u link.slot (link.place + 1)) old c (λ m p q h g. one_owner s m p q h.0 g.0) link o.number (loose.room link o refl (omega arith) at)
         (record { free = free; there = there; one = λ p q h g. one_owner u link p q h.0 g.0; to = put_to; from = put_from })
 
-    -- the links behind it are as they were
+    -- the links after it are as they were
     pub still_loose : (new : List (Option OwnerLink)) → length new ≡ length old → AreLoose u new link.slot (link.place + 1)
     still_loose new size = record {
       first = λ m q e low h. let x = was m q e low h in x.2 ∙ loose.first m x.0 e (omega (arith, low)) x.1;

@@ -27,7 +27,7 @@ pub record IsSetAt (f : Owner → Owner) (old new : List Owner) (place : ℕ) : 
   pub others : (i : ℕ) → i ≢ place → slice_get new i ≡ slice_get old i
   pub size : length new ≡ length old
 
--- where the link of an owner is the first of its chain, the chain begins behind it
+-- where the link of an owner is the first of its chain, the chain begins after it
 pub record IsLedTo (owner : Owner) (old new : List (Option OwnerLink)) : Type 0 where
   pub first : owner.before ≡ None → new ≡ slice_set old owner.number owner.next
   pub later : (link : OwnerLink) → owner.before ≡ Some link → new ≡ old

@@ -3,7 +3,10 @@ ghost use Rattle.std.specs.Prelude.{◌≡◌, ◌+◌, ◌<◌, ◌≤◌, ℕ,
 ghost use Rattle.std.specs.List.{All};
 ghost use Rattle.slab.specs.Slab.{get};
 ghost use Rattle.lrp_holdings.specs.Chains.{AreAllChained, AreChainedBelow, AreChainedFrom, AreLoose, HasRoomForFirst, IsChanged, IsShort, IsLedTo, IsLetGo, IsReleasedFrom, IsRelinked, IsSetAt, first_of, owner_at, with_before, with_next};
+ghost use Rattle.lrp_holdings.specs.Winners.{HasWinners};
 
+use crate::ranked::Ranked;
+use crate::winners::replay;
 use lrp_model::Memory;
 use slab::Slab;
 use smallvec::SmallVec;
@@ -81,7 +84,7 @@ fn before_at(owners: &mut SmallVec<Owner, 2>, place: u32, before: Option<OwnerLi
     owners.as_mut_slice()[place as usize].before = before;
 }
 
-// Lets a chain begin behind its first link.
+// Lets a chain begin after its first link.
 fn set_first(chains: &mut Vec<Option<OwnerLink>>, owner: Owner)
     requires { owner.number < length chains.old.items }
     ensures { IsLedTo owner chains.old.items chains.new.items }
@@ -164,18 +167,22 @@ fn first(chains: &Vec<Option<OwnerLink>>, number: usize) -> Option<OwnerLink>
 }
 
 /// Lets go each value that the owner holds.
-pub(crate) fn release<V: Drop>(
+pub(crate) fn release<V: Ranked + Drop>(
     slots: &mut Slab<Holding<V>>,
     chains: &mut Vec<Option<OwnerLink>>,
+    winners: &mut Vec<Option<u32>>,
     number: usize,
 )
     requires chained { AreAllChained slots.old chains.old.items }
     requires short { (slot : ℕ) → IsShort (get slots.old slot) }
+    requires ranked { HasWinners V.leads slots.old winners.old.items }
     ensures chained { AreAllChained slots.new chains.new.items }
     ensures released { IsReleasedFrom number slots.old slots.new }
+    ensures ranked { HasWinners V.leads slots.new winners.new.items }
 {
     while let Some(link) = first(chains, number) {
         let_go(slots, chains, link.slot);
+        replay(slots, winners, link.slot);
     }
 }
 

@@ -3,8 +3,11 @@ ghost use Rattle.std.specs.Prelude.{◌≡◌, ◌<◌, ◌^◌, ℕ, IsSome, If
 ghost use Rattle.std.specs.Option.{option_map};
 ghost use Rattle.lrp_holdings.specs.Chains.{loose_owner};
 ghost use Rattle.lrp_holdings.specs.Holdings.{IsHeldToo, IsReleased, held_at, owners_at};
+ghost use Rattle.lrp_holdings.specs.Winners.{IsFirstHeld};
 
 use crate::chains::{Holding, Owner, OwnerLink, link_all, make_room, release};
+use crate::ranked::Ranked;
+use crate::winners::{make_room_for_match, replay, winner};
 use lrp_model::Memory;
 use slab::Slab;
 use smallvec::SmallVec;
@@ -16,24 +19,26 @@ use std::marker::Model;
 /// Each owner has a chain of the places where it stands, linked by index in both directions, so that a value leaves the
 /// chains of its other owners in one step for each (Donald Knuth, "The Art of Computer Programming", volume 1, section
 /// 2.2.5, "Doubly Linked Lists", 1968). A slot that is given up is used again.
-pub struct Holdings<V> {
+pub struct Holdings<V: Ranked> {
     alloc: Global,
     slots: Slab<Holding<V>>,
     chains: Vec<Option<OwnerLink>>,
+    winners: Vec<Option<u32>>,
 }
 
 // A derived drop would be proved anew, type by type, in each crate that lets one go.
-impl<V: Drop> Drop for Holdings<V> {
+impl<V: Ranked + Drop> Drop for Holdings<V> {
     fn drop(self) {
         let Holdings {
             alloc: _alloc,
             slots: _slots,
             chains: _chains,
+            winners: _winners,
         } = self;
     }
 }
 
-impl<V> Model for Holdings<V> {
+impl<V: Ranked> Model for Holdings<V> {
     ghost use Rattle.lrp_holdings.specs.Holdings.{HoldingsView, holdings_code};
 
     ghost Value = { HoldingsView V };
@@ -41,14 +46,16 @@ impl<V> Model for Holdings<V> {
     ghost coded = { holdings_code V.code };
 
     ghost use Rattle.std.specs.Prelude.{map};
-    ghost use Rattle.lrp_holdings.specs.Chains.{IsHeldInChains, held_in};
+    ghost use Rattle.lrp_holdings.specs.Chains.{held_in};
 
     ghost view = { λ h. record { slots = map held_in h.slots.slots } };
 
-    ghost invariant = { λ h. IsHeldInChains h.slots h.chains.items };
+    ghost use Rattle.lrp_holdings.specs.Ordered.{IsHeldInOrder};
+
+    ghost invariant = { λ h. IsHeldInOrder V.leads h.slots h.chains.items h.winners.items };
 }
 
-impl<V: Drop> Holdings<V> {
+impl<V: Ranked + Drop> Holdings<V> {
     /// Nothing is held.
     pub fn new(alloc: Global) -> Self
         ensures { (slot : ℕ) → held_at result slot ≡ None }
@@ -57,6 +64,7 @@ impl<V: Drop> Holdings<V> {
             alloc,
             slots: Slab::new(alloc),
             chains: Vec::new(alloc),
+            winners: Vec::new(alloc),
         }
     }
 
@@ -73,6 +81,17 @@ impl<V: Drop> Holdings<V> {
     {
         match self.slots.get(slot) {
             Some(holding) => Some(&holding.value),
+            None => None,
+        }
+    }
+
+    /// The value that comes first, if there is one.
+    pub fn first(&self) -> Option<&V>
+        ensures none { IfNone result ((slot : ℕ) → held_at self.now slot ≡ None) }
+        ensures some { IfSome result (λ first. IsFirstHeld V.leads self.now first.now) }
+    {
+        match winner(&self.winners, 0) {
+            Some(slot) => self.value(slot as usize),
             None => None,
         }
     }
@@ -97,9 +116,11 @@ impl<V: Drop> Holdings<V> {
             return Err(Memory);
         }
         make_room(&mut self.chains, numbers)?;
+        make_room_for_match(&mut self.winners, self.slots.vacant_key())?;
         let owners = loose(self.alloc, numbers)?;
         let slot = self.slots.insert(Holding { value, owners })?;
         link_all(&mut self.slots, &mut self.chains, slot as u32);
+        replay(&self.slots, &mut self.winners, slot as u32);
         Ok(())
     }
 
@@ -107,7 +128,7 @@ impl<V: Drop> Holdings<V> {
     pub fn release(&mut self, number: usize)
         ensures { IsReleased number self.old self.new }
     {
-        release(&mut self.slots, &mut self.chains, number);
+        release(&mut self.slots, &mut self.chains, &mut self.winners, number);
     }
 }
 

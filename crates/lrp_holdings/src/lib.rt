@@ -3,5 +3,8 @@
 
 mod chains;
 mod holdings;
+mod ranked;
+mod winners;
 
 pub use holdings::Holdings;
+pub use ranked::Ranked;

@@ -47,6 +47,7 @@ use Rattle.lrp_keep.specs.declared.kept_query.KeptQuery.{KeptQuery}
 use Rattle.lrp_keep.specs.declared.states.State.{State}
 use Rattle.lrp_keep.proofs.Alike.{keys_at, relisted_alike, relisted_twice}
 use Rattle.lrp_keep.proofs.Counted.{joined_count}
+use Rattle.lrp_keep.proofs.HeadRoom.{near_tests}
 use Rattle.lrp_keep.proofs.Deriving.{IsReadable, read_by}
 use Rattle.lrp_keep.proofs.Exchanged.{all_fit, columns_stay, have_still, keeps_name, known_still}
 use Rattle.lrp_keep.proofs.KeeperAnswers.{rests}
@@ -234,7 +235,7 @@ module _ (of : KeptQuery) (old : State) (is : IsKeeping of old) (relation : ℕ)
             rise = can.rise;
             tests = can.tests;
             tests_room = at_most bounds period of.query.now.head.columns ds reach d listed can.some (tests_reach d.tests + period) tests_high;
-            room = tests_high;
+            room = near_tests bounds period of.query.now.head.columns ds reach d listed can.some;
             rows = λ j a k p c. read_by g (greatest_bounds new.relations.items) ds d listed can.some high_now j a k p (readable_now i d at j a k p c);
             head = λ a p. let c = can.head a p in record { names = c.names };
           }

@@ -11,7 +11,7 @@ use Rattle.lrp_cutting.specs.Settling.{IsLike}
 use Rattle.lrp_parts.specs.Derivations.{HoldsIn, Levels}
 use Rattle.lrp_keep.specs.States.{IsKeeping, levels_of}
 use Rattle.lrp_keep.specs.Taken.{HasTakenSome, HeldHaveReach, IsLikeLast}
-use Rattle.lrp_keep.specs.Unions.{HoldsAll}
+use Rattle.lrp_keep.specs.Unions.{HoldsAll, HoldsAmong}
 use Rattle.lrp_keep.specs.declared.kept_query.KeptQuery.{KeptQuery}
 use Rattle.lrp_keep.specs.declared.states.State.{State}
 use Rattle.std.proofs.Common.{to_z, of_z}
@@ -20,7 +20,7 @@ use Rattle.std.specs.Prelude.{nat_abs, pos}
 use Rattle.std.proofs.lemmas.Int.{ints}
 use Rattle.lrp_algebra.proofs.Steps.{store_period}
 use Rattle.lrp_limits.specs.declared.periods.Period.{Period}
-use Rattle.lrp_keep.proofs.Taken.{HoldsAmong, holds_all, none_among}
+use Rattle.lrp_keep.proofs.Taken.{holds_all, none_among}
 use Rattle.lrp_plan_laws.proofs.Elements.{found, within}
 use Rattle.lrp_store.proofs.Held.{Contains-from_get}
 

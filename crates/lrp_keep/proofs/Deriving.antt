@@ -2,7 +2,6 @@
 use Rattle.std.proofs.Common.{◌≡◌, ◌<◌, ◌≤◌, ◌+◌, ◌*◌, ◌^◌, ℕ, true, false, List, [], length, Contains, Some, arith}
 use Rattle.std.specs.Prelude.{◌-◌, pos, ◌≤ℤ◌, slice_get}
 use Rattle.std.specs.List.{AllByRecursion}
-use Rattle.std.proofs.lemmas.Nat.{mul-le}
 use Rattle.slab.specs.Slab.{get}
 use Rattle.lrp_theory.specs.Divides.{Divides}
 use Rattle.lrp_model.specs.Formulas.{Form}
@@ -28,6 +27,7 @@ use Rattle.lrp_kept.specs.declared.disjuncts.JoinedAtom.{JoinedAtom}
 use Rattle.lrp_kept.specs.declared.rows.Sketch.{Sketch}
 use Rattle.lrp_kept.specs.declared.rows.HeldRow.{HeldRow}
 use Rattle.lrp_parts.proofs.Behind.{own_reach, rises}
+use Rattle.lrp_keep.proofs.HeadRoom.{near_row, near_tests}
 use Rattle.lrp_keep.proofs.KeptAnswers.{zip_back}
 use Rattle.lrp_parts.proofs.Narrow.{can_be_joined, has_head}
 use Rattle.lrp_kept.proofs.Room.{at_most, atom_room, tests_room}
@@ -58,14 +58,13 @@ module _ (g : Ground) (bounds : List ℕ) (ds : List Disjunct) (d : Disjunct) (l
       let high_atom : 2 ^ time_count d.bound * joined_reach bounds g.period a ≤ 2 ^ 62 = atom_room bounds g.period g.head ds high d listed some a own in
       let low : bounds_reach r.source.row.bounds a.terms + g.period ≤ joined_reach bounds g.period a = r.low in
       let all : joined_reach bounds g.period a ≤ 2 ^ 62 = at_most bounds g.period g.head ds high d listed some (joined_reach bounds g.period a) high_atom in
-      let drops : 2 ^ time_count d.bound * (bounds_reach r.source.row.bounds a.terms + g.period) ≤ 2 ^ time_count d.bound * joined_reach bounds g.period a = mul-le (2 ^ time_count d.bound) (bounds_reach r.source.row.bounds a.terms + g.period) (2 ^ time_count d.bound) (joined_reach bounds g.period a) (omega arith) low in
       record {
         source = r.source;
         held = r.held;
         read = r.read;
         periods = r.periods;
         room = omega (arith, low, all);
-        drops = omega (arith, drops, high_atom);
+        drops = near_row bounds g.period g.head ds high d listed some a own (bounds_reach r.source.row.bounds a.terms + g.period) low;
         sketched = r.sketched;
       }
 
@@ -90,7 +89,7 @@ module _ (names : List Identifier) (f : Form) (d : Disjunct) (is : IsDisjunctOf 
     rise = λ i j a b l p q. rises d.tests [] [] d.atoms.items is.joined i j a b l p q;
     tests = λ i a at. own_reach d.tests [] [] d.atoms.items is.joined i a at;
     tests_room = low_tests;
-    room = tests_room bounds g.period g.head ds high d listed some;
+    room = near_tests bounds g.period g.head ds high d listed some;
     rows = λ i a key at k. read_by g bounds ds d listed some high i a key at (rows i a key at k);
     head = λ a at. has_head names f d is literal (length d.atoms.items - 1) a at g head.own head.few_times head.few_texts head.known;
   }

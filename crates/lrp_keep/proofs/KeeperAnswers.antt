@@ -29,7 +29,7 @@ use Rattle.lrp_keep.specs.declared.states.State.{State}
 use Rattle.lrp_keep.proofs.KeptAnswers.{IsWholeAt, RestsOn, answer_from, answer_to, one_passes, zip_back}
 use Rattle.lrp_keep.proofs.LowRows.{kept_low}
 use Rattle.lrp_keep.proofs.Resting.{rests_on}
-use Rattle.lrp_keep.proofs.SmallAnswers.{small_zones}
+use Rattle.lrp_parts.proofs.SmallAnswers.{small_zones}
 use Rattle.lrp_tables.proofs.HeadCounts.{times_counted}
 use Rattle.lrp_keep.proofs.WholeAtoms.{is_whole_at}
 

@@ -33,7 +33,7 @@ use Rattle.lrp_kept.specs.Disjuncts.{AreDisjunctsOf, IsAtomOf, IsDisjunctOf, bou
 use Rattle.lrp_kept.specs.Held.{names_of, relations_of}
 use Rattle.lrp_kept.specs.KeptForm.{all_occur, all_pass, bound_variables, kept_elements, is_atom_with, is_conjunctive, is_disjunct, is_kept, is_neither, matrix, query_disjuncts, some_passes}
 use Rattle.lrp_kept.specs.SortedForms.{IsSortedForm, binders_at}
-use Rattle.lrp_keep.specs.Unions.{AreDerived, HoldsAll}
+use Rattle.lrp_keep.specs.Unions.{AreDerived, HoldsAll, IsChoiceAnswerIn}
 use Rattle.lrp_kept.specs.declared.disjuncts.Disjunct.{Disjunct}
 use Rattle.lrp_kept.specs.declared.disjuncts.JoinedAtom.{JoinedAtom}
 use Rattle.lrp_parts.proofs.Completed.{HasSortedTexts, binders_stay, from_chosen, in_the_end, to_chosen}
@@ -282,9 +282,9 @@ module _ (g : Ground) (q : Question) (bs : List Column) (ds : List Disjunct) (on
 
   -- ---- all disjuncts
 
-  module _ (all : List Levels) (derived : AreDerived g ds all) (store : StoreView) (kept : IsStore store) (times_are : store.shape.times ≡ length (head_times q.head)) (texts_are : store.shape.texts ≡ length (head_texts q.head)) (holds : HoldsAll all g.domain store) where
+  module _ (all : List Levels) (derived : AreDerived g ds all) where
     -- what is held of a whole choice
-    whole_choice : (i : ℕ) (d : Disjunct) (levels : Levels) → slice_get ds i ≡ Some d → slice_get all i ≡ Some levels → (keys : List ℕ) (value : Option StoreView) → HoldsIn levels (length levels - 1) keys value → (length keys ≡ length d.atoms.items) × IsDerivedFor g d keys value
+    pub whole_choice : (i : ℕ) (d : Disjunct) (levels : Levels) → slice_get ds i ≡ Some d → slice_get all i ≡ Some levels → (keys : List ℕ) (value : Option StoreView) → HoldsIn levels (length levels - 1) keys value → (length keys ≡ length d.atoms.items) × IsDerivedFor g d keys value
     whole_choice i d levels at there keys value h =
         let w = derived.each i d levels at there in
         let x = w.sound.each (length levels - 1) keys value h in
@@ -296,10 +296,9 @@ module _ (g : Ground) (q : Question) (bs : List Column) (ds : List Disjunct) (on
     same_some : {X : Type 0} (x y : X) → Some x ≡ Some y → x ≡ y
     same_some x y e = cc
 
-    -- each answer that is held is one of the query
-    pub answer_to : (tuple : List Datum) → InAnswer q.head g.domain store tuple → IsAnswer db q tuple
-    answer_to tuple x =
-        let c = holds.to (times_of tuple) (texts_of tuple) x.held in
+    -- each answer of a whole choice is one of the query
+    pub choice_to : (tuple : List Datum) → HasShape q.head tuple → IsChoiceAnswerIn all g.domain (times_of tuple) (texts_of tuple) → IsAnswer db q tuple
+    choice_to tuple shape c =
         let there = there_is all c.number c.levels c.at in
         let at = at_place ds c.number (let l : c.number < length all = there in let m : length all ≡ length ds = derived.count in omega (arith, l, m)) in
         let d = at.0 in
@@ -309,14 +308,14 @@ module _ (g : Ground) (q : Question) (bs : List Column) (ds : List Disjunct) (on
         let back = zip_back (IsDisjunctOf (names_of g.rows)) (listed_disjuncts q) ds c.number d on.disjuncts.each at.1 in
         let f = back.0 in
         let env = assignment q.head tuple in
-        let times : map env.times a.2.made.vars.times ≡ times_of tuple = ap (map env.times) (a.2.table.times_are ∙ ap head_times on.head) ∙ tuple_times q.head tuple (record { times = λ v. pos 0; texts = λ v. [] }) on.names x.shape in
-        let texts : map env.texts a.2.made.vars.texts ≡ texts_of tuple = ap (map env.texts) (a.2.table.texts_are ∙ ap head_texts on.head) ∙ tuple_texts q.head tuple (record { times = λ v. pos 0; texts = λ v. [] }) on.names x.shape in
+        let times : map env.times a.2.made.vars.times ≡ times_of tuple = ap (map env.times) (a.2.table.times_are ∙ ap head_times on.head) ∙ tuple_times q.head tuple (record { times = λ v. pos 0; texts = λ v. [] }) on.names shape in
+        let texts : map env.texts a.2.made.vars.texts ≡ texts_of tuple = ap (map env.texts) (a.2.table.texts_are ∙ ap head_texts on.head) ∙ tuple_texts q.head tuple (record { times = λ v. pos 0; texts = λ v. [] }) on.names shape in
         let s : StoreHolds g.domain a.2.made.store (times_of tuple) (texts_of tuple) = subst (λ v. StoreHolds g.domain v (times_of tuple) (texts_of tuple)) (e ∙ sym a.2.store) c.has in
         let has : Has a.2.made g.domain env = subst (λ l. StoreHolds g.domain a.2.made.store l (map env.texts a.2.made.vars.texts)) (sym times) (subst (λ l. StoreHolds g.domain a.2.made.store (times_of tuple) l) (sym texts) s) in
         let y = a.2.table.sound env has in
         let z : AreCompleted g.domain (bound_columns f) (IsOfChoice g d c.keys) env = subst (λ l. AreCompleted g.domain l (IsOfChoice g d c.keys) env) back.2.bound_are y.completed in
         record {
-          fits = fitting M env q.head tuple x.shape (tuple_texts q.head tuple (record { times = λ v. pos 0; texts = λ v. [] }) on.names x.shape) (head_sorted f back.1 d back.2 (on.whole c.number d at.1) c.keys (w.1.rows, w.0) env z);
+          fits = fitting M env q.head tuple shape (tuple_texts q.head tuple (record { times = λ v. pos 0; texts = λ v. [] }) on.names shape) (head_sorted f back.1 d back.2 (on.whole c.number d at.1) c.keys (w.1.rows, w.0) env z);
           satisfies = body_from q M env on.kept (record { disjunct = f; listed = back.1; chosen = derived_to f back.1 d back.2 (on.whole c.number d at.1) c.keys (w.1.rows, w.0) env z });
         }
 
@@ -326,9 +325,9 @@ module _ (g : Ground) (q : Question) (bs : List Column) (ds : List Disjunct) (on
     choices (a ∷ atoms) [] h e = absurd (let z : 0 ≡ suc (length atoms) = e in omega (arith, z))
     choices (a ∷ atoms) (key ∷ keys) h e = ((key, h.0), choices atoms keys h.1 (let z : suc (length keys) ≡ suc (length atoms) = e in omega (arith, z)))
 
-    -- what a disjunct derives is held
-    found : (tuple : List Datum) → AllZip (λ c d. IsOfSort M c.sort d) q.head tuple → IsDerived M (query_disjuncts q) (assignment q.head tuple) → StoreHolds g.domain store (times_of tuple) (texts_of tuple)
-    found tuple fits x =
+    -- what a disjunct derives is an answer of a whole choice
+    choice_found : (tuple : List Datum) → AllZip (λ c d. IsOfSort M c.sort d) q.head tuple → IsDerived M (query_disjuncts q) (assignment q.head tuple) → IsChoiceAnswerIn all g.domain (times_of tuple) (texts_of tuple)
+    choice_found tuple fits x =
         let env = assignment q.head tuple in
         let shape = shape_of M q.head tuple fits in
         let z = zip_at (IsDisjunctOf (names_of g.rows)) (listed_disjuncts q) ds x.disjunct on.disjuncts.each x.listed in
@@ -348,7 +347,7 @@ module _ (g : Ground) (q : Question) (bs : List Column) (ds : List Disjunct) (on
         let times : map env.times a.2.made.vars.times ≡ times_of tuple = ap (map env.times) (a.2.table.times_are ∙ ap head_times on.head) ∙ tuple_times q.head tuple (record { times = λ v. pos 0; texts = λ v. [] }) on.names shape in
         let texts : map env.texts a.2.made.vars.texts ≡ texts_of tuple = ap (map env.texts) (a.2.table.texts_are ∙ ap head_texts on.head) ∙ tuple_texts q.head tuple (record { times = λ v. pos 0; texts = λ v. [] }) on.names shape in
         let s : StoreHolds g.domain a.2.made.store (times_of tuple) (texts_of tuple) = subst (λ l. StoreHolds g.domain a.2.made.store (times_of tuple) l) texts (subst (λ l. StoreHolds g.domain a.2.made.store l (map env.texts a.2.made.vars.texts)) times has) in
-        holds.from (times_of tuple) (texts_of tuple) (record {
+        record {
           number = z.0;
           levels = there.0;
           at = there.1;
@@ -356,19 +355,28 @@ module _ (g : Ground) (q : Question) (bs : List Column) (ds : List Disjunct) (on
           store = a.0;
           held = subst (λ n. HoldsIn there.0 n c.0 (Some a.0)) size (subst (λ v. HoldsIn there.0 (length c.0 - 1) c.0 v) a.1 held.1);
           has = subst (λ v. StoreHolds g.domain v (times_of tuple) (texts_of tuple)) a.2.store s;
-        })
+        }
       where
         held_for : (d : Disjunct) (levels : Levels) → 0 < length d.atoms.items → IsDerivedFrom g d levels → (keys : List ℕ) → AreKeysFor g.rows d.atoms.items keys → length keys ≡ length d.atoms.items → (env : Assignment) → IsOfPart g d keys env → IsHeldFor levels keys
         held_for d levels low w [] rows size env i = absurd (let e : 0 ≡ length d.atoms.items = size in omega (arith, low, e))
         held_for d levels low w (key ∷ more) rows size env i = (w.whole (choices d.atoms.items (key ∷ more) rows size) key).held more rows env i
 
-    -- and each answer of the query is held
-    pub answer_from : (tuple : List Datum) → IsAnswer db q tuple → InAnswer q.head g.domain store tuple
-    answer_from tuple x =
-        let shape = shape_of M q.head tuple x.fits in
-        let times : length (times_of tuple) ≡ store.shape.times = sym (ap length (tuple_times q.head tuple (record { times = λ v. pos 0; texts = λ v. [] }) on.names shape)) ∙ length-map (head_times q.head) (assignment q.head tuple).times ∙ sym times_are in
-        let texts : length (texts_of tuple) ≡ store.shape.texts = sym (ap length (tuple_texts q.head tuple (record { times = λ v. pos 0; texts = λ v. [] }) on.names shape)) ∙ length-map (head_texts q.head) (assignment q.head tuple).texts ∙ sym texts_are in
-        record {
-          shape = shape;
-          held = stable_of (decided_store g.domain on.ascends store kept (times_of tuple) (texts_of tuple) times texts) (λ none. body_to q M (assignment q.head tuple) on.kept x.satisfies (λ y. none (found tuple x.fits y)));
-        }
+    -- an answer of the query isn't without one
+    pub choice_from : (tuple : List Datum) → IsAnswer db q tuple → (IsChoiceAnswerIn all g.domain (times_of tuple) (texts_of tuple) → ⊥) → ⊥
+    choice_from tuple x none = body_to q M (assignment q.head tuple) on.kept x.satisfies (λ y. none (choice_found tuple x.fits y))
+
+    module _ (store : StoreView) (kept : IsStore store) (times_are : store.shape.times ≡ length (head_times q.head)) (texts_are : store.shape.texts ≡ length (head_texts q.head)) (holds : HoldsAll all g.domain store) where
+      -- each answer that is held is one of the query
+      pub answer_to : (tuple : List Datum) → InAnswer q.head g.domain store tuple → IsAnswer db q tuple
+      answer_to tuple x = choice_to tuple x.shape (holds.to (times_of tuple) (texts_of tuple) x.held)
+
+      -- and each answer of the query is held
+      pub answer_from : (tuple : List Datum) → IsAnswer db q tuple → InAnswer q.head g.domain store tuple
+      answer_from tuple x =
+          let shape = shape_of M q.head tuple x.fits in
+          let times : length (times_of tuple) ≡ store.shape.times = sym (ap length (tuple_times q.head tuple (record { times = λ v. pos 0; texts = λ v. [] }) on.names shape)) ∙ length-map (head_times q.head) (assignment q.head tuple).times ∙ sym times_are in
+          let texts : length (texts_of tuple) ≡ store.shape.texts = sym (ap length (tuple_texts q.head tuple (record { times = λ v. pos 0; texts = λ v. [] }) on.names shape)) ∙ length-map (head_texts q.head) (assignment q.head tuple).texts ∙ sym texts_are in
+          record {
+            shape = shape;
+            held = stable_of (decided_store g.domain on.ascends store kept (times_of tuple) (texts_of tuple) times texts) (λ none. choice_from tuple x (λ y. none (holds.from (times_of tuple) (texts_of tuple) y)));
+          }

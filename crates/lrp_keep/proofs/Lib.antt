@@ -7,11 +7,13 @@ pub mod Taken
 pub mod Carried
 pub mod StateLaws
 pub mod Resting
+pub mod HeadRoom
 pub mod Deriving
 pub mod Reaching
 pub mod LowRows
-pub mod SmallAnswers
 pub mod KeeperAnswers
+pub mod FirstAmong
+pub mod KeptLeast
 pub mod Exchanged
 pub mod Cored
 pub mod Counted

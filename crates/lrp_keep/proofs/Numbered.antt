@@ -18,7 +18,7 @@ use Rattle.lrp_keep.specs.Taken.{HasTakenSome}
 use Rattle.lrp_keep.specs.declared.kept_query.KeptQuery.{KeptQuery}
 use Rattle.lrp_keep.specs.declared.states.State.{State}
 use Rattle.lrp_keep.proofs.Answering.{alike}
-use Rattle.lrp_keep.proofs.Taken.{HoldsAmong}
+use Rattle.lrp_keep.specs.Unions.{HoldsAmong}
 use Rattle.lrp_plan_laws.proofs.Elements.{found, within}
 
 -- ---- tuples and cells

@@ -13,7 +13,7 @@ use Rattle.lrp_zone.specs.Zones.{IsMember, IsZone, reach_of}
 use Rattle.lrp_zone.proofs.Cases.{eq_or}
 use Rattle.lrp_model.specs.Texts.{Text}
 use Rattle.lrp_parts.specs.Derivations.{HoldsIn, Levels}
-use Rattle.lrp_keep.specs.Unions.{HoldsAll}
+use Rattle.lrp_keep.specs.Unions.{HoldsAll, HoldsAmong}
 use Rattle.lrp_keep.specs.Taken.{HasTaken, HasTakenSome, HasTakenValue, StaysSame}
 use Rattle.lrp_holdings.proofs.Chained.{none_some, some_is}
 
@@ -172,10 +172,6 @@ last_level levels h old new at t = record {
 }
 
 -- ---- all disjuncts
-
--- what the last levels of the first of these hold
-abbrev pub HoldsAmong : List Levels → ℕ → List ℕ → Option StoreView → Type 0
-HoldsAmong all count keys value = (i : ℕ) × (levels : Levels) × (i < count) × (slice_get all i ≡ Some levels) × HoldsIn levels (length levels - 1) keys value
 
 pub none_among : (all : List Levels) (old : StoreView) → IsStore old → HasTakenSome (HoldsAmong all 0) old old
 none_among all old is = record {

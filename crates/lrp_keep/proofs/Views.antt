@@ -1,4 +1,4 @@
--- The relations that a keeper stands for, after a row is put behind others or taken out.
+-- The relations that a keeper stands for, after a row is put after others or taken out.
 use Rattle.std.proofs.Common.{◌≡◌, ◌≢◌, ℕ, zero, suc, Bool, true, false, List, [], ◌∷◌, ◌++◌, length, map, flat_map, Contains, Option, Some, inl, inr, refl, sym, ap, ap₂, subst, ◌∙◌, bytes_eq, append_assoc, arith}
 use Rattle.std.specs.Prelude.{if◌then◌else◌, slice_get}
 use Rattle.std.specs.List.{AllByRecursion}

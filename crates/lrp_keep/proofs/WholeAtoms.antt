@@ -1,5 +1,5 @@
 -- The last atom of a disjunct in kept form: its tests are all, and its texts are of the atoms' terms.
-use Rattle.std.proofs.Common.{◌≡◌, ◌≤◌, ◌<◌, ◌-◌, ℕ, suc, true, false, not, List, [], ◌∷◌, ◌++◌, length, get_or, flat_map, Contains, Option, Some, None, inl, inr, refl, sym, ap, subst, ◌∙◌, length-append, arith}
+use Rattle.std.proofs.Common.{◌≡◌, ◌≤◌, ◌<◌, ◌-◌, ℕ, suc, true, not, List, [], ◌∷◌, ◌++◌, length, get_or, flat_map, Contains, Option, Some, None, inl, inr, refl, sym, ap, subst, ◌∙◌, length-append, arith}
 use Rattle.std.specs.Prelude.{◌&&◌, filter, slice_get}
 use Rattle.std.specs.List.{AllZip}
 use Rattle.std.proofs.lemmas.Bool.{and_parts, false≢true, or_cases}

@@ -1,5 +1,5 @@
 -- What a keeper of answers stands for, what edits make of it, and why it is refused.
-use Rattle.std.specs.Prelude.{◌≡◌, ◌↔◌, ◌<◌, ◌≤◌, ◌≤ℤ◌, ◌*◌, ℕ, max, pos, true, List, [], ◌∷◌, ◌++◌, map, Contains, if◌then◌else◌}
+use Rattle.std.specs.Prelude.{◌≡◌, ◌↔◌, ◌<◌, ◌≤◌, ◌≤ℤ◌, ◌*◌, ◌-◌, ℕ, max, pos, true, List, [], ◌∷◌, ◌++◌, length, map, Contains, Option, Some, None, if◌then◌else◌}
 use Rattle.std.specs.List.{All, AllByRecursion, AllZip}
 use Rattle.std.specs.Str.{bytes_eq}
 use Rattle.lrp_model.specs.Texts.{Text, Identifier}
@@ -21,9 +21,13 @@ use Rattle.lrp_model.specs.declared.relations.Row.{Row}
 use Rattle.lrp_model.specs.declared.relations.Relation.{Relation}
 use Rattle.lrp_tables.specs.Calls.{CanStand, IsColumnBound}
 use Rattle.lrp_model.specs.Rows.{Datum}
-use Rattle.lrp_model.specs.Satisfaction.{IsAnswer}
+use Rattle.lrp_model.specs.Order.{IsLeast}
+use Rattle.lrp_model.specs.Satisfaction.{HasShape, IsAnswer}
 use Rattle.lrp_model.specs.declared.tuples.Cell.{Cell}
+use Rattle.lrp_model.specs.declared.tuples.Shape.{Shape}
+use Rattle.lrp_model.specs.declared.tuples.Spot.{Spot}
 use Rattle.lrp_zone.specs.Zones.{ZoneView}
+use Rattle.lrp_store.specs.Least.{StandsFor}
 use Rattle.lrp_store.specs.Stores.{zones_at}
 use Rattle.lrp_store.specs.Tables.{InAnswer}
 use Rattle.lrp_answers.specs.declared.answer.Answer.{Answer}
@@ -65,7 +69,7 @@ pub record IsRelationOf (db : List Relation) (name : Identifier) (relation : Rel
   pub listed : Contains db relation
   pub named : relation.name ≡ name
 
--- a row behind the others of the relation
+-- a row after the others of the relation
 abbrev pub with_row : List Relation → Identifier → Row → List Relation
 with_row db name row = replaced db name (rows_of db name ++ row ∷ [])
 
@@ -165,3 +169,21 @@ pub record IsKeptAnswer (k : KeepView) (a : Answer) : Type 0 where
   pub period : a.period ≡ pos k.period
   pub answers : (tuple : List Datum) → InAnswer a.head.columns a.domain a.store tuple ↔ IsAnswer k.relations (question_of k.query) tuple
   pub small : (cell : Cell) (z : ZoneView) → Contains (zones_at a.store cell) z → IsSmallZone z (time_count k.query.head.columns * kept_reach k.relations k.bounds k.period (question_of k.query))
+
+-- ---- the least answer
+
+-- how many time columns a head has, and how many others
+abbrev pub shape_for : List Column → Shape
+shape_for columns = record { times = time_count columns; texts = length columns - time_count columns }
+
+-- the spot stands for the least answer of the query over the rows now held
+pub record IsKeptLeastSpot (k : KeepView) (spot : Spot) : Type 0 where
+  pub tuple : List Datum
+  pub shape : HasShape k.query.head.columns tuple
+  pub stands : StandsFor (shape_for k.query.head.columns) k.domain spot tuple
+  pub least : IsLeast (IsAnswer k.relations (question_of k.query)) tuple
+
+-- so it is, and where there is no spot the query has no answer
+abbrev pub IsKeptLeast : KeepView → Option Spot → Type 0
+IsKeptLeast k None = (tuple : List Datum) → IsAnswer k.relations (question_of k.query) tuple → ⊥
+IsKeptLeast k (Some spot) = IsKeptLeastSpot k spot

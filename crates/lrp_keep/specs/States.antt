@@ -100,7 +100,7 @@ AreDerivedInBut setting of key derived = AreDerivedBut (ground_of setting) of.di
 abbrev pub AreStillInBut : DerivationSetting → KeptQuery → ℕ → List Derived → Type 0
 AreStillInBut setting of key derived = AreStillBut (ground_of setting) of.disjuncts.items key (levels_in derived)
 
--- new has what is derived of the disjunct behind the others
+-- new has what is derived of the disjunct after the others
 pub record IsDerivedBehind (g : Ground) (d : Disjunct) (old new : List Derived) : Type 0 where
   pub derived : Derived
   pub are : new ≡ old ++ derived ∷ []
@@ -255,7 +255,7 @@ pub record HasSketches (of : KeptQuery) (relation : ℕ) (o : Option HeldRow) : 
   pub is : o ≡ Some source
   pub sketches : AreSketchesOf of.domain of.disjuncts.items relation source.row source.sketches.items
 
--- the rows stand behind the others of the relation
+-- the rows stand after the others of the relation
 pub record AreHeldAlso (of : KeptQuery) (number : ℕ) (all : List Row) (old new : HeldRows) : Type 0 where
   pub held : AreHeldRows new
   pub keys : List ℕ

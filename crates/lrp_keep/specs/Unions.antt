@@ -1,5 +1,5 @@
 -- The answers of a query: those of all whole choices of its disjuncts.
-use Rattle.std.specs.Prelude.{◌≡◌, ℕ, ℤ, ◌-◌, List, length, Some, slice_get}
+use Rattle.std.specs.Prelude.{◌≡◌, ℕ, ℤ, ◌-◌, ◌<◌, List, length, Option, Some, slice_get}
 use Rattle.lrp_model.specs.Texts.{Text}
 use Rattle.lrp_store.specs.Stores.{StoreView}
 use Rattle.lrp_store.specs.Tables.{StoreHolds}
@@ -21,6 +21,10 @@ pub record AreDerivedBut (g : Ground) (ds : List Disjunct) (key : ℕ) (all : Li
 pub record AreStillBut (g : Ground) (ds : List Disjunct) (key : ℕ) (all : List Levels) : Type 0 where
   pub count : length all ≡ length ds
   pub each : (i : ℕ) (d : Disjunct) (levels : Levels) → slice_get ds i ≡ Some d → slice_get all i ≡ Some levels → IsDerivedBut g d key levels
+
+-- what the last levels of the first of these hold
+abbrev pub HoldsAmong : List Levels → ℕ → List ℕ → Option StoreView → Type 0
+HoldsAmong all count keys value = (i : ℕ) × (levels : Levels) × (i < count) × (slice_get all i ≡ Some levels) × HoldsIn levels (length levels - 1) keys value
 
 -- the times and the texts are an answer of some whole choice
 pub record IsChoiceAnswerIn (all : List Levels) (domain : List Text) (times : List ℤ) (texts : List Text) : Type 0 where

@@ -2,7 +2,7 @@
 ghost use Rattle.std.specs.Prelude.{◌≡◌, IfOk, IfErr, OnErr, OnOk, false, true};
 ghost use Rattle.lrp_model.specs.Formulas.{question_of};
 ghost use Rattle.lrp_model.specs.Rows.{rows_of};
-ghost use Rattle.lrp_keep.specs.Keeps.{CanBeAdded, CanBeKept, HasNoEqual, IsKeptAnswer, IsWithout, opened, with_added, IsPastLimit, StaysWithinLimits};
+ghost use Rattle.lrp_keep.specs.Keeps.{CanBeAdded, CanBeKept, HasNoEqual, IsKeptAnswer, IsKeptLeast, IsWithout, opened, with_added, IsPastLimit, StaysWithinLimits};
 
 use crate::faults::KeepFault;
 use crate::kept_query::KeptQuery;
@@ -10,7 +10,7 @@ use crate::states::State;
 use lrp_answers::Answer;
 use lrp_database::Database;
 use lrp_kept::HeldRows;
-use lrp_model::{Domain, Memory, Name, Query, Row};
+use lrp_model::{Domain, Memory, Name, Query, Row, Spot};
 use std::alloc::Global;
 use std::marker::Model;
 
@@ -110,6 +110,13 @@ impl<'a> Keep<'a> {
             Some(relation) => self.state.remove(relation, row),
             None => false,
         }
+    }
+
+    /// The least answer of the query over the rows that are now held, if there is one: one look, however many there are.
+    pub fn least(&self) -> Option<Spot>
+        ensures { IsKeptLeast self.now result }
+    {
+        self.state.first()
     }
 
     /// The answers of the query over the rows that are now held.

@@ -1,6 +1,6 @@
 // The rows that are held for a query, and what is derived from them.
 
-ghost use Rattle.std.specs.Prelude.{◌≡◌, ◌<◌, ◌≤◌, ◌^◌, ℕ, [], Some, Err, IfErr, IfOk, OnErr, OnOk, false, true, flat_map, length};
+ghost use Rattle.std.specs.Prelude.{◌≡◌, ◌⊎◌, ◌<◌, ◌≤◌, ◌^◌, ℕ, [], Some, Err, IfErr, IfOk, OnErr, OnOk, false, true, flat_map, length};
 ghost use Rattle.std.specs.List.{AllByRecursion};
 ghost use Rattle.lrp_limits.specs.Multiples.{IsPeriodOf};
 ghost use Rattle.lrp_parts.specs.Derivations.{IsLastKey, ground_of};
@@ -10,8 +10,11 @@ ghost use Rattle.lrp_kept.specs.Limits.{relation_bound};
 ghost use Rattle.lrp_model.specs.Periods.{row_periods};
 ghost use Rattle.lrp_kept.specs.Sizes.{period_number};
 ghost use Rattle.lrp_keep.specs.Keeps.{IsPastLimit, StaysWithinLimits};
-ghost use Rattle.lrp_keep.specs.States.{AreAllHeld, AreHeldAlso, CanBeAddedAt, CanBeHeldIn, AreDerivedIn, AreDerivedInBut, AreStillInBut, CanAllBeSketched, CanBeOpened, CanDeriveAt, CanDeriveEach, HasLargePartAt, HasSomeLargePart, IsAddedAt, IsAddingCause, IsAnswerOfState, IsDerivedAt, IsDerivedWithout, IsHeldAt, IsHoldingCause, IsKeeper, IsKeeping, IsLetGoFrom, IsMarked, IsPeriodWith, IsRaisedBy, AreMarkedBy, IsRemoved, IsStillState, IsUndone, ground_at, opened_with, periods_at, scaled_at, keeper_view, whole_periods};
+ghost use Rattle.lrp_keep.specs.States.{AreAllHeld, AreHeldAlso, CanBeAddedAt, CanBeHeldIn, AreDerivedIn, AreDerivedInBut, AreStillInBut, CanAllBeSketched, CanBeOpened, CanDeriveAt, CanDeriveEach, HasLargePartAt, HasSomeLargePart, IsAddedAt, IsAddingCause, IsAnswerOfState, IsDerivedAt, IsDerivedWithout, IsHeldAt, IsHoldingCause, IsKeeper, IsKeeping, IsLetGoFrom, IsMarked, IsPeriodWith, IsRaisedBy, AreMarkedBy, IsRemoved, IsStillState, IsUndone, ground_at, levels_of, opened_with, periods_at, scaled_at, keeper_view, whole_periods};
 ghost use Rattle.lrp_kept.specs.Sketches.{CanBeSketched};
+ghost use Rattle.lrp_packed.specs.Leading.{IsNotLater};
+ghost use Rattle.lrp_parts.specs.Firsts.{IsFirstOfHeld};
+ghost use Rattle.lrp_keep.specs.Unions.{HoldsAmong};
 
 use crate::faults::{KeepFault, of_step};
 use crate::kept_query::KeptQuery;
@@ -22,7 +25,8 @@ use lrp_database::Database;
 use lrp_kept::{HeldRows, is_read, scaled_reach, tested_period, with_bounds, with_periods};
 use lrp_limits::facts::with_row;
 use lrp_limits::periods::Period;
-use lrp_model::{Copies, LIMIT, Memory, Relation, Row};
+use lrp_model::{Copies, LIMIT, Memory, Relation, Row, Spot};
+use lrp_packed::is_not_later;
 use lrp_parts::{DerivationSetting, Derived};
 use lrp_tables::StepFault;
 
@@ -219,6 +223,18 @@ impl State {
         }
     }
 
+    /// The first answer of all choices, if there is one.
+    pub(crate) fn first(&self) -> Option<Spot>
+        ensures { IsFirstOfHeld (HoldsAmong (levels_of self.now) (length (levels_of self.now)))
+            result }
+    {
+        let mut first = None;
+        for derived in &self.derived {
+            first = nearer(first, derived.first());
+        }
+        first
+    }
+
     /// The answers of all choices.
     pub(crate) fn answer(&self, of: &KeptQuery<'_>) -> Result<Answer, Memory>
         requires { IsKeeping of.now self.now }
@@ -237,6 +253,15 @@ impl State {
             store,
         })
     }
+}
+
+// Of two spots, if there are any, the nearer.
+fn nearer(one: Option<Spot>, other: Option<Spot>) -> Option<Spot>
+    ensures is { (result ≡ one) ⊎ (result ≡ other) }
+    ensures one { IsNotLater result one }
+    ensures other { IsNotLater result other }
+{
+    if is_not_later(one, other) { one } else { other }
 }
 
 // Derives what the last row of a relation makes, in each disjunct.

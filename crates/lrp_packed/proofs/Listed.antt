@@ -6,7 +6,7 @@ use Rattle.std.proofs.lemmas.Bool.{eqb-true, eqb-false, cases_lt, cases_eq}
 use Rattle.std.proofs.lemmas.List.{drop_all, ext_get_or, length-map}
 use Rattle.std.proofs.lemmas.List.FromFn.{get_or-map-range_with_len, length-range_with_len}
 use Rattle.lrp_model.specs.declared.tuples.Cell.{Cell}
-use Rattle.lrp_packed.specs.Entries.{ArePacked, IsEntryAt, IsEntryPut, IsFullSize, IsProper, bound_in, cell_of_entries, entry_for, read_from, residue_in, table_of_entries, text_in}
+use Rattle.lrp_packed.specs.Entries.{ArePacked, IsEntryAt, IsEntryPut, IsFullSize, IsProper, IsPutInCell, bound_in, cell_of_entries, entry_for, read_from, residue_in, table_of_entries, text_in}
 use Rattle.lrp_packed.specs.declared.zones.PackedEntry.{PackedEntry}
 
 none_some : {X : Type 0} (x : X) → None ≡ Some x → ⊥
@@ -26,7 +26,7 @@ all_at P (x ∷ xs) (suc n) d h all = all_at P xs n d (omega arith) all.1
 cell_is : (c : Cell) (texts : List ℕ) (residues : List ℤ) → c.texts ≡ texts → c.residues ≡ residues → c ≡ record { texts = texts; residues = residues }
 cell_is c texts residues e f = ap (λ t. record { texts = t; residues = c.residues }) e ∙ ap (λ r. record { texts = texts; residues = r }) f
 
--- ---- an entry behind others
+-- ---- an entry after others
 
 push_other : (es : List PackedEntry) (e : PackedEntry) (q : ℕ) → e.place ≢ q → entry_for (es ++ e ∷ []) q ≡ entry_for es q
 push_other [] e q d =
@@ -169,6 +169,10 @@ module _ (e : PackedEntry) (cell new : Cell) (table : List (Option ℤ)) where
     table_is = λ es h. h ∙ sym (read_out e es bound_in 16 81 (inl (omega (arith, low))));
   }
 
+  -- what is put into the cell alone
+  pub cell_put : e.place < 16 → IsPutInCell e cell new → IsEntryPut e cell new table table
+  cell_put low put = record { cell_is = put; table_is = λ es h. h ∙ sym (read_out e es bound_in 16 81 (inl low)) }
+
   pub residue_put : (i : ℕ) → e.place ≡ 8 + i → i < 8 → new.texts ≡ cell.texts → new.residues ≡ set cell.residues i e.time → IsEntryPut e cell new table table
   residue_put i at low texts residues = record {
     cell_is = λ es h. cell_is new (read_from text_in 0 8 (e ∷ es)) (read_from residue_in 8 8 (e ∷ es))
@@ -211,6 +215,10 @@ written_more es left n e d cell new table more at low is put w = record {
   where
     all : drop n es ≡ e ∷ drop left es
     all = drop_one es n d low ∙ ap (λ x. x ∷ drop (suc n) es) (sym is) ∙ ap (λ k. e ∷ drop k es) (sym at)
+
+-- the same for the cell alone
+pub cell_more : (es : List PackedEntry) (left n : ℕ) (e d : PackedEntry) (cell new : Cell) → left ≡ suc n → n < length es → e ≡ get_or es n d → IsPutInCell e cell new → cell ≡ cell_of_entries (drop left es) → new ≡ cell_of_entries (drop n es)
+cell_more es left n e d cell new at low is put w = put (drop left es) w ∙ ap cell_of_entries (sym (drop_one es n d low ∙ ap (λ x. x ∷ drop (suc n) es) (sym is) ∙ ap (λ k. e ∷ drop k es) (sym at)))
 
 pub written_all : (es : List PackedEntry) (left : ℕ) (cell : Cell) (table : List (Option ℤ)) → left ≡ 0 → AreWritten es left cell table → (cell ≡ cell_of_entries es) × (table ≡ table_of_entries es)
 written_all es left cell table none w = (w.cell_is ∙ ap (λ k. cell_of_entries (drop k es)) none, w.table_is ∙ ap (λ k. table_of_entries (drop k es)) none)

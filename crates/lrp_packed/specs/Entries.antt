@@ -66,3 +66,7 @@ pub record ArePacked (cell : Cell) (table : List (Option ℤ)) (es : List Packed
 pub record IsEntryPut (e : PackedEntry) (cell new_cell : Cell) (table new_table : List (Option ℤ)) : Type 0 where
   pub cell_is : (es : List PackedEntry) → cell ≡ cell_of_entries es → new_cell ≡ cell_of_entries (e ∷ es)
   pub table_is : (es : List PackedEntry) → table ≡ table_of_entries es → new_table ≡ table_of_entries (e ∷ es)
+
+-- where the cell is that of some entries, it becomes that of this entry before them
+abbrev pub IsPutInCell : PackedEntry → Cell → Cell → Type 0
+IsPutInCell e cell new_cell = (es : List PackedEntry) → cell ≡ cell_of_entries es → new_cell ≡ cell_of_entries (e ∷ es)

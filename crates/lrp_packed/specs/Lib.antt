@@ -1,3 +1,5 @@
--- Packed zones and packed stores.
+-- Packed zones and packed stores, and their first tuples.
 pub mod Entries
 pub mod Packed
+pub mod Leading
+pub mod Orders

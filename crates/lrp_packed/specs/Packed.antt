@@ -1,5 +1,5 @@
 -- Stores as lists of zones, each with its cell.
-use Rattle.std.specs.Prelude.{◌≡◌, ℕ, ℤ, ◌≤◌, List, [], ◌∷◌, take, Option, IsSome, Contains}
+use Rattle.std.specs.Prelude.{◌≡◌, ℕ, ℤ, ◌≤◌, List, [], ◌∷◌, take, Option, IsSome, Contains, option_map}
 use Rattle.std.specs.FinMap as finite
 use Rattle.lrp_model.specs.declared.tuples.Shape.{Shape}
 use Rattle.lrp_model.specs.declared.tuples.Cell.{Cell}
@@ -8,7 +8,9 @@ use Rattle.lrp_slots.specs.Lists.{cell_cmp, list_at}
 use Rattle.lrp_store.specs.Stores.{InStore, IsCellOf, StoreView, tables_at}
 use Rattle.lrp_tables.specs.Pieces.{FitsCell, IsPieceOf}
 use Rattle.lrp_tables.specs.declared.pieces.Piece.{Piece}
+use Rattle.std.specs.List.{AllByRecursion}
 use Rattle.lrp_packed.specs.Entries.{CellZone}
+use Rattle.lrp_packed.specs.Leading.{IsFirstSpot, spot_in}
 
 -- the zone has tuples of the shape in cells of the period
 pub record CanBeUnpacked (shape : Shape) (period : ℕ) (z : CellZone) : Type 0 where
@@ -39,3 +41,8 @@ pub record HasSame (old new : StoreView) : Type 0 where
   pub cells : (cell : Cell) → IsSome (finite.get new.tables cell) → IsSome (finite.get old.tables cell)
   pub zones : (cell : Cell) (table : List (Option ℤ)) → Contains (tables_at new cell) table → Contains (tables_at old cell) table
   pub tuples : (times : List ℤ) (texts : List ℕ) → InStore old times texts → InStore new times texts
+
+-- the zones can be unpacked, and the first spot is packed beside them
+pub record ArePackedWith (shape : Shape) (period : ℕ) (zs : List CellZone) (first : Option CellZone) : Type 0 where
+  pub zones : AllByRecursion (CanBeUnpacked shape period) zs
+  pub first_is : IsFirstSpot (store_of shape period zs) (option_map spot_in first)

@@ -1,7 +1,9 @@
 //! Stores that are kept in large numbers: their tuples in as few bytes as their zones need.
 #![tactic(auto)]
 
+mod order;
 mod stores;
 mod zones;
 
+pub use order::is_not_later;
 pub use stores::{PackedPieces, PackedStore};

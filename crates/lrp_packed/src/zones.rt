@@ -1,18 +1,20 @@
 // Zones in as few bytes as they need.
 ghost use Rattle.std.specs.Prelude.{◌≡◌, ◌<◌, ◌≤◌, IfOk, IfSome};
 ghost use Rattle.std.specs.List.{AllByRecursion};
-ghost use Rattle.lrp_packed.specs.Entries.{ArePacked, IsEntryAt, IsEntryPut, IsFullSize, IsProper, cell_of_entries, residue_in, table_of_entries, text_in};
+ghost use Rattle.lrp_packed.specs.Entries.{ArePacked, IsEntryAt, IsEntryPut, IsFullSize, IsProper, IsPutInCell, cell_of_entries, residue_in, table_of_entries, text_in};
 ghost use Rattle.lrp_packed.specs.Packed.{CanBeUnpacked, unpacked};
 
 use lrp_model::{Cell, Memory, Shape};
 use lrp_tables::Piece;
 use lrp_zone::{BoundTable, Zone};
+use smallvec::SmallVec;
 use std::alloc::Global;
+use std::default::MadeWith;
 use std::marker::Model;
 
 /// What stands at a place of a zone: a text at the places from 0, a residue from 8, and a stored bound from 16 on, in the
 /// order of the table.
-#[derive(Clone, Copy)]
+#[derive(Clone, Copy, Default)]
 pub(crate) struct PackedEntry {
     pub(crate) place: u8,
     pub(crate) text: u32,
@@ -23,7 +25,7 @@ pub(crate) struct PackedEntry {
 /// stored bounds.
 #[derive(Drop)]
 pub(crate) struct PackedZone {
-    entries: Vec<PackedEntry>,
+    entries: SmallVec<PackedEntry, 1>,
 }
 
 impl Model for PackedZone {
@@ -37,14 +39,30 @@ impl Model for PackedZone {
     ghost invariant = { λ z. AllByRecursion IsProper z.entries.items };
 }
 
+// An array of packed zones is made with these.
+impl MadeWith<Global> for PackedZone {
+    fn made_with(alloc: Global) -> PackedZone {
+        PackedZone {
+            entries: SmallVec::new(alloc),
+        }
+    }
+}
+
 impl PackedZone {
     /// A zone with its cell.
-    pub(crate) fn of(alloc: Global, piece: &Piece) -> Result<PackedZone, Memory>
-        requires { IsFullSize piece.now.cell piece.now.zone.bounds }
-        ensures { IfOk result (λ made. made ≡ (piece.now.cell, piece.now.zone.bounds)) }
+    pub(crate) fn of(alloc: Global, cell: &Cell, bounds: &BoundTable) -> Result<PackedZone, Memory>
+        requires { IsFullSize cell.now bounds.now }
+        ensures { IfOk result (λ made. made ≡ (cell.now, bounds.now)) }
     {
-        let entries = entries_of(alloc, piece)?;
+        let entries = entries_of(alloc, cell, bounds)?;
         Ok(PackedZone { entries })
+    }
+
+    /// The cell alone.
+    pub(crate) fn cell(&self) -> Cell
+        ensures { result ≡ self.now.0 }
+    {
+        cell_of(self.entries.as_slice())
     }
 
     /// The zone and its cell, of this shape and period.
@@ -60,13 +78,17 @@ impl PackedZone {
 }
 
 // The entries of a zone, in as many places of a vector.
-fn entries_of(alloc: Global, piece: &Piece) -> Result<Vec<PackedEntry>, Memory>
-    requires { IsFullSize piece.now.cell piece.now.zone.bounds }
-    ensures { IfOk result (λ made. ArePacked piece.now.cell piece.now.zone.bounds made.items) }
+fn entries_of(
+    alloc: Global,
+    cell: &Cell,
+    bounds: &BoundTable,
+) -> Result<SmallVec<PackedEntry, 1>, Memory>
+    requires { IsFullSize cell.now bounds.now }
+    ensures { IfOk result (λ made. ArePacked cell.now bounds.now made.items) }
 {
-    let mut entries = Vec::new(alloc);
+    let mut entries = SmallVec::new(alloc);
     for place in 0..97 {
-        if let Some(entry) = entry_at(piece, place) {
+        if let Some(entry) = entry_at(cell, bounds, place) {
             entries.push(entry)?;
         }
     }
@@ -75,18 +97,18 @@ fn entries_of(alloc: Global, piece: &Piece) -> Result<Vec<PackedEntry>, Memory>
 }
 
 // The entry for a place of a zone, if there is one.
-fn entry_at(piece: &Piece, place: u8) -> Option<PackedEntry>
+fn entry_at(cell: &Cell, bounds: &BoundTable, place: u8) -> Option<PackedEntry>
     requires place { place < 97 }
-    requires size { IsFullSize piece.now.cell piece.now.zone.bounds }
-    ensures is { IsEntryAt piece.now.cell piece.now.zone.bounds place result }
+    requires size { IsFullSize cell.now bounds.now }
+    ensures is { IsEntryAt cell.now bounds.now place result }
     ensures proper { IfSome result IsProper }
 {
     if place < 8 {
-        text_entry(place, piece.cell.texts[usize::from(place)])
+        text_entry(place, cell.texts[usize::from(place)])
     } else if place < 16 {
-        residue_entry(place, piece.cell.residues[usize::from(place) - 8])
+        residue_entry(place, cell.residues[usize::from(place) - 8])
     } else {
-        bound_entry(piece, place)
+        bound_entry(cell, bounds, place)
     }
 }
 
@@ -120,18 +142,33 @@ fn residue_entry(place: u8, residue: i64) -> Option<PackedEntry>
     })
 }
 
-fn bound_entry(piece: &Piece, place: u8) -> Option<PackedEntry>
+fn bound_entry(cell: &Cell, bounds: &BoundTable, place: u8) -> Option<PackedEntry>
     requires low { 16 ≤ place }
     requires high { place < 97 }
-    ensures is { IsEntryAt piece.now.cell piece.now.zone.bounds place result }
+    ensures is { IsEntryAt cell.now bounds.now place result }
     ensures proper { IfSome result IsProper }
 {
-    let time = piece.zone.bounds().get(usize::from(place) - 16)?;
+    let time = bounds.get(usize::from(place) - 16)?;
     Some(PackedEntry {
         place,
         text: 0,
         time,
     })
+}
+
+// The cell that entries stand for.
+fn cell_of(entries: &[PackedEntry]) -> Cell
+    requires { AllByRecursion IsProper entries.now }
+    ensures { result ≡ cell_of_entries entries.now }
+{
+    let mut cell = Cell {
+        texts: [0; 8],
+        residues: [0; 8],
+    };
+    for turn in 0..entries.len() {
+        put_in_cell(entries[entries.len() - 1 - turn], &mut cell);
+    }
+    cell
 }
 
 // The cell and the table that entries stand for. The first one for a place is the last that is put there.
@@ -156,11 +193,22 @@ fn put(entry: PackedEntry, cell: &mut Cell, bounds: &mut BoundTable)
     ensures { IsEntryPut entry cell.old cell.new bounds.old bounds.new }
 {
     let place = usize::from(entry.place);
+    if place < 16 {
+        put_in_cell(entry, cell);
+    } else {
+        bounds.set(place - 16, Some(entry.time));
+    }
+}
+
+// A bound changes no cell.
+fn put_in_cell(entry: PackedEntry, cell: &mut Cell)
+    requires { IsProper entry }
+    ensures { IsPutInCell entry cell.old cell.new }
+{
+    let place = usize::from(entry.place);
     if place < 8 {
         cell.texts[place] = entry.text;
     } else if place < 16 {
         cell.residues[place - 8] = entry.time;
-    } else {
-        bounds.set(place - 16, Some(entry.time));
     }
 }

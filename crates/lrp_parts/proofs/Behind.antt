@@ -1,4 +1,4 @@
--- The variables and the tests of a disjunct's atoms, each atom behind the others.
+-- The variables and the tests of a disjunct's atoms, each atom after the others.
 use Rattle.std.proofs.Common.{◌≡◌, ◌≤◌, ◌<◌, ℕ, zero, suc, max, Bool, true, false, cond, List, [], ◌∷◌, ◌++◌, flat_map, Contains, Some, ◌⊎◌, inl, inr, refl, sym, ap, subst, ◌∙◌, bytes_eq, append_assoc, append-nil, arith}
 use Rattle.std.specs.Prelude.{◌||◌, filter, slice_get}
 use Rattle.std.specs.List.{list_all, list_any}
@@ -69,9 +69,9 @@ covered_more ts more xs further t e =
     let r = and_parts (list_all (λ v. list_any (bytes_eq v) ts) (times_of_test t)) (list_all (λ v. list_any (bytes_eq v) xs) (texts_of_test t)) e in
     and_from (list_all (λ v. list_any (bytes_eq v) (ts ++ more)) (times_of_test t)) (list_all (λ v. list_any (bytes_eq v) (xs ++ further)) (texts_of_test t)) (all_more ts more (times_of_test t) r.0) (all_more xs further (texts_of_test t) r.1)
 
--- ---- atoms behind variables
+-- ---- atoms after variables
 
--- an atom behind these variables has them, and the tests that they cover
+-- an atom after these variables has them, and the tests that they cover
 pub record IsAfter (tests : List Test) (ts xs : List Identifier) (b : JoinedAtom) : Type 0 where
   pub times : (more : List Identifier) × (b.vars.times ≡ ts ++ more)
   pub texts : (more : List Identifier) × (b.vars.texts ≡ xs ++ more)

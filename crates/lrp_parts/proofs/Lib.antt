@@ -18,4 +18,6 @@ pub mod Sketching
 pub mod LargeParts
 pub mod Answered
 pub mod Packing
+pub mod SmallAnswers
 pub mod Reading
+pub mod Firsts

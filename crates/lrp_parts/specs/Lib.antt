@@ -2,6 +2,7 @@
 pub mod Bound
 pub mod Heads
 pub mod Derivations
+pub mod Firsts
 -- What functions inside say to one another.
 pub mod Patterns
 pub mod Conjunctions

@@ -19,7 +19,7 @@ use Rattle.lrp_model.specs.Core.{HasElements}
 use Rattle.lrp_keep.specs.Keeps.{CanBeHeld, IsRelationOf, KeepView, scaled_reach_of}
 use Rattle.lrp_keep.specs.Replaced.{replaced, with_rows}
 use Rattle.lrp_watch.specs.Edits.{IsEditMade, IsMadeBy}
-use Rattle.lrp_watch.specs.Leasts.{CanBeMade, CanGoOn, IsLow}
+use Rattle.lrp_watch.specs.Leasts.{CanBeMade, CanGoOn}
 use Rattle.lrp_cutting.proofs.Lists.{in_map}
 
 -- ---- relations of which one has other rows
@@ -49,30 +49,6 @@ held_still db rows changed name r is = (
   columns_still rows changed r,
 )
 
-number_still : (db : List Relation) (rows : List Row) (changed : Identifier) (bounds : List ℕ) (name : Identifier) → number_beside (replaced db changed rows) bounds name ≡ number_beside db bounds name
-number_still [] rows changed bounds name = refl
-number_still (r ∷ rs) rows changed [] name = refl
-number_still (r ∷ rs) rows changed (b ∷ bs) name = ap₂ (λ (n : Identifier) (m : ℕ). cond (bytes_eq n name) b m) (name_still rows changed r) (number_still rs rows changed bs name)
-
--- ---- the reach is by the names alone
-
-same_images : {X Y : Type 0} (f g : X → Y) (xs : List X) → ((x : X) → f x ≡ g x) → map f xs ≡ map g xs
-same_images f g [] e = refl
-same_images f g (x ∷ xs) e = ap₂ (λ y ys. y ∷ ys) (e x) (same_images f g xs e)
-
-module _ (db other : List Relation) (bounds : List ℕ) (period : ℕ) (same : (name : Identifier) → number_beside other bounds name ≡ number_beside db bounds name) where
-  atom_same : (a : Atom) → atom_reach other bounds period a ≡ atom_reach db bounds period a
-  atom_same a = ap (λ n. n + 2 * greatest (flat_map term_magnitudes a.terms) + period) (same a.name)
-
-  disjunct_same : (f : Form) → disjunct_reach other bounds period f ≡ disjunct_reach db bounds period f
-  disjunct_same f = ap (λ xs. greatest (xs ++ map test_reach (disjunct_tests f))) (same_images (atom_reach other bounds period) (atom_reach db bounds period) (atoms f) atom_same)
-
-  scaled_same : (q : Question) → scaled_kept_reach other bounds period q ≡ scaled_kept_reach db bounds period q
-  scaled_same q =
-      let steps = most_of (λ f. length (atoms f)) q + most_of (λ f. length (disjunct_tests f)) q in
-      ap (λ xs. 2 ^ (time_count q.head + 1) * ((greatest xs + steps * period) * 2 ^ most_of time_quantifiers q))
-      (same_images (disjunct_reach other bounds period) (disjunct_reach db bounds period) (listed_disjuncts q) disjunct_same)
-
 -- ---- what is kept
 
 -- the same query and the same constants, and relations of the same names and columns
@@ -98,24 +74,8 @@ kin_by false name row old new (inl is) =
     subst (IsKin old) (sym is.is) (record { query = refl; domain = refl; held = held_still old.relations is.rows name })
 kin_by false name row old new (inr is) = subst (IsKin old) (sym is.1) (kin_self old)
 
-low_by : (add : Bool) (name : Identifier) (row : Row) (old new : KeepView) → IsMadeBy add name row old new → scaled_reach_of old ≤ 2 ^ 62 → scaled_reach_of new ≤ 2 ^ 62
-low_by true name row old new is low = is.1.reach
-low_by false name row old new (inl is) low =
-    subst (λ (k : KeepView). scaled_reach_of k ≤ 2 ^ 62) (sym is.is)
-    (subst (λ n. n ≤ 2 ^ 62) (sym (scaled_same old.relations (replaced old.relations name is.rows) old.bounds old.period (number_still old.relations is.rows name old.bounds) (question_of old.query))) low)
-low_by false name row old new (inr is) low = subst (λ (k : KeepView). scaled_reach_of k ≤ 2 ^ 62) (sym is.1) low
-
 pub kin_of : (e : Edit) (old new : KeepView) → IsEditMade e old new → IsKin old new
 kin_of e old new is = kin_by e.add e.relation e.row old new is
-
-pub low_still : (e : Edit) (old new : KeepView) → IsEditMade e old new → IsLow old → IsLow new
-low_still e old new is low =
-    let kin = kin_of e old new is in
-    record {
-      kept = subst (λ query. is_kept (question_of query) ≡ true) (sym kin.query) low.kept;
-      elements = subst (λ query. HasElements (question_of query).body) (sym kin.query) low.elements;
-      reach = low_by e.add e.relation e.row old new is low.reach;
-    }
 
 can_still : (old new : KeepView) (e : Edit) → IsKin old new → CanBeMade old e → CanBeMade new e
 can_still old new e kin can =
@@ -131,4 +91,4 @@ all_still old new [] kin h = tt
 all_still old new (e ∷ es) kin h = (can_still old new e kin h.0, all_still old new es kin h.1)
 
 pub goes_on : (e : Edit) (old new : KeepView) (es : List Edit) → IsEditMade e old new → CanGoOn old es → CanGoOn new es
-goes_on e old new es is on = record { low = low_still e old new is on.low; can = all_still old new es (kin_of e old new is) on.can }
+goes_on e old new es is on = record { can = all_still old new es (kin_of e old new is) on.can }

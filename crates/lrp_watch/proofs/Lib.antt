@@ -1,6 +1,5 @@
 -- Lemmas on least answers, on what is kept while edits are made, and on constants.
 mod NoAnswers
-mod Reaches
 mod Known
 mod Constants
 mod Openings

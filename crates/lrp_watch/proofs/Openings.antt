@@ -134,12 +134,10 @@ module _ (query : Query) (db : List Relation) (domain : List Text) (cap : ℕ) w
       (record { relation = h.0.relation; is = named_in db e.relation h.0.relation h.0.named; row_fits = row_held domain h.0.relation.columns e.row h.0.row two.0 }, edits_can es h.1 two.1)
 
 -- the edits can be made of what is kept at first
-pub can_go_on : AreSameInOrder → (query : Query) (db : List Relation) (edits : List Edit) (cap : ℕ) → CanBeWatched db (question_of query) edits → StaysWithinLimits (opened query db (watched_constants db (question_of query) edits) cap)
-    → CanGoOn (opened query db (watched_constants db (question_of query) edits) cap) edits
-can_go_on same query db edits cap can within =
+pub can_go_on : AreSameInOrder → (query : Query) (db : List Relation) (edits : List Edit) (cap : ℕ) → CanBeWatched db (question_of query) edits → CanGoOn (opened query db (watched_constants db (question_of query) edits) cap) edits
+can_go_on same query db edits cap can =
     let q = question_of query in
     let domain = watched_constants db q edits in
     record {
-      low = record { kept = can.kept; elements = can.query.elements; reach = within.reach };
       can = edits_can query db domain cap edits can.lawful (parts (Contains domain) (map (λ entry. entry.1) (all_texts db q)) (flat_map row_texts_of edits) (all_known same db q edits)).1;
     }

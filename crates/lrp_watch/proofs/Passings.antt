@@ -88,7 +88,7 @@ fault_as P Q f (BoundLimit edit) h = f edit _ h
 fault_as P Q f (TooManyCells edit) h = f edit _ h
 fault_as P Q f Memory h = tt
 
--- the edit behind those that were made is refused
+-- the edit after those that were made is refused
 pub passed_at : (count : ℕ) (edits : List Edit) (old now : KeepView) (e : Edit) (spots : List (Option Spot)) (number : ℕ) (fault : KeepFault) → count < length edits → e ≡ get_or edits count e → AreDoneUpTo count edits old now spots
     → number ≡ count + 1 → IsRefusedEdit e now fault → IsPassedBehind edits old number fault
 passed_at count edits old now e spots number fault l at h n refused =

@@ -37,7 +37,8 @@ use Rattle.lrp_plan_laws.specs.Settled.{HasSortedTexts, IsSettled, IsSoundPlan}
 use Rattle.lrp_store.specs.Least.{IsLeastSpot}
 use Rattle.lrp_store.specs.Tables.{InAnswer}
 use Rattle.lrp_watch.specs.Decided.{CanBeDecided, IsRenumbered}
-use Rattle.lrp_watch.specs.Leasts.{IsLeastOver, shape_for}
+use Rattle.lrp_keep.specs.Keeps.{shape_for}
+use Rattle.lrp_watch.specs.Leasts.{IsLeastOver}
 use Rattle.lrp_watch.proofs.Known.{StandsForTuples, shape_is}
 
 -- ---- databases have texts in data columns

@@ -15,12 +15,12 @@ use Rattle.lrp_tables.specs.Columns.{head_texts, head_times}
 use Rattle.lrp_answers.specs.Spots.{spot_tuple}
 use Rattle.lrp_edits.specs.declared.edits.Edit.{Edit}
 use Rattle.lrp_kept.proofs.SortedDisjuncts.{few_head_texts, few_head_times}
-use Rattle.lrp_keep.specs.Keeps.{KeepView, opened, IsPastLimit, StaysWithinLimits}
+use Rattle.lrp_keep.specs.Keeps.{KeepView, opened, IsPastLimit, StaysWithinLimits, shape_for}
 use Rattle.lrp_keep.specs.declared.faults.KeepFault.{KeepFault}
 use Rattle.lrp_watch.specs.Edits.{IsPassedAt, IsPassedBehind}
 use Rattle.lrp_watch.specs.Faults.{IsFaultAt}
 use Rattle.lrp_outputs.specs.First.{IsFirst, first_line}
-use Rattle.lrp_watch.specs.Leasts.{AreDone, CanGoOn, HasFewColumns, IsLeastOver, IsOverHead, shape_for}
+use Rattle.lrp_watch.specs.Leasts.{AreDone, CanGoOn, HasFewColumns, IsLeastOver, IsOverHead}
 use Rattle.lrp_outputs.specs.Spots.{IsKnownLeast, answer_tuple}
 use Rattle.lrp_watch.specs.Watching.{CanBeWatched, IsOpened, IsPassed, TellsLeasts, watched_constants}
 use Rattle.lrp_watch.proofs.Known.{shape_is}
@@ -78,10 +78,10 @@ module _ (query : Query) (db : List Relation) (edits : List Edit) (cap : ℕ) (d
   within : StaysWithinLimits (opened query db domain cap) → StaysWithinLimits k
   within h = subst StaysWithinLimits (sym is) h
 
-  pub goes : AreSameInOrder → CanBeWatched db (question_of query) edits → StaysWithinLimits (opened query db domain cap) → CanGoOn k edits
-  goes same can h =
+  pub goes : AreSameInOrder → CanBeWatched db (question_of query) edits → CanGoOn k edits
+  goes same can =
       subst (λ (l : KeepView). CanGoOn l edits) (sym is) (subst (λ d. CanGoOn (opened query db d cap) edits) (sym named)
-      (can_go_on same query db edits cap can (subst (λ d. StaysWithinLimits (opened query db d cap)) named h)))
+      (can_go_on same query db edits cap can))
 
   same_query : question_of k.query ≡ question_of query
   same_query = opened_is.query

@@ -1,4 +1,4 @@
--- Rows of which one is taken out, by its place, and a spot that is told behind others.
+-- Rows of which one is taken out, by its place, and a spot that is told after others.
 use Rattle.std.specs.Prelude.{◌≡◌, ◌+◌, ℕ, List, [], ◌∷◌, ◌++◌, take, drop, All, Option, Some, slice_get}
 use Rattle.lrp_model.specs.Formulas.{Question}
 use Rattle.lrp_model.specs.Texts.{Text}
@@ -15,11 +15,11 @@ pub record IsFirstEqualAt (row : Row) (rows : List Row) (place : ℕ) : Type 0 w
   pub equal : AreEqualRows held row
   pub first : All (λ other. AreEqualRows other row → ⊥) (take place rows)
 
--- the rows before the place and behind it
+-- the rows before the place and after it
 abbrev pub IsWithoutPlace : ℕ → List Row → List Row → Type 0
 IsWithoutPlace place old new = new ≡ take place old ++ drop (place + 1) old
 
--- behind the spots stands one for the query's least answer over the relations
+-- after the spots stands one for the query's least answer over the relations
 pub record IsToldOver (q : Question) (domain : List Text) (db : List Relation) (old new : List (Option Spot)) : Type 0 where
   pub least : Option Spot
   pub is : IsLeastOver q domain db least

@@ -15,15 +15,11 @@ use Rattle.lrp_tables.specs.Columns.{head_texts, head_times}
 use Rattle.lrp_answers.specs.Spots.{spot_tuple}
 use Rattle.lrp_edits.specs.declared.edits.Edit.{Edit}
 use Rattle.lrp_kept.specs.KeptForm.{is_kept}
-use Rattle.lrp_keep.specs.Keeps.{CanBeAdded, KeepView, scaled_reach_of}
+use Rattle.lrp_keep.specs.Keeps.{CanBeAdded, KeepView, scaled_reach_of, shape_for}
 use Rattle.lrp_watch.specs.Edits.{AreMade, last_kept}
 use Rattle.lrp_outputs.specs.First.{IsFirst}
 
 -- ---- spots of the answers of one query
-
--- how many time columns a head has, and how many others
-abbrev pub shape_for : List Column → Shape
-shape_for columns = record { times = time_count columns; texts = length columns - time_count columns }
 
 -- a head has at most eight time columns, and at most eight others
 pub record HasFewColumns (columns : List Column) : Type 0 where
@@ -42,19 +38,12 @@ pub record IsLeastOver (q : Question) (domain : List Text) (db : List Relation) 
 
 -- ---- what goes on being so
 
--- the query is in kept form, and the scaled reach is not above 2^62
-pub record IsLow (k : KeepView) : Type 0 where
-  pub kept : is_kept (question_of k.query) ≡ true
-  pub elements : HasElements (question_of k.query).body
-  pub reach : scaled_reach_of k ≤ 2 ^ 62
-
 -- the row of an edit can be held in its relation
 abbrev pub CanBeMade : KeepView → Edit → Type 0
 CanBeMade k e = CanBeAdded k e.relation e.row
 
--- least answers can be found, and the edits can be made
+-- each of the edits can be made
 pub record CanGoOn (k : KeepView) (edits : List Edit) : Type 0 where
-  pub low : IsLow k
   pub can : AllByRecursion (CanBeMade k) edits
 
 -- the edits are made of what was kept, and so it is as it is now; the spots are the least answers before them and after each
@@ -64,7 +53,7 @@ pub record AreDone (edits : List Edit) (old now : KeepView) (spots : List (Optio
   pub now_is : now ≡ last_kept old later
   pub leasts : AllZip (λ k least. IsLeastOver (question_of old.query) old.domain k.relations least) (old ∷ later) spots
 
--- behind the spots stands one for the least answer over what is kept now
+-- after the spots stands one for the least answer over what is kept now
 pub record IsTold (k : KeepView) (old new : List (Option Spot)) : Type 0 where
   pub least : Option Spot
   pub is : IsLeastOver (question_of k.query) k.domain k.relations least

@@ -97,7 +97,7 @@ impl<'a> Renewed<'a> {
         Ok(spots)
     }
 
-    // The least answer over a database, behind those before it.
+    // The least answer over a database, after those before it.
     fn tell(
         &self,
         database: &Database,
@@ -118,7 +118,7 @@ impl<'a> Renewed<'a> {
         Ok(())
     }
 
-    // The least answer over a database, behind the edit of this number.
+    // The least answer over a database, after the edit of this number.
     fn least(&self, database: &Database, edit: u64) -> Result<Option<Spot>, WatchFault>
         requires { CanBeDecided database.now (question_of self.now.query.now) }
         ensures least { IfOk result (IsLeastOver (question_of self.now.query.now)
@@ -140,7 +140,7 @@ impl<'a> Renewed<'a> {
         }
     }
 
-    // All answers over a database, behind the edit of this number.
+    // All answers over a database, after the edit of this number.
     fn answer(&self, database: &Database, edit: u64) -> Result<Answer, WatchFault>
         requires { CanBeDecided database.now (question_of self.now.query.now) }
         ensures answer { IfOk result (IsAnswerOf (steps_by self.now.anew.planning database.now
@@ -164,7 +164,7 @@ impl<'a> Renewed<'a> {
         }
     }
 
-    // The plan over a database, behind the edit of this number.
+    // The plan over a database, after the edit of this number.
     fn plan(&self, database: &Database, edit: u64) -> Result<Plan, WatchFault>
         requires { CanBeDecided database.now (question_of self.now.query.now) }
         ensures plan { IfOk result (IsPlanOf (steps_by self.now.anew.planning database.now

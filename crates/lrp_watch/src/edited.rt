@@ -38,7 +38,7 @@ pub(crate) fn edited(alloc: Global, database: &Database, edit: &Edit) -> Result<
     }
 }
 
-// The rows, and one more behind them.
+// The rows, and one more after them.
 fn with_row(alloc: Global, rows: &[Row], row: &Row) -> Result<Vec<Row>, Memory>
     ensures { IfOk result (λ made. made.items ≡ rows.now ++ row.now ∷ []) }
 {
@@ -48,7 +48,7 @@ fn with_row(alloc: Global, rows: &[Row], row: &Row) -> Result<Vec<Row>, Memory>
     Ok(all)
 }
 
-// Puts the same rows behind others.
+// Puts the same rows after others.
 fn add_rows(alloc: Global, all: &mut Vec<Row>, rows: &[Row]) -> Result<(), Memory>
     ensures { OnOk result (all.new.items ≡ all.old.items ++ rows.now) }
 {
@@ -155,7 +155,7 @@ fn has_few_values(relations: &[Relation]) -> bool
     true
 }
 
-// How many values are left of so many behind those of a relation's rows; `None` where these are more.
+// How many values are left of so many after those of a relation's rows; `None` where these are more.
 fn left_after(relation: &Relation, values: usize) -> Option<usize>
     ensures { IfSome result (λ left.
         length (flat_map (λ row. row_texts relation.now.columns row.values) relation.now.rows)

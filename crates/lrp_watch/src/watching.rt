@@ -4,7 +4,7 @@ ghost use Rattle.lrp_model.specs.Formulas.{question_of};
 ghost use Rattle.lrp_keep.specs.Keeps.{CanBeKept, opened as opened_by, IsPastLimit, StaysWithinLimits};
 ghost use Rattle.lrp_watch.specs.Edits.{IsEditMade, IsPassedBehind, IsRefusedEdit};
 ghost use Rattle.lrp_watch.specs.Faults.{IsFaultAt, IsFaultBy};
-ghost use Rattle.lrp_watch.specs.Leasts.{AreDone, CanBeMade, CanGoOn, HasFewColumns, IsLeastOver, IsLow, IsOverHead, IsTold};
+ghost use Rattle.lrp_watch.specs.Leasts.{AreDone, CanBeMade, CanGoOn, HasFewColumns, IsLeastOver, IsOverHead, IsTold};
 ghost use Rattle.lrp_outputs.specs.Outputs.{leasts_text};
 ghost use Rattle.lrp_watch.specs.Watching.{CanBeWatched, IsPassed, TellsLeasts};
 
@@ -16,7 +16,7 @@ use lrp_database::Database;
 use lrp_edits::Edit;
 use lrp_keep::{Keep, KeepFault};
 use lrp_model::{Copies, Domain, List, Memory, Query, Spot, texts_in_order};
-use lrp_outputs::{Leasts, small_answers_have_room, spots_stand_for_tuples};
+use lrp_outputs::{Leasts, spots_stand_for_tuples};
 use std::alloc::Global;
 
 /// The least answers of a query over a database as it is read, and after each of some edits.
@@ -117,23 +117,17 @@ fn make(keep: &mut Keep<'_>, edit: &Edit, number: u64) -> Result<(), WatchFault>
     }
 }
 
-// The least answer over the rows that are held, behind those before it.
+// The least answer over the rows that are held, after those before it.
 fn tell(keep: &Keep<'_>, spots: &mut List<Option<Spot>>) -> Result<(), Memory>
-    requires { IsLow keep.now }
     ensures { OnOk result (IsTold keep.now spots.old spots.new) }
 {
-    let least = least_of(keep)?;
-    spots.push(least)
+    spots.push(least_of(keep))
 }
 
 // The least answer over the rows that are held.
-fn least_of(keep: &Keep<'_>) -> Result<Option<Spot>, Memory>
-    requires { IsLow keep.now }
-    ensures { IfOk result (IsLeastOver (question_of keep.now.query) keep.now.domain
-        keep.now.relations) }
+fn least_of(keep: &Keep<'_>) -> Option<Spot>
+    ensures { IsLeastOver (question_of keep.now.query) keep.now.domain keep.now.relations result }
 {
-    let answer = keep.answer()?;
-    small_answers_have_room();
     spots_stand_for_tuples();
-    Ok(answer.least())
+    keep.least()
 }

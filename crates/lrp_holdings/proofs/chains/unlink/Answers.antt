@@ -1,5 +1,5 @@
 use Rattle.std.proofs.Common.{refl}
-use Rattle.lrp_holdings.specs.Chains.{with_before, with_next}
+use Rattle.lrp_holdings.specs.Chains.{with_next}
 use Rattle.lrp_holdings.proofs.Relinked.{before_stands, if_changed_stands, next_stands, number_below, relinked_twice, taken}
 use Rattle.lrp_holdings.proofs.chains.unlink.Goals as goal
 

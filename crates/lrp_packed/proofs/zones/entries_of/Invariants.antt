@@ -3,4 +3,4 @@ use Rattle.lrp_packed.proofs.zones.entries_of.Given as goal
 
 -- the entries are those of the places so far
 abbrev pub invariant-loop-place : goal.invariant-loop-place
-invariant-loop-place l = AreFirst l.piece.cell l.piece.zone.bounds l.place l.entries.items
+invariant-loop-place l = AreFirst l.cell l.bounds l.place l.entries.items

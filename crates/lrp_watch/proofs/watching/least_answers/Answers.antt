@@ -18,7 +18,7 @@ opened-requires c =
 
 pub spots_of-requires : goal.spots_of-requires
 spots_of-requires c =
-    goes c.args.query.now c.args.database.now c.args.edits.now c.args.cap c.in_ok-domain.domain c.in_ok-keep.keep c.in_ok-domain.ensures c.in_ok-keep.ensures.view c.texts_in_order.ensures.same c.requires c.in_ok-keep.ensures.limits
+    goes c.args.query.now c.args.database.now c.args.edits.now c.args.cap c.in_ok-domain.domain c.in_ok-keep.keep c.in_ok-domain.ensures c.in_ok-keep.ensures.view c.texts_in_order.ensures.same c.requires
 
 pub no_answers-requires : goal.no_answers-requires
 no_answers-requires c =

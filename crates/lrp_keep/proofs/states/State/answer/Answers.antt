@@ -17,7 +17,8 @@ use Rattle.lrp_keep.specs.States.{levels_of}
 use Rattle.lrp_keep.specs.Taken.{HasTakenSome}
 use Rattle.lrp_keep.proofs.Answering.{all_hold, all_reach, alike, none_yet, passed_period, word_period}
 use Rattle.lrp_keep.proofs.Numbered.{all_numbered}
-use Rattle.lrp_keep.proofs.Taken.{HoldsAmong, one_among}
+use Rattle.lrp_keep.specs.Unions.{HoldsAmong}
+use Rattle.lrp_keep.proofs.Taken.{one_among}
 use Rattle.lrp_keep.proofs.states.State.answer.Goals as goal
 use Rattle.lrp_model.proofs.Everywhere.{map_count}
 use Rattle.lrp_algebra.proofs.Steps.{mapped_get}

@@ -1,6 +1,6 @@
 use Rattle.lrp_keep.specs.States.{levels_of}
 use Rattle.lrp_keep.specs.Taken.{HasTakenSome}
-use Rattle.lrp_keep.proofs.Taken.{HoldsAmong}
+use Rattle.lrp_keep.specs.Unions.{HoldsAmong}
 use Rattle.lrp_keep.proofs.states.State.answer.Given as goal
 
 -- the answers of the disjuncts so far

@@ -1,6 +1,6 @@
 use Rattle.lrp_packed.proofs.Unpacked.{IsPacking}
 use Rattle.lrp_packed.proofs.stores.PackedStore.of.Given as goal
 
--- the zones behind are packed
+-- the zones after are packed
 abbrev pub invariant-loop-piece : goal.invariant-loop-piece
 invariant-loop-piece l = IsPacking l.store l.piece-iterator l.zones.items

@@ -1,4 +1,4 @@
--- Each edit is made, and the least answer told behind it.
+-- Each edit is made, and the least answer told after it.
 use Rattle.std.proofs.Common.{◌+◌, sym, subst}
 use Rattle.std.proofs.lemmas.Result.{err_from_is_err_and}
 use Rattle.lrp_model.specs.Formulas.{question_of}
