@@ -44,7 +44,7 @@ headed_run planned db q cap p tables front t kind period h next s run same =
     last_run planned db q cap p (tables ++ t ∷ []) tables t h (omega (arith, steps, some, of, more)) (omega (arith, steps, some, of, more)) (more_run planned db q cap tables (tables ++ t ∷ []) t refl run r) refl
 
 -- ---- the names of a head's columns
--- what is left of a list behind its first element
+-- what is left of a list after its first element
 rest_is : {A : Type 0} (x : A) (xs : List A) → take (length (x ∷ xs) - 1) xs ≡ xs
 rest_is x xs = take_all (length (x ∷ xs) - 1) xs (omega arith)
 

@@ -30,3 +30,7 @@ pub mod ComplementCounts
 pub mod ComplementJoins
 pub mod TogetherLaws
 pub mod ProjectionLaws
+pub mod GroupLaws
+pub mod GroupSteps
+pub mod PartLaws
+pub mod PartSteps

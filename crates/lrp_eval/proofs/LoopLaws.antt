@@ -52,7 +52,7 @@ zip_back (x ∷ xs) [] i y h e = cc
 zip_back (x ∷ xs) (z ∷ zs) zero y h e = (x, refl, subst (IsStep x) (let s : Some z ≡ Some y = e in cc) h.0)
 zip_back (x ∷ xs) (z ∷ zs) (suc i) y h e = zip_back xs zs i y h.1 e
 
-at_push : {X : Type 0} (xs : List X) (x y : X) (i : ℕ) → slice_get (xs ++ x ∷ []) i ≡ Some y → (slice_get xs i ≡ Some y) ⊎ ((i ≡ length xs) × (x ≡ y))
+pub at_push : {X : Type 0} (xs : List X) (x y : X) (i : ℕ) → slice_get (xs ++ x ∷ []) i ≡ Some y → (slice_get xs i ≡ Some y) ⊎ ((i ≡ length xs) × (x ≡ y))
 at_push [] x y zero e = inr (refl, cc)
 at_push [] x y (suc i) e = cc
 at_push (z ∷ zs) x y zero e = inl e
@@ -114,7 +114,7 @@ module _ (planned : Steps) (db : List Relation) (q : Question) (cap : ℕ) where
     few = λ s le m. let zero_is : s ≡ 0 = (let z : length tables ≡ 0 = ap length none in omega arith) in subst (ManyAt planned db q cap) zero_is m;
   }
 
-  -- a step that is done is read by none behind
+  -- a step that is done is read by none after
   pub not_behind : (p : Plan) (readers : List ℕ) (count i : ℕ) → IsPlanOf planned db q p → AreLastReaders p.steps readers → IsDone readers count i → IsReadBehind planned count (suc i) → ⊥
   not_behind p readers count i h noted d behind = by behind.number refl
     where
@@ -141,7 +141,7 @@ module _ (planned : Steps) (db : List Relation) (q : Question) (cap : ℕ) where
   few_below : (tables : List Table) → AreRun planned db q cap tables → (t : ℕ) → t < suc (length tables) → ManyAt planned db q cap t → ⊥
   few_below tables run t lt m = run.few t (omega arith) m
 
-  -- a step that has too many cells behind steps that have not is the first one
+  -- a step that has too many cells after steps that have not is the first one
   pub first_many : (tables : List Table) → AreRun planned db q cap tables → ManyAt planned db q cap (suc (length tables)) → IsFirstMany planned db q cap (suc (length tables))
   first_many tables run m = record { is = m; first = few_below tables run }
 
@@ -256,7 +256,7 @@ module _ (planned : Steps) (db : List Relation) (q : Question) (cap : ℕ) where
     pub projection_together : (made : Table) → IsProjectionRun planned db q cap tables r made → AreRunTogether planned db q cap readers tables (length r.names) made
     projection_together made x = record { run = x.run; few = x.few; done = is.done }
 
-  -- the tables behind them
+  -- the tables after them
   pub together_run : (p : Plan) (readers : List ℕ) (tables more : List Table) (made : Table) (between : ℕ) → length more ≡ between → IsPlanOf planned db q p → AreLastReaders p.steps readers → AreRun planned db q cap tables → AreRunTogether planned db q cap readers tables between made
       → AreRun planned db q cap ((tables ++ more) ++ made ∷ [])
   together_run p readers tables more made between size h noted run t =

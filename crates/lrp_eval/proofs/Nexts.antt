@@ -25,7 +25,7 @@ use Rattle.lrp_tables.specs.declared.table.Table.{Table}
 use Rattle.lrp_tables.specs.Caps.{Inhabits, InhabitsMoreThan}
 use Rattle.lrp_tables.specs.Steps.{IsStepResult}
 use Rattle.lrp_tables.specs.Tables.{Has, IsTableOf, named_variables}
-use Rattle.lrp_plan_laws.specs.Made.{IsMade, IsFormula, HasVariables, operands, head_step}
+use Rattle.lrp_plan_laws.specs.Made.{IsMade, IsStepFormula, HasVariables, operands, head_step}
 use Rattle.lrp_plan_laws.specs.Rising.{IsRising, KeepsPeriod, period_at}
 use Rattle.lrp_plan_laws.specs.Scopes.{IsNarrow}
 use Rattle.lrp_plan_laws.specs.Settled.{IsSoundPlan, IsSoundStep}
@@ -46,7 +46,7 @@ some_power : (m : ℕ) → 1 ≤ 2 ^ m
 some_power zero = omega arith
 some_power (suc m) = let r : 1 ≤ 2 ^ m = some_power m in let e : 2 ^ suc m ≡ 2 * 2 ^ m = pow-succ' 2 m in omega arith
 
-half_reach : (m r : ℕ) → 2 ^ (m + 1) * r ≤ 2 ^ 62 → r ≤ 2 ^ 61
+pub half_reach : (m r : ℕ) → 2 ^ (m + 1) * r ≤ 2 ^ 62 → r ≤ 2 ^ 61
 half_reach m r h =
     let e : 2 ^ (m + 1) ≡ 2 * 2 ^ m = ap (λ i. 2 ^ i) (add-one m) ∙ pow-succ' 2 m in
     let b : (2 * 2 ^ m) * r ≤ 2 ^ 62 = subst (λ x. x * r ≤ 2 ^ 62) e h in
@@ -88,8 +88,8 @@ module _ {planned : Steps} {db : List Relation} {q : Question} {cap : ℕ} {doma
   pub of_kind : (p : StepKind → Type 0) → p n.step.kind → p kind
   of_kind p h = subst p (sym n.kind_is) h
 
-  pub formula_kind : IsFormula (structure db q) (head_step planned db q) (formula_at planned) kind n.step.formula
-  formula_kind = of_kind (λ k. IsFormula (structure db q) (head_step planned db q) (formula_at planned) k n.step.formula) made.formula
+  pub formula_kind : IsStepFormula (structure db q) (head_step planned db q) (formula_at planned) kind n.step.formula
+  formula_kind = of_kind (λ k. IsStepFormula (structure db q) (head_step planned db q) (formula_at planned) k n.step.formula) made.formula
 
   pub variables_kind : HasVariables (formula_at planned) kind
   variables_kind = of_kind (λ k. HasVariables (formula_at planned) k) made.variables

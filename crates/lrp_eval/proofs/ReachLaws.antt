@@ -10,7 +10,7 @@ use Rattle.lrp_model.proofs.Decided.{cons_cases, contains_none}
 use Rattle.lrp_zone.specs.Zones.{ZoneView, magnitude_of, greatest_of, reach_of}
 use Rattle.lrp_store.specs.Stores.{StoreView, HasReach, tables_at, zone_of, zones_at}
 use Rattle.lrp_cutting.proofs.Lists.{below_or, in_map}
-use Rattle.lrp_eval.specs.Together.{HasReachIn}
+use Rattle.lrp_periods.specs.Bounding.{HasReachIn}
 use Rattle.lrp_store.proofs.ZoneCounts.{key_is}
 
 -- ---- one zone

@@ -129,7 +129,7 @@ module _ {planned : Steps} {db : List Relation} {q : Question} {cap : ℕ} {doma
       reach = (let s = step_small n in subst (λ r. r ≤ 2 ^ 62) reach_is (omega arith));
     }
 
-    denotes : Denotes (constants db q) (structure db q) (named_variables (scan_times terms) (scan_texts terms)) (IsScanned domain relation terms) n.step.formula
+    pub denotes : Denotes (constants db q) (structure db q) (named_variables (scan_times terms) (scan_texts terms)) (IsScanned domain relation terms) n.step.formula
     denotes =
         subst (Denotes (constants db q) (structure db q) (named_variables (scan_times terms) (scan_texts terms)) (IsScanned domain relation terms)) (sym (formula_kind n))
         (subst (λ d. Denotes (constants db q) (structure db q) (named_variables (scan_times terms) (scan_texts terms)) (IsScanned d relation terms) (atom name terms)) (sym n.domain_is)

@@ -22,7 +22,7 @@ use Rattle.lrp_tables.specs.Caps.{Inhabits, InhabitsMoreThan}
 use Rattle.lrp_tables.specs.Tables.{Has, IsTableOf, named_variables}
 use Rattle.lrp_tables.proofs.DropCounts.{drop_time_counts}
 use Rattle.lrp_tables.proofs.TableLaws.{decided_table}
-use Rattle.lrp_plan_laws.specs.Made.{AreAmong, IsFormula, HasVariables, head_step}
+use Rattle.lrp_plan_laws.specs.Made.{AreAmong, IsStepFormula, HasVariables, head_step}
 use Rattle.lrp_plan_laws.specs.Rising.{KeepsPeriod, period_at}
 use Rattle.lrp_plan_laws.specs.Settled.{IsSoundPlan, IsSoundStep}
 use Rattle.lrp_eval.specs.Running.{HasConstants, SameVariables, variables_of, variables_at, IsStepTable}
@@ -124,7 +124,7 @@ module _ (planned : Steps) (db : List Relation) (q : Question) (cap : ℕ) where
         is = sound_plan.each (suc s) step at
 
         formula : formula_at planned (suc s) ≡ exists name Time (formula_at planned s)
-        formula = formula_is (suc s) step at ∙ subst (λ k. IsFormula (structure db q) (head_step planned db q) (formula_at planned) k step.formula) kind is.made.formula
+        formula = formula_is (suc s) step at ∙ subst (λ k. IsStepFormula (structure db q) (head_step planned db q) (formula_at planned) k step.formula) kind is.made.formula
 
         period : period_at planned (suc s) ≡ period_at planned s
         period = period_is (suc s) step at ∙ subst (λ k. KeepsPeriod (period_at planned) step.period k) kind is.rises.keeps
@@ -163,7 +163,7 @@ module _ (planned : Steps) (db : List Relation) (q : Question) (cap : ℕ) where
 
         means : Denotes (constants db q) (structure db q) (variables_of left) beside (formula_at planned (suc s))
         means = subst (λ f. Denotes (constants db q) (structure db q) (variables_of left) beside f)
-            (sym (formula_is (suc s) step at ∙ subst (λ k. IsFormula (structure db q) (head_step planned db q) (formula_at planned) k step.formula) kind sound_is.made.formula))
+            (sym (formula_is (suc s) step at ∙ subst (λ k. IsStepFormula (structure db q) (head_step planned db q) (formula_at planned) k step.formula) kind sound_is.made.formula))
             (record {
               variables = same_more (variables_of left) (free (formula_at planned l)) (free (formula_at planned s) ++ []) d.variables
                   (λ v c. known v (⊎_elim (λ a. a) (λ b. absurd (contains_none v b)) (in_one (free (formula_at planned s)) [] v c)));

@@ -21,7 +21,7 @@ use Rattle.lrp_eval.proofs.Named.{joint_variables, texts_are, are_texts}
 use Rattle.lrp_eval.proofs.Nexts.{IsRead, formula_kind, reach_kind, narrow_kind, period_nat, denotes_of, meant, ran, ascends, no_order, IsMeant}
 use Rattle.lrp_eval.proofs.Reading.{step_small, earlier, multiples, period_divides, reach_within, numbered, can_meet, high, low}
 
-decided_one : {p q : Type 0} → Decided p → Decided q → Decided (p ⊎ q)
+pub decided_one : {p q : Type 0} → Decided p → Decided q → Decided (p ⊎ q)
 decided_one (inl a) d = inl (inl a)
 decided_one (inr n) (inl b) = inl (inr b)
 decided_one (inr n) (inr m) = inr (λ h. ⊎_elim n m h)

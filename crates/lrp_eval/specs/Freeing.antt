@@ -8,11 +8,11 @@ use Rattle.lrp_tables.specs.declared.table.Table.{Table}
 abbrev pub IsNoted : ℕ → ℕ → List ℕ → List ℕ → Type 0
 IsNoted of reader old new = (s r : ℕ) → slice_get new s ≡ Some r → ((suc s ≡ of) × (r ≡ reader)) ⊎ ((suc s ≢ of) × (slice_get old s ≡ Some r))
 
--- none of the first `count` steps reads a step behind the reader that is noted for it
+-- none of the first `count` steps reads a step after the reader that is noted for it
 abbrev pub AreNoted : List Step → ℕ → List ℕ → Type 0
 AreNoted steps count readers = (j s r : ℕ) (step : Step) → j < count → slice_get steps j ≡ Some step → Contains (operands step.kind) (suc s) → slice_get readers s ≡ Some r → j < r
 
--- no step reads a step behind the reader that is noted for it
+-- no step reads a step after the reader that is noted for it
 abbrev pub AreLastReaders : List Step → List ℕ → Type 0
 AreLastReaders steps readers = AreNoted steps (length steps) readers
 

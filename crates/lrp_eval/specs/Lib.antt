@@ -8,4 +8,5 @@ pub mod Planned
 pub mod Running
 pub mod Settling
 pub mod Freeing
+pub mod Grouped
 pub mod Together

@@ -68,7 +68,7 @@ pub record IsOperand (tables : List Table) (number : ℕ) (table : Table) : Type
   pub texts_named : length table.vars.texts ≡ table.store.shape.texts
   pub differ : AllPairs ◌≢◌ (table.vars.times ++ table.vars.texts)
 
--- a step behind the first `count` reads step s
+-- a step after the first `count` reads step s
 pub record IsReadBehind (steps : Steps) (count s : ℕ) : Type 0 where
   pub number : ℕ
   pub step : PlanStep
@@ -98,7 +98,7 @@ NamesFirstMany db p cap tables fault = (step : ℕ) → fault ≡ TooManyCellsAt
 abbrev pub AreReadBy : Steps → List Relation → Question → ℕ → List Table → StepKind → Type 0
 AreReadBy planned db q cap tables kind = (i : ℕ) (table : Table) → slice_get tables i ≡ Some table → Contains (operands kind) (suc i) → IsStepTable planned db q cap (suc i) table
 
--- the step behind these tables has this kind and period
+-- the step after these tables has this kind and period
 pub record IsNext (planned : Steps) (db : List Relation) (q : Question) (cap : ℕ) (domain : List Text) (tables : List Table) (kind : StepKind) (period : ℤ) : Type 0 where
   pub plan : (p : Plan) × IsPlanOf planned db q p
   pub step : PlanStep

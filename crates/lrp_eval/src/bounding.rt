@@ -4,7 +4,7 @@ ghost use Rattle.lrp_theory.specs.Divides.{Divides};
 ghost use Rattle.lrp_theory.specs.Entries.{AtMost};
 ghost use Rattle.lrp_zone.specs.Zones.{reach_of};
 ghost use Rattle.lrp_store.specs.Stores.{HasReach, IsStore};
-ghost use Rattle.lrp_eval.specs.Together.{TableHasFewCells, HasReachIn};
+ghost use Rattle.lrp_periods.specs.Bounding.{HasReachIn, TableHasFewCells};
 
 use lrp_model::Cell;
 use lrp_store::Store;

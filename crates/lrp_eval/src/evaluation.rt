@@ -1,16 +1,19 @@
 // The steps of a plan, one after another.
-ghost use Rattle.std.specs.Prelude.{◌≡◌, ◌<◌, ◌≤◌, ◌+◌, ◌++◌, ◌∷◌, [], ℕ, suc, length, List as ListOf, IfOk, IfErr};
+ghost use Rattle.std.specs.Prelude.{◌≡◌, ◌<◌, ◌≤◌, ◌+◌, ◌++◌, ◌∷◌, [], ℕ, suc, length, List as ListOf, IfOk, IfErr, IfSome};
 ghost use Rattle.lrp_store.specs.Stores.{IsStore};
 ghost use Rattle.lrp_tables.specs.declared.table.Table.{Table as TableOf};
 ghost use Rattle.lrp_model.specs.Formulas.{Question};
 ghost use Rattle.lrp_model.specs.Steps.{Steps};
 ghost use Rattle.lrp_tables.specs.declared.table.StepFault.TheVariants.{TooManyCells as too_many};
 ghost use Rattle.lrp_eval.specs.Freeing.{AreLastReaders};
+ghost use Rattle.lrp_eval.specs.Grouped.{AreStepsGrouped};
 ghost use Rattle.lrp_eval.specs.Planned.{HasAnswers, IsEvalCause, IsPlanOf, IsSomePlan};
 ghost use Rattle.lrp_eval.specs.Running.{AreRunBySome, AreRunThen, NamesFirstMany};
+ghost use Rattle.lrp_eval.specs.Together.{AreInside};
 
 use crate::following::{Together, run_together};
 use crate::freeing::{give_up, last_readers, nothing};
+use crate::groups::run_in_parts;
 use crate::heading::is_headed;
 use crate::running::run_step;
 use lrp_database::Database;
@@ -99,10 +102,31 @@ fn run_next(
         × (length new ≤ length plan.now.steps)) }
     ensures fault { IfErr result (NamesFirstMany database.now plan.now setting.now.cap tables) }
 {
-    match run_together(setting, plan, readers, tables.as_slice()) {
+    match run_several(setting, database, plan, readers, tables.as_slice()) {
         Ok(Some(together)) => Ok(with_together(setting.alloc, tables, together)?),
         Ok(None) => run_one(setting, database, plan, readers, tables),
         Err(_) => Err(EvalFault::Memory),
+    }
+}
+
+// Runs some of the next steps together, or in parts, where that is worth it. `None` says nothing.
+fn run_several(
+    setting: &Setting<'_>,
+    database: &Database,
+    plan: &Plan,
+    readers: &[usize],
+    tables: &[Table],
+) -> Result<Option<Together>, Memory>
+    requires domain { setting.now.domain.now ≡ plan.now.domain }
+    requires plan { AreRunBySome database.now plan.now setting.now.cap tables.now }
+    ensures table { IfOk result (λ found. IfSome found
+        (AreStepsGrouped database.now plan.now setting.now.cap readers.now tables.now)) }
+    ensures inside { IfOk result (λ found. IfSome found (AreInside plan.now tables.now)) }
+{
+    match run_together(setting, plan, readers, tables) {
+        Ok(Some(together)) => Ok(Some(together)),
+        Ok(None) => run_in_parts(setting, database, plan, readers, tables),
+        Err(fault) => Err(fault),
     }
 }
 
@@ -163,7 +187,7 @@ fn last_of(tables: List<Table>) -> Table
     }
 }
 
-// The fault of the step behind so many tables.
+// The fault of the step after so many tables.
 fn fault_behind(tables: usize, fault: StepFault) -> EvalFault
     ensures { (step : ℕ) → result ≡ EvalFault.TooManyCells step → (fault ≡ too_many)
         × (step ≡ suc tables) }

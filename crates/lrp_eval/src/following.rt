@@ -12,14 +12,14 @@ use std::alloc::Global;
 // The greatest reach of steps that are run together: what is made on the way has bounds that can be stored.
 const SMALL: i64 = 1 << 59;
 
-/// How many of the next steps have no table of their own, and the table of the one behind them.
+/// How many of the next steps have no table of their own, and the table of the one after them.
 #[derive(Drop)]
 pub(crate) struct Together {
     pub(crate) between: usize,
     pub(crate) table: Table,
 }
 
-/// Runs some of the steps behind these tables together, where that is worth it. `None` says nothing.
+/// Runs some of the steps after these tables together, where that is worth it. `None` says nothing.
 pub(crate) fn run_together(
     setting: &Setting<'_>,
     plan: &Plan,
@@ -115,7 +115,7 @@ fn narrowing_at<'a>(steps: &'a [Step], readers: &[usize], at: usize) -> Option<N
     })
 }
 
-// The join at this place and the steps behind it that drop time variables one after another, where nothing else reads them.
+// The join at this place and the steps after it that drop time variables one after another, where nothing else reads them.
 fn projection_at<'a>(
     alloc: Global,
     steps: &'a [Step],
@@ -181,8 +181,8 @@ fn taken_from(step: &Step, right: usize) -> Option<u32>
     }
 }
 
-// Whether so many steps from this place on are read by no step behind the one that follows them.
-fn are_passed(readers: &[usize], at: usize, count: usize) -> bool
+/// Whether so many steps from this place on are read by no step after the one that follows them.
+pub(crate) fn are_passed(readers: &[usize], at: usize, count: usize) -> bool
     requires { at + count < 2 ^ 63 }
     ensures { IsTrue result → ArePassed readers.now at count }
 {

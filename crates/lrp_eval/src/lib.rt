@@ -7,6 +7,7 @@ mod complementing;
 mod evaluation;
 mod following;
 mod freeing;
+mod groups;
 mod heading;
 mod laws;
 mod projecting;

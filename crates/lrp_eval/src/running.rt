@@ -22,7 +22,7 @@ pub(crate) fn operand(tables: &[Table], number: u32) -> &Table
     table
 }
 
-/// The table of the step behind these tables.
+/// The table of the step after these tables.
 pub(crate) fn run_step(
     setting: &Setting<'_>,
     database: &Database,

@@ -1,4 +1,4 @@
--- Some tables are behind those that were there.
+-- Some tables are after those that were there.
 use Rattle.std.proofs.Common.{◌≡◌, ◌++◌, List, length}
 use Rattle.lrp_tables.specs.declared.table.Table.{Table}
 use Rattle.lrp_eval.proofs.evaluation.with_together.Given as goal

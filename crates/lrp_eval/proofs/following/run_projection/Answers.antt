@@ -1,4 +1,4 @@
--- The join and the steps behind it stand in the plan.
+-- The join and the steps after it stand in the plan.
 use Rattle.std.proofs.Common.{List, length, sym, subst}
 use Rattle.lrp_model.specs.declared.plans.Step.{Step}
 use Rattle.lrp_eval.specs.Together.{AreRunTogether, IsProjection, IsProjectionNext}

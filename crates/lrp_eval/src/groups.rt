@@ -1,0 +1,400 @@
+// Groups of steps whose tables are held in parts, each part of a period of its own.
+ghost use Rattle.std.specs.Prelude.{◌≡◌, ◌+◌, ◌<◌, ◌≤◌, ◌^◌, ◌∷◌, [], IfOk, IfSome, IsTrue, length, pos};
+ghost use Rattle.lrp_tables.specs.declared.table.Table.{Table as TableOf};
+ghost use Rattle.lrp_eval.specs.Grouped.{AreFewParts, AreStepsGrouped, AreHeld, ArePartsAt, CanBeWhole, CanRunGroup, HaveFew, IsPartAlone, IsGroupRun, IsGroupHeld, IsNextStep, IsOnePart, IsSmallStep, IsWholeTable, next_step_number};
+ghost use Rattle.lrp_eval.specs.Running.{AreRunBySome};
+ghost use Rattle.lrp_eval.specs.Together.{AreInside, ArePassed};
+
+use crate::following::{Together, are_passed};
+use crate::running::operand;
+use crate::sorting::sort_step;
+use lrp_algebra::leaf;
+use lrp_database::Database;
+use lrp_model::{List, Memory, Plan, Relation, Row, Step, StepKind, Value};
+use lrp_periods::{
+    PartsFault, cells_at_most, complement_in_parts, drop_data_in_parts, drop_time_in_parts,
+    has_reach, join_in_parts, minus_in_parts, scan_in_parts, select_in_parts, union_in_parts,
+    whole,
+};
+use lrp_tables::{Setting, StepFault, Table};
+
+// The greatest reach of tables that are held as parts, and the greatest period of their steps.
+const SMALL: u64 = 1 << 59;
+
+const SMALL_PERIOD: i64 = 1 << 56;
+
+// All times, of which parts are counted.
+const ALL: u64 = 1 << 60;
+
+/// What a group of steps is run over: a plan with its relations, and the tables of the steps before the group.
+#[derive(Clone, Copy)]
+pub(crate) struct Group<'a> {
+    pub(crate) database: &'a Database,
+    pub(crate) plan: &'a Plan,
+    pub(crate) readers: &'a [usize],
+    pub(crate) tables: &'a [Table],
+}
+
+/// Runs some of the steps after these tables in parts, where that is worth it. `None` says nothing.
+pub(crate) fn run_in_parts(
+    setting: &Setting<'_>,
+    database: &Database,
+    plan: &Plan,
+    readers: &[usize],
+    tables: &[Table],
+) -> Result<Option<Together>, Memory>
+    requires domain { setting.now.domain.now ≡ plan.now.domain }
+    requires plan { AreRunBySome database.now plan.now setting.now.cap tables.now }
+    ensures table { IfOk result (λ found. IfSome found
+        (AreStepsGrouped database.now plan.now setting.now.cap readers.now tables.now)) }
+    ensures inside { IfOk result (λ found. IfSome found (AreInside plan.now tables.now)) }
+{
+    let group = Group {
+        database,
+        plan,
+        readers,
+        tables,
+    };
+    if !is_worth(&group, setting.cap) {
+        return Ok(None);
+    }
+    match run_group(setting, &group) {
+        Ok(together) => Ok(Some(together)),
+        Err(PartsFault::GivenUp) => Ok(None),
+        Err(PartsFault::Memory) => Err(Memory),
+    }
+}
+
+// Whether the next step is a scan of one column whose rows have short periods, and the one after it a complement that is
+// left with little. Where much is left, its cells cost less if they are made at once.
+fn is_worth(group: &Group<'_>, cap: u32) -> bool {
+    let at = group.tables.len();
+    let steps = group.plan.steps.as_slice();
+    if at >= steps.len() || steps.len() - at < 2 {
+        return false;
+    }
+    let StepKind::Scan { relation, .. } = &steps[at].kind else {
+        return false;
+    };
+    let StepKind::Complement { .. } = &steps[at + 1].kind else {
+        return false;
+    };
+    match group.database.relation(relation) {
+        Some(relation) => leaves_little(relation, steps[at].period.unsigned_abs(), cap),
+        None => false,
+    }
+}
+
+// Whether the rows have no more cells of the period than the cap, an eighth as many or less if each is one of its own period, and
+// as points that are independent of one another leave an eighth of all times, or less.
+fn leaves_little(relation: &Relation, period: u64, cap: u32) -> bool {
+    if relation.columns.len() != 1 {
+        return false;
+    }
+    let mut cells: u64 = 0;
+    let mut left = ALL;
+    for row in relation.rows.as_slice() {
+        if row.bounds.len() > 0 {
+            return false;
+        }
+        let longest = longest_period(row);
+        cells = cells.saturating_add(period / longest);
+        left -= left / longest;
+    }
+    let few = cells / 8;
+    left <= ALL / 8 && cells <= u64::from(cap) && few > 0 && few >= relation.rows.len() as u64
+}
+
+// The longest period of a row's points.
+fn longest_period(row: &Row) -> u64
+    ensures { 0 < result }
+{
+    let mut longest = 1;
+    for value in row.values.as_slice() {
+        longest = longer(longest, value);
+    }
+    longest
+}
+
+// A period, or that of a value where it is longer.
+fn longer(period: u64, value: &Value) -> u64
+    ensures { period ≤ result }
+{
+    match value {
+        Value::Point { at } if at.period.unsigned_abs() > period => at.period.unsigned_abs(),
+        _ => period,
+    }
+}
+
+// The steps of the group, one after another, up to one that is worth a table of its own.
+fn run_group(setting: &Setting<'_>, group: &Group<'_>) -> Result<Together, PartsFault>
+    requires { CanRunGroup setting.now.cap setting.now.domain.now group.now }
+    ensures { IfOk result (IsGroupRun setting.now.cap group.now) }
+{
+    let mut made = List::new(setting.alloc);
+    let count = group.plan.steps.len();
+    for place in group.tables.len()..count {
+        let step = small_step(group, place)?;
+        let parts = step_in_parts(setting, group, &made, step)?;
+        let last = count - place <= 2;
+        if is_end(group, made.len()) && (last || is_cheap(setting, parts.as_slice(), step)) {
+            return ended(setting, group, &made, parts, step);
+        }
+        made = with_next(setting, group, made, parts, step)?;
+    }
+    Err(PartsFault::GivenUp)
+}
+
+// The step at a place, where its period is small.
+fn small_step<'a>(group: &Group<'a>, place: usize) -> Result<&'a Step, PartsFault>
+    requires { place < length group.now.plan.now.steps }
+    ensures { IfOk result (λ step. IsSmallStep group.now place step.now) }
+{
+    let step = group.plan.steps.at(place);
+    if step.period < 1 || step.period > SMALL_PERIOD {
+        return Err(PartsFault::GivenUp);
+    }
+    Ok(step)
+}
+
+// Whether no later step reads one of so many steps of the group.
+fn is_end(group: &Group<'_>, count: usize) -> bool
+    ensures { IsTrue result → ArePassed group.now.readers.now (length group.now.tables.now) count }
+{
+    let at = group.tables.len();
+    if at > group.readers.len() || count > group.readers.len() - at {
+        return false;
+    }
+    are_passed(group.readers, at, count)
+}
+
+// Whether the whole table has few cells more than its parts.
+fn is_cheap(setting: &Setting<'_>, parts: &[Table], step: &Step) -> bool
+    requires { CanBeWhole setting.now.domain.now step.now.period parts.now }
+{
+    match bound_of(setting, parts, step) {
+        Some(cells) => u64::from(cells) / 2 <= cells_of(parts),
+        None => false,
+    }
+}
+
+// How many cells the parts have.
+fn cells_of(parts: &[Table]) -> u64 {
+    let mut cells: u64 = 0;
+    for part in parts {
+        cells = cells.saturating_add(u64::from(part.store.len()));
+    }
+    cells
+}
+
+// A number of cells of the step's period than which the parts have no more, where it is not above the cap.
+fn bound_of(setting: &Setting<'_>, parts: &[Table], step: &Step) -> Option<u32>
+    requires { CanBeWhole setting.now.domain.now step.now.period parts.now }
+    ensures { IfSome result (λ _. HaveFew setting.now.cap setting.now.domain.now step.now.period
+        parts.now) }
+{
+    cells_at_most(parts, step.period as u64, setting.cap)
+}
+
+// The table of the group's last step, after these parts of the steps before it.
+fn ended(
+    setting: &Setting<'_>,
+    group: &Group<'_>,
+    made: &List<List<Table>>,
+    parts: List<Table>,
+    step: &Step,
+) -> Result<Together, PartsFault>
+    requires group { CanRunGroup setting.now.cap setting.now.domain.now group.now }
+    requires made { AreHeld setting.now.cap group.now made.now }
+    requires step { IsNextStep group.now made.now step.now }
+    requires parts { IsGroupHeld setting.now.cap group.now (next_step_number group.now made.now) parts }
+    requires passed { ArePassed group.now.readers.now (length group.now.tables.now)
+        (length made.now) }
+    ensures { IfOk result (IsGroupRun setting.now.cap group.now) }
+{
+    let table = whole_of(setting, parts, step)?;
+    if !has_reach(&table.store, step.reach.unsigned_abs()) {
+        return Err(PartsFault::GivenUp);
+    }
+    Ok(Together {
+        between: made.len(),
+        table,
+    })
+}
+
+// The group with the parts of its next step, which has no more than the cap's number of cells.
+fn with_next(
+    setting: &Setting<'_>,
+    group: &Group<'_>,
+    mut made: List<List<Table>>,
+    parts: List<Table>,
+    step: &Step,
+) -> Result<List<List<Table>>, PartsFault>
+    requires group { CanRunGroup setting.now.cap setting.now.domain.now group.now }
+    requires made { AreHeld setting.now.cap group.now made }
+    requires step { IsNextStep group.now made step.now }
+    requires parts { IsGroupHeld setting.now.cap group.now (next_step_number group.now made) parts }
+    ensures held { IfOk result (AreHeld setting.now.cap group.now) }
+    ensures count { IfOk result (λ new. length new ≡ length made + 1) }
+{
+    let parts = within_cap(setting, parts, step)?;
+    made.push(parts)?;
+    Ok(made)
+}
+
+// The parts, where they have no more than the cap's number of cells: only where the bound doesn't show it they are made whole.
+fn within_cap(
+    setting: &Setting<'_>,
+    parts: List<Table>,
+    step: &Step,
+) -> Result<List<Table>, PartsFault>
+    requires { CanBeWhole setting.now.domain.now step.now.period parts }
+    ensures { IfOk result (AreFewParts setting.now.cap setting.now.domain.now step.now.period
+        parts) }
+{
+    match bound_of(setting, parts.as_slice(), step) {
+        Some(_) => Ok(parts),
+        None => one_part(setting, whole_of(setting, parts, step)?),
+    }
+}
+
+// The parts as one table of the step's period.
+fn whole_of(setting: &Setting<'_>, parts: List<Table>, step: &Step) -> Result<Table, PartsFault>
+    requires { CanBeWhole setting.now.domain.now step.now.period parts }
+    ensures { IfOk result (IsWholeTable setting.now.cap setting.now.domain.now step.now.period
+        parts) }
+{
+    if is_one(parts.as_slice(), step) {
+        return match bound_of(setting, parts.as_slice(), step) {
+            Some(_) => Ok(only(parts)),
+            None => Err(PartsFault::GivenUp),
+        };
+    }
+    match whole(setting, parts.as_slice(), step.period) {
+        Ok(table) => Ok(table),
+        Err(fault) => Err(PartsFault::from(fault)),
+    }
+}
+
+// Whether there is one part, of the step's period.
+fn is_one(parts: &[Table], step: &Step) -> bool
+    ensures { IsTrue result → (table : TableOf) × (parts.now ≡ table ∷ [])
+        × (pos table.store.period ≡ step.now.period) }
+{
+    match parts {
+        [table] => table.store.period() == step.period,
+        _ => false,
+    }
+}
+
+// The one part.
+fn only(parts: List<Table>) -> Table
+    requires { length parts ≡ 1 }
+    ensures { parts ≡ result ∷ [] }
+{
+    match parts.into_vec().pop() {
+        Some(table) => table,
+        None => unreachable!(),
+    }
+}
+
+// A table as its one part, where its bounds are small.
+fn one_part(setting: &Setting<'_>, table: Table) -> Result<List<Table>, PartsFault>
+    ensures { IfOk result (IsOnePart table) }
+{
+    if !has_reach(&table.store, SMALL) {
+        return Err(PartsFault::GivenUp);
+    }
+    table.store.shape();
+    let mut parts = List::new(setting.alloc);
+    parts.push(table)?;
+    Ok(parts)
+}
+
+// The table that a call made as its one part, where its bounds are small.
+fn alone(setting: &Setting<'_>, made: Result<Table, StepFault>) -> Result<List<Table>, PartsFault>
+    ensures { IfOk result (IsPartAlone made) }
+{
+    match made {
+        Ok(table) => one_part(setting, table),
+        Err(fault) => Err(PartsFault::from(fault)),
+    }
+}
+
+// The parts of a step by its number from 1: those that the group made, or a table from before it.
+fn parts_of<'a>(
+    group: &Group<'a>,
+    made: &'a List<List<Table>>,
+    number: u32,
+) -> Result<&'a [Table], PartsFault>
+    requires low { 0 < number }
+    requires high { number ≤ length group.now.tables.now + length made.now }
+    ensures { IfOk result (λ parts. ArePartsAt group.now made.now number parts.now) }
+{
+    let place = number as usize - 1;
+    let before = group.tables.len();
+    if place >= before {
+        return Ok(made.at(place - before).as_slice());
+    }
+    if !has_reach(&operand(group.tables, number).store, SMALL) {
+        return Err(PartsFault::GivenUp);
+    }
+    Ok(&group.tables[place..place + 1])
+}
+
+// The parts of the next step of the group, by those of the steps that it reads.
+fn step_in_parts(
+    setting: &Setting<'_>,
+    group: &Group<'_>,
+    made: &List<List<Table>>,
+    step: &Step,
+) -> Result<List<Table>, PartsFault>
+    requires group { CanRunGroup setting.now.cap setting.now.domain.now group.now }
+    requires made { AreHeld setting.now.cap group.now made.now }
+    requires step { IsNextStep group.now made.now step.now }
+    ensures { IfOk result (IsGroupHeld setting.now.cap group.now (next_step_number group.now made.now)) }
+{
+    let period = step.period;
+    match &step.kind {
+        StepKind::Scan { relation, terms } => match group.database.relation(relation) {
+            Some(relation) => scan_in_parts(setting, relation, terms, period),
+            None => Err(PartsFault::GivenUp),
+        },
+        StepKind::Leaf { test } => alone(setting, leaf(setting, test)),
+        StepKind::Sort { name, texts, .. } => alone(setting, sort_step(setting, name, texts)),
+        StepKind::Join { left, right, tests } => {
+            let (left, right) = (
+                parts_of(group, made, *left)?,
+                parts_of(group, made, *right)?,
+            );
+            join_in_parts(setting, left, right, tests, period)
+        }
+        StepKind::Select { of, test } => {
+            select_in_parts(setting, parts_of(group, made, *of)?, test, period)
+        }
+        StepKind::Union { left, right } => {
+            let (left, right) = (
+                parts_of(group, made, *left)?,
+                parts_of(group, made, *right)?,
+            );
+            union_in_parts(setting, left, right, period)
+        }
+        StepKind::Minus { left, right } => {
+            let (left, right) = (
+                parts_of(group, made, *left)?,
+                parts_of(group, made, *right)?,
+            );
+            minus_in_parts(setting, left, right, period)
+        }
+        StepKind::Complement { of } => {
+            complement_in_parts(setting, parts_of(group, made, *of)?, period)
+        }
+        StepKind::DropTime { of, name } => {
+            drop_time_in_parts(setting, parts_of(group, made, *of)?, name, period)
+        }
+        StepKind::DropData { of, name } => {
+            drop_data_in_parts(setting, parts_of(group, made, *of)?, name, period)
+        }
+        StepKind::Extend { .. } => Err(PartsFault::GivenUp),
+    }
+}

@@ -1,0 +1,23 @@
+-- How many cells tables inhabit at a period, and how far their bounds reach.
+use Rattle.std.specs.Prelude.{ℕ, ℤ, pos, ◌≤◌, List, Option, Contains}
+use Rattle.lrp_model.specs.Texts.{Ascends, Text}
+use Rattle.lrp_model.specs.declared.tuples.Cell.{Cell}
+use Rattle.lrp_zone.specs.Zones.{reach_of}
+use Rattle.lrp_store.specs.Stores.{StoreView, tables_at, zone_of}
+use Rattle.lrp_store.specs.Tables.{AreNumbered}
+use Rattle.lrp_tables.specs.declared.table.Table.{Table}
+use Rattle.lrp_tables.specs.Caps.{InhabitsMoreThan}
+use Rattle.lrp_tables.specs.Tables.{Has}
+use Rattle.lrp_periods.specs.Parts.{AreParts, HasSome, part_times, part_texts}
+
+-- each zone of the cell has at most this reach
+abbrev pub HasReachIn : StoreView → Cell → ℕ → Type 0
+HasReachIn s cell reach = (table : List (Option ℤ)) → Contains (tables_at s cell) table → reach_of (zone_of s cell table) ≤ reach
+
+-- the table's assignments inhabit no more than cap cells of the period, by each domain whose texts its numbers are
+abbrev pub TableHasFewCells : ℕ → ℕ → Table → Type 0
+TableHasFewCells cap period table = (domain : List Text) → Ascends domain → AreNumbered domain table.store → InhabitsMoreThan cap domain period table.vars.times table.vars.texts (Has table domain) → ⊥
+
+-- the assignments of the parts do
+abbrev pub HaveFewCells : ℕ → ℕ → List Table → Type 0
+HaveFewCells cap period parts = (domain : List Text) → Ascends domain → AreParts domain (pos period) parts → InhabitsMoreThan cap domain period (part_times parts) (part_texts parts) (HasSome domain parts) → ⊥

@@ -1,0 +1,27 @@
+//! Tables in parts, each part in cells of a period of its own, and the operations on them.
+#![tactic(auto)]
+
+mod bounding;
+mod complements;
+mod differences;
+mod drops;
+mod extensions;
+mod joins;
+mod parts;
+mod periods;
+mod scans;
+mod selections;
+mod unions;
+mod wholes;
+
+pub use bounding::{cells_at_most, cells_of_table, has_reach, product_within};
+pub use complements::complement_in_parts;
+pub use differences::minus_in_parts;
+pub use drops::{drop_data_in_parts, drop_time_in_parts};
+pub use extensions::extend_in_parts;
+pub use joins::join_in_parts;
+pub use parts::{PartsFault, as_parts};
+pub use scans::scan_in_parts;
+pub use selections::select_in_parts;
+pub use unions::union_in_parts;
+pub use wholes::whole;
