@@ -9,7 +9,7 @@ use Rattle.lrp_words.specs.declared.command.Command.{Command}
 use Rattle.lrp_words.specs.declared.command.Command.TheVariants.{Ask, Decide, List as Page, Count, Ranges, Explain, Check, Lint, Watch, Sample}
 use Rattle.lrp_top.specs.Due.{IsDueOf, IsLengthOrMemory, files_of}
 use Rattle.lrp_top.specs.Lengths.{TellsLength}
-use Rattle.lrp_top.specs.Questions.{IsProper, IsAsked, IsServed, asked_of, need_of}
+use Rattle.lrp_top.specs.Questions.{IsProperPurpose, IsAsked, IsServed, asked_of, need_of}
 use Rattle.lrp_top.specs.Seen.{IsOverrun, ShelfSeen}
 use Rattle.lrp_top.specs.declared.asking.Asked.{Asked}
 
@@ -35,13 +35,13 @@ due_of_asked (Watch db query edits cap planning auto) asked seen outcome e h = c
 due_of_asked (Sample seed size) asked seen outcome e h = cc
 
 -- its window has ends, and its answers' relation a name, where what the command says is in range
-pub asked_proper : (command : Command) (asked : Asked) → Some asked ≡ asked_of command → IsInRange (task_of command) → IsProper asked.purpose
-asked_proper (Ask files cap canon name) asked e h = same_asked (λ a. IsProper a.purpose) _ asked (sym e) h
-asked_proper (Decide files cap dates) asked e h = same_asked (λ a. IsProper a.purpose) _ asked (sym e) h
-asked_proper (Page files from to limit after json cap) asked e h = same_asked (λ a. IsProper a.purpose) _ asked (sym e) h
-asked_proper (Count files from to cap) asked e h = same_asked (λ a. IsProper a.purpose) _ asked (sym e) h
-asked_proper (Ranges files from to limit json cap) asked e h = same_asked (λ a. IsProper a.purpose) _ asked (sym e) h
-asked_proper (Explain files) asked e h = same_asked (λ a. IsProper a.purpose) _ asked (sym e) h
+pub asked_proper : (command : Command) (asked : Asked) → Some asked ≡ asked_of command → IsInRange (task_of command) → IsProperPurpose asked.purpose
+asked_proper (Ask files cap canon name) asked e h = same_asked (λ a. IsProperPurpose a.purpose) _ asked (sym e) h
+asked_proper (Decide files cap dates) asked e h = same_asked (λ a. IsProperPurpose a.purpose) _ asked (sym e) h
+asked_proper (Page files from to limit after json cap) asked e h = same_asked (λ a. IsProperPurpose a.purpose) _ asked (sym e) h
+asked_proper (Count files from to cap) asked e h = same_asked (λ a. IsProperPurpose a.purpose) _ asked (sym e) h
+asked_proper (Ranges files from to limit json cap) asked e h = same_asked (λ a. IsProperPurpose a.purpose) _ asked (sym e) h
+asked_proper (Explain files) asked e h = same_asked (λ a. IsProperPurpose a.purpose) _ asked (sym e) h
 asked_proper (Check db civil) asked e h = cc
 asked_proper (Lint files) asked e h = cc
 asked_proper (Watch db query edits cap planning auto) asked e h = cc

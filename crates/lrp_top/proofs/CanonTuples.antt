@@ -46,7 +46,7 @@ number_of (d ∷ ds) t = cond (bytes_eq d t) 0 (suc (number_of ds t))
 abbrev numbers_of : List Text → List Text → List ℕ
 numbers_of domain ts = map (number_of domain) ts
 
--- a text comes before those behind it
+-- a text comes before those after it
 before_all : (d : Text) (ds : List Text) → AllByRecursion (λ u. text_cmp d u ≡ Less) ds → (m : ℕ) (t : Text) → slice_get ds m ≡ Some t → text_cmp d t ≡ Less
 before_all d [] h m t e = cc
 before_all d (u ∷ us) h zero t e = let same : u ≡ t = cc in subst (λ v. text_cmp d v ≡ Less) same h.0

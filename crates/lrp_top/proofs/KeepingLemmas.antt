@@ -8,7 +8,7 @@ use Rattle.lrp_model.specs.Texts.{Identifier}
 use Rattle.lrp_model.specs.declared.relations.Relation.{Relation}
 use Rattle.lrp_outputs.specs.declared.refusal.Refusal.{Refusal}
 use Rattle.lrp_top.specs.Due.{IsDatabaseRead, IsQueryRead, IsQueryReadOf}
-use Rattle.lrp_top.specs.Keeping.{IsFileRead, IsKept, IsKeptOf, IsQuerySaid}
+use Rattle.lrp_top.specs.Keeping.{IsFileRead, IsDatabaseKept, IsKeptOf, IsQuerySaid}
 use Rattle.lrp_top.specs.Questions.{asked_as, database_source, query_source}
 use Rattle.lrp_top.specs.Seen.{AreBytesOf, ShelfSeen}
 use Rattle.lrp_top.specs.Written.{IsSortedAs, plain_by}
@@ -51,8 +51,8 @@ said_of language db file bytes h = record {
 -- ---- what is kept
 
 -- a database that is kept as its own flag says, and one that is so as another one does
-pub kept_as : (civil : Option CivilText) (kept : KeptDatabase) → kept.civil ≡ civil → IsKept kept → IsKeptOf civil kept.file.bytes kept
+pub kept_as : (civil : Option CivilText) (kept : KeptDatabase) → kept.civil ≡ civil → IsDatabaseKept kept → IsKeptOf civil kept.file.bytes kept
 kept_as civil kept e is = subst (λ (c : Option CivilText). IsKeptOf c kept.file.bytes kept) e is
 
-pub kept_own : (civil : Option CivilText) (bytes : List ℕ) (kept : KeptDatabase) → IsKeptOf civil bytes kept → IsKept kept
+pub kept_own : (civil : Option CivilText) (bytes : List ℕ) (kept : KeptDatabase) → IsKeptOf civil bytes kept → IsDatabaseKept kept
 kept_own civil bytes kept is = record { civil_is = refl; bytes_are = refl; read = subst (λ (c : Option CivilText). IsFileRead c kept.file) (sym is.civil_is) is.read; last = is.last }

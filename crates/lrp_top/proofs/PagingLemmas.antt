@@ -58,7 +58,7 @@ counted_behind : {A : Type 0} (first : Result A Refusal) (Counted : Result (Unit
 counted_behind (Ok a) C N outcome c h = record { first = Ok tt; is = c; next = h }
 counted_behind (Err refusal) C N outcome c h = h
 
--- what is refused wherever a page begins is refused behind that
+-- what is refused wherever a page begins is refused after that
 pub behind_any : (head : List Column) (o : Option ToldTuple) (Next : Option Tuple → Outcome → Type 0) (outcome : Outcome) → ((t : Option Tuple) → Next t outcome) → Behind (resumed_as head (Ok o)) Next outcome
 behind_any head None N outcome h = h None
 behind_any head (Some t) N outcome h = h _

@@ -1,4 +1,4 @@
--- Questions: what is refused first, and what is due behind that.
+-- Questions: what is refused first, and what is due after that.
 use Rattle.std.proofs.Common.{◌≡◌, ℕ, ◌≤◌, Bool, List, Option, Result, Ok, Err, arith, refl, sym, ◌∙◌, subst}
 use Rattle.lrp_io.specs.Causes.{Rose}
 use Rattle.lrp_io.specs.declared.shelf.File.{File}
@@ -76,12 +76,12 @@ pub question_read : {B : Type 0} (of : FilesAsked) (need : Option HeadNeed) (see
     → IsDatabaseRead (civil_by of) seen of.database (Ok d) → IsQueryRead (language_by of) d.says seen of.query (Ok q) → IsPlannedAs of.way need d.says q.says (Ok p) → Next d q p result → IsPlannedFor of need seen Next result
 question_read of need seen d q p Next result r a planned n = record { first = Ok d; is = r; next = record { first = Ok q; is = a; next = record { first = Ok p; is = planned; next = n } } }
 
--- a query that was not planned is refused behind its database and its text
+-- a query that was not planned is refused after its database and its text
 pub plan_refused : {B : Type 0} (of : FilesAsked) (need : Option HeadNeed) (seen : ShelfSeen) (d : Source (List Relation)) (q : Source Queried) (refusal : Refusal) (Next : Source (List Relation) → Source Queried → Plan → Result B Refusal → Type 0)
     → IsDatabaseRead (civil_by of) seen of.database (Ok d) → IsQueryRead (language_by of) d.says seen of.query (Ok q) → IsPlannedAs of.way need d.says q.says (Err refusal) → IsPlannedFor of need seen Next (Err refusal)
 plan_refused of need seen d q refusal Next r a planned = record { first = Ok d; is = r; next = record { first = Ok q; is = a; next = record { first = Err refusal; is = planned; next = refl } } }
 
--- a refused query is refused behind its database
+-- a refused query is refused after its database
 pub query_refused : {B : Type 0} (of : FilesAsked) (need : Option HeadNeed) (seen : ShelfSeen) (d : Source (List Relation)) (refusal : Refusal) (Next : Source (List Relation) → Source Queried → Plan → Result B Refusal → Type 0)
     → IsDatabaseRead (civil_by of) seen of.database (Ok d) → IsQueryRead (language_by of) d.says seen of.query (Err refusal) → IsPlannedFor of need seen Next (Err refusal)
 query_refused of need seen d refusal Next r a = record { first = Ok d; is = r; next = record { first = Err refusal; is = a; next = refl } }
@@ -118,7 +118,7 @@ needed_same of asked need seen Next result e h = subst (λ flag. IsPlannedFor of
 
 -- ---- plans whose head is looked at first
 
--- a plan stands behind a head that fits
+-- a plan stands after a head that fits
 pub planned_as : (way : Planning) (need : Option HeadNeed) (db : List Relation) (q : Queried) (p : Plan) → IsPlannedAs way need db q (Ok p) → IsPlanned way db q (Ok p)
 planned_as way need db q p h = behind_fit h.first h.next
   where

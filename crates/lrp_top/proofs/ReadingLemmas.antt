@@ -1,26 +1,23 @@
 -- What the bytes of a query say, however it is written.
-use Rattle.std.proofs.Common.{◌≡◌, ◌≤◌, ℕ, Bool, true, false, inl, inr, List, [], ◌∷◌, length, map, Err, refl, sym, ap, subst, ◌∙◌}
+use Rattle.std.proofs.Common.{◌≡◌, ◌≤◌, ℕ, Bool, true, false, inl, inr, List, [], ◌∷◌, length, Err, refl, sym, ap, subst, ◌∙◌}
 use Rattle.std.specs.Prelude.{◌↔◌}
-use Rattle.std.specs.List.{AllZip}
 use Rattle.lrp_model.specs.Checked.{plain_question}
-use Rattle.lrp_model.specs.DatabaseMeaning.{column_of}
 use Rattle.lrp_model.specs.Formulas.{Question, question_of}
 use Rattle.lrp_model.specs.Faults.{earliest}
 use Rattle.lrp_model.specs.QueryReading.{IsFile}
 use Rattle.lrp_model.specs.RawQueries.{RawFileView, RawQuestion, raw_question_of}
-use Rattle.lrp_model.specs.Rows.{Datum, Tuple}
-use Rattle.lrp_model.specs.Satisfaction.{IsAnswer, IsOfSort, Structure, assignment, structure}
+use Rattle.lrp_model.specs.Satisfaction.{IsAnswer}
 use Rattle.lrp_model.specs.Sorting.{IsWellSorted, IsSortFault, query_faults, query_standing}
 use Rattle.lrp_model.specs.Texts.{Identifier}
 use Rattle.lrp_model.specs.declared.faults.QueryFault.{QueryFault}
 use Rattle.lrp_model.specs.declared.faults.QueryRead.{QueryRead}
 use Rattle.lrp_model.specs.declared.faults.QueryRead.TheVariants.{Fault, Memory}
-use Rattle.lrp_model.specs.declared.raw.RawColumn.{RawColumn}
 use Rattle.lrp_model.specs.declared.relations.Relation.{Relation}
 use Rattle.lrp_model.specs.Outcomes.{IsQueryOrMemory}
 use Rattle.lrp_sorts.specs.Outcomes.{IsUnsorted}
 use Rattle.lrp_tense.specs.Expanding.{expanded_question}
 use Rattle.lrp_tense.specs.Laws.{IsTenseAnswer, KeepsMeaning}
+use Rattle.lrp_tense.proofs.SameAnswers.{same_answers}
 use Rattle.lrp_tense.specs.Reading.{IsTenseOrMemory}
 use Rattle.lrp_tense.specs.TenseReading.{IsTenseQuery}
 use Rattle.lrp_top.specs.Due.{IsQueryReadOf}
@@ -37,34 +34,9 @@ use Rattle.lrp_top.specs.Seen.{ShelfSeen}
 use Rattle.lrp_top.specs.Written.{IsFaultyAs, IsSortedAs, IsWideSaid, query_plain}
 use Rattle.lrp_wide.specs.Inlining.{expanded_file}
 use Rattle.lrp_wide.specs.Laws.{KeepsAnswers}
-use Rattle.lrp_wide.specs.Limits.{IsSmall}
+use Rattle.lrp_wide.specs.Limits.{IsSmallFile}
 use Rattle.lrp_wide.specs.Meaning.{IsWideAnswer}
-use Rattle.lrp_wide.specs.WideSorting.{IsWellSortedFile, file_faults, or_else, own_faults}
-
--- ---- answers
-
--- a tuple has values of the sorts of columns with places exactly where it has them of the columns
-module _ (M : Structure) where
-  fits_plain : (cs : List RawColumn) (ds : List Datum) → AllZip (λ c d. IsOfSort M c.sort d) cs ds → AllZip (λ c d. IsOfSort M c.sort d) (map column_of cs) ds
-  fits_plain [] [] h = tt
-  fits_plain [] (d ∷ ds) h = absurd h
-  fits_plain (c ∷ cs) [] h = absurd h
-  fits_plain (c ∷ cs) (d ∷ ds) h = (h.0, fits_plain cs ds h.1)
-
-  fits_raw : (cs : List RawColumn) (ds : List Datum) → AllZip (λ c d. IsOfSort M c.sort d) (map column_of cs) ds → AllZip (λ c d. IsOfSort M c.sort d) cs ds
-  fits_raw [] [] h = tt
-  fits_raw [] (d ∷ ds) h = absurd h
-  fits_raw (c ∷ cs) [] h = absurd h
-  fits_raw (c ∷ cs) (d ∷ ds) h = (h.0, fits_raw cs ds h.1)
-
--- the answers of an expansion are those of the written query
-same_answers : (db : List Relation) (written : RawQuestion) (tuple : Tuple) → IsWellSorted db (expanded_question written) → KeepsMeaning written (expanded_question written) → IsAnswer db (plain_question (expanded_question written)) tuple ↔ IsTenseAnswer db written tuple
-same_answers db written tuple sorted keeps =
-    let M : Structure = structure db (plain_question (expanded_question written)) in
-    let same = keeps db sorted M (assignment (map column_of written.head) tuple) in (
-      (λ h. record { fits = fits_raw M written.head tuple h.fits; satisfies = same.1 h.satisfies }),
-      (λ h. record { fits = fits_plain M written.head tuple h.fits; satisfies = same.0 h.satisfies }),
-    )
+use Rattle.lrp_wide.specs.WideSorting.{IsWellSortedFile, file_faults, faults_or_later, own_faults}
 
 -- ---- queries
 
@@ -80,7 +52,7 @@ sorted_as true db bytes raw q said sorted plain =
       query = said.query;
       sorted = expanded;
       plain = is;
-      answers = λ tuple. subst (λ (x : Question). IsAnswer db x tuple ↔ IsTenseAnswer db written tuple) (sym is) (same_answers db written tuple expanded (subst (KeepsMeaning written) said.is said.keeps));
+      answers = λ tuple. subst (λ (x : Question). IsAnswer db x tuple ↔ IsTenseAnswer db written tuple) (sym is) (same_answers db written tuple (subst (KeepsMeaning written) said.is said.keeps db expanded));
     }
 
 -- one that is not well-sorted
@@ -111,7 +83,7 @@ unread_usual tense db bytes Memory h = tt
 -- ---- files of the wide language
 
 -- a file without faults of its own texts has those of its expanded query
-others_alone : (own others : List QueryFault) → own ≡ [] → or_else own others ≡ others
+others_alone : (own others : List QueryFault) → own ≡ [] → faults_or_later own others ≡ others
 others_alone [] others e = refl
 others_alone (f ∷ fs) others e = cc
 
@@ -120,7 +92,7 @@ expanded_faults db f raw own is = others_alone (own_faults db f) (query_faults d
 
 -- the answers of each file that is read and well-sorted are those of its expanded query
 abbrev pub AreFilesKept : Type 0
-AreFilesKept = (bytes : List ℕ) (db : List Relation) (f : RawFileView) → IsFile bytes f → IsSmall db f → IsWellSortedFile db f → KeepsAnswers db f
+AreFilesKept = (bytes : List ℕ) (db : List Relation) (f : RawFileView) → IsFile bytes f → IsSmallFile db f → IsWellSortedFile db f → KeepsAnswers db f
 
 -- ---- queries of any language
 

@@ -1,4 +1,4 @@
--- What is due behind where a page begins.
+-- What is due after where a page begins.
 use Rattle.std.proofs.Common.{◌≡◌, List, Option, None, Some, Result, Ok, option_map, sym, subst}
 use Rattle.std.specs.Borrow.{Bor}
 use Rattle.std.specs.Option.{option_copied}
@@ -11,7 +11,7 @@ use Rattle.lrp_top.specs.Questions.{resumed_as}
 use Rattle.lrp_top.specs.Steps.{Behind}
 use Rattle.lrp_outputs.specs.declared.refusal.Refusal.{Refusal}
 
--- what is due behind where a page begins
+-- what is due after where a page begins
 pub behind_resumed : {B : Type 0} (head : List Column) (o : Option ToldTuple) (r : Option (Bor ToldTuple)) (Next : Option Tuple → Result B Refusal → Type 0) (result : Result B Refusal) → option_copied r ≡ o → Next (option_map (λ t. listed_tuple head t.now) r) result → Behind (resumed_as head (Ok o)) Next result
 behind_resumed head o None Next result e n = subst (λ p. Behind (resumed_as head (Ok p)) Next result) e n
 behind_resumed head o (Some t) Next result e n = subst (λ p. Behind (resumed_as head (Ok p)) Next result) e n

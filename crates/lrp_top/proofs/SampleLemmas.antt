@@ -27,7 +27,7 @@ use Rattle.lrp_plan_laws.specs.GuardedPlans.{plan_by}
 use Rattle.lrp_eval.specs.Answered.{IsAnswerOf}
 use Rattle.lrp_sample.specs.Texts.{sample_database, sample_query}
 use Rattle.lrp_sample.specs.Trees.{raw_sample, sample_question, sample_relations}
-use Rattle.lrp_sample_laws.specs.Plans.{HasAtMostCells, IsOfFirstDay, IsSampleSize, IsSampleWithinLimits, sample_steps}
+use Rattle.lrp_sample.specs.Plans.{HasAtMostCells, IsOfFirstDay, IsSampleSize, IsSampleWithinLimits, sample_steps}
 use Rattle.lrp_top.specs.Due.{IsCounted, IsOutput, IsPlanned}
 use Rattle.lrp_outputs.specs.Spots.{answer_tuple}
 use Rattle.lrp_outputs.specs.Outputs.{least_of, sample_text}
@@ -105,7 +105,7 @@ not_true : (b : Bool) → (IsTrue b → ⊥) → b ≡ false
 not_true false h = refl
 not_true true h = absurd (h refl)
 
--- what a page without more behind it counts
+-- what a page without more after it counts
 abbrev pub ArePagesCounted : Type 0
 ArePagesCounted = (db : List Relation) (q : Question) (from to : ℤ) (limit : ℕ) (page : List Tuple) → IsPage (IsAnswer db q) from to None limit page false → HasAnswerCount db q from to (length page)
 

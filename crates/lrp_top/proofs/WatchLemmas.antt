@@ -1,4 +1,4 @@
--- A watch: what is refused first, and what is due behind that.
+-- A watch: what is refused first, and what is due after that.
 use Rattle.std.proofs.Common.{◌≡◌, ◌∙◌, ◌||◌, ℕ, ◌≤◌, Bool, true, List, Option, None, Result, Ok, Err, arith, refl, sym}
 use Rattle.std.specs.List.{AllByRecursion}
 use Rattle.lrp_io.specs.Causes.{Rose}
@@ -56,7 +56,7 @@ edits_since db seen files before name result h e l = record {
 
 -- ---- what is due
 
--- a watch that is refused behind its database, its query, the form of it, or its edits
+-- a watch that is refused after its database, its query, the form of it, or its edits
 module _ (seen : ShelfSeen) (database query edits : Identifier) (cap : ℕ) (way : Planning) (auto : Bool) (d : Source (List Relation)) (read : IsDatabaseRead None seen database (Ok d)) where
   pub refused_query : (refusal : Refusal) → IsQueryRead FirstOrder d.says seen query (Err refusal) → IsWatchedFor seen database query edits cap way auto (Err refusal)
   refused_query refusal a = record { first = Ok d; is = read; next = record { first = Err refusal; is = a; next = refl } }

@@ -18,16 +18,16 @@ use Rattle.lrp_top.specs.Written.{IsWideSaid}
 use Rattle.lrp_top.specs.declared.language.QueryLanguage.TheVariants.{Wide}
 use Rattle.lrp_top.proofs.ReadingLemmas.{expanded_faults}
 use Rattle.lrp_wide.specs.Inlining.{expanded_file}
-use Rattle.lrp_wide.specs.Limits.{IsSmall}
+use Rattle.lrp_wide.specs.Limits.{IsSmallFile}
 use Rattle.lrp_wide.specs.Outcomes.{IsFileRefused}
-use Rattle.lrp_wide.specs.WideSorting.{IsWellSortedFile, or_else, own_faults}
+use Rattle.lrp_wide.specs.WideSorting.{IsWellSortedFile, faults_or_later, own_faults}
 use Rattle.lrp_wide.specs.declared.checking.WideRead.{WideRead}
 use Rattle.lrp_wide.specs.declared.checking.WideRead.TheVariants as wide
 
 -- ---- refusals
 
 -- the earliest fault of a file's own texts is that of the file
-own_first : (own others : List QueryFault) (told : QueryFault) → earliest query_standing own ≡ Some told → earliest query_standing (or_else own others) ≡ Some told
+own_first : (own others : List QueryFault) (told : QueryFault) → earliest query_standing own ≡ Some told → earliest query_standing (faults_or_later own others) ≡ Some told
 own_first [] others told h = cc
 own_first (f ∷ fs) others told h = h
 
@@ -56,6 +56,6 @@ refused_memory wide.Formulas e = cc
 refused_memory wide.Depth e = cc
 
 -- the expanded query of a file that was read can be planned where it is well-sorted
-pub lawful_file : ((bytes : List ℕ) (db : List Relation) (f : RawFileView) → IsFile bytes f → AreKept db → IsSmall db f → IsWellSortedFile db f → IsLawfulExpansion (expanded_file db f))
-    → (db : List Relation) (bytes : List ℕ) (f : RawFileView) (raw : RawQuestion) → IsFile bytes f → AreKept db → IsSmall db f → own_faults db f ≡ [] → raw ≡ expanded_file db f → IsWellSorted db raw → IsLawfulExpansion raw
+pub lawful_file : ((bytes : List ℕ) (db : List Relation) (f : RawFileView) → IsFile bytes f → AreKept db → IsSmallFile db f → IsWellSortedFile db f → IsLawfulExpansion (expanded_file db f))
+    → (db : List Relation) (bytes : List ℕ) (f : RawFileView) (raw : RawQuestion) → IsFile bytes f → AreKept db → IsSmallFile db f → own_faults db f ≡ [] → raw ≡ expanded_file db f → IsWellSorted db raw → IsLawfulExpansion raw
 lawful_file law db bytes f raw is kept small own written sorted = subst IsLawfulExpansion (sym written) (law bytes db f is kept small (expanded_faults db f raw own written ∙ sorted))

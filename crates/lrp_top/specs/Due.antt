@@ -114,7 +114,7 @@ IsOutput Tells (Ok bytes) = Tells bytes
 IsOutput Tells (Err Memory) = Unit {0}
 IsOutput Tells (Err _) = ⊥
 
--- ---- what is due behind a plan
+-- ---- what is due after a plan
 
 -- the plan is told
 abbrev pub IsExplained : Source (List Relation) → Source Question → Plan → Outcome → Type 0

@@ -79,8 +79,8 @@ pub record IsKeptOf (civil : Option CivilText) (bytes : List ℕ) (kept : KeptDa
   pub last : IfSome kept.last (IsAnswerKept kept.file)
 
 -- the database is that of its own bytes
-abbrev pub IsKept : KeptDatabase → Type 0
-IsKept kept = IsKeptOf kept.civil kept.file.bytes kept
+abbrev pub IsDatabaseKept : KeptDatabase → Type 0
+IsDatabaseKept kept = IsKeptOf kept.civil kept.file.bytes kept
 
 -- the database was read as the question reads it
 abbrev pub IsReadFor : Asked → KeptDatabase → Type 0
@@ -127,12 +127,12 @@ IsPageDue page = IsDueOver (record { files = page.files; purpose = purpose.Page 
 abbrev pub IsPageTold : PageAsked → List ℕ → List ℕ → SinkSeen → Status → Type 0
 IsPageTold page database query = IsEndedBy (IsPageDue page database query)
 
--- the page of a query over a database, behind any plan
+-- the page of a query over a database, after any plan
 abbrev pub IsPageListed : Planning → PageAsked → Source (List Relation) → Source Queried → Outcome → Type 0
 IsPageListed way page d q outcome = (p : Plan) → IsServed way (purpose.Page page.paging) d q p outcome
 
 -- the answers are those of these bytes over the database, asked with the page's words
-pub record IsBegun (page : PageAsked) (d : DatabaseFile) (query : List ℕ) (begun : Begun) : Type 0 where
+pub record IsPageBegun (page : PageAsked) (d : DatabaseFile) (query : List ℕ) (begun : Begun) : Type 0 where
   pub database : begun.file ≡ d
   pub kept : IsAnswerKept d begun.kept
   pub same : AsksSame page.files page.paging.cap query begun.kept.query
@@ -140,10 +140,10 @@ pub record IsBegun (page : PageAsked) (d : DatabaseFile) (query : List ℕ) (beg
 -- ---- purposes
 
 -- the question isn't asked for a plan or a page
-abbrev pub IsWhole : Purpose → Type 0
-IsWhole purpose.Plan = ⊥
-IsWhole (purpose.Page paging) = ⊥
-IsWhole _ = Unit {0}
+abbrev pub IsWholePurpose : Purpose → Type 0
+IsWholePurpose purpose.Plan = ⊥
+IsWholePurpose (purpose.Page paging) = ⊥
+IsWholePurpose _ = Unit {0}
 
 -- the question isn't asked for a plan
 abbrev pub IsAnswering : Purpose → Type 0

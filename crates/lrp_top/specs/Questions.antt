@@ -162,7 +162,7 @@ abbrev pub IsMadeOf : Source (List Relation) → Source Queried → Plan → Res
 IsMadeOf d q p (Ok question) = (database_source question.database ≡ d) × (query_source question.query ≡ q) × (question.plan ≡ p)
 IsMadeOf d q p (Err refusal) = ⊥
 
--- what is due behind the plan of the query in these files, whose head is to have what is needed
+-- what is due after the plan of the query in these files, whose head is to have what is needed
 abbrev pub IsAsked : {B : Type 0} → QuestionFiles → Option HeadNeed → ShelfSeen → (Source (List Relation) → Source Queried → Plan → Result B Refusal → Type 0) → Result B Refusal → Type 0
 IsAsked files need seen = IsPlannedFor (asked_files files) need seen
 
@@ -193,18 +193,18 @@ need_of (purpose.Count counting) = Some needs.Count
 need_of (purpose.Ranges ranging) = Some needs.Ranges
 need_of _ = None
 
--- these spots, and the flag, are the page of an answer that is asked for behind a tuple, where there is one
+-- these spots, and the flag, are the page of an answer that is asked for after a tuple, where there is one
 abbrev pub IsPageOf : Answer → Paging → Option Tuple → List Spot → Bool → Type 0
 IsPageOf answer paging after spots more =
     IsPage (InAnswer answer.head.columns answer.domain answer.store) paging.from paging.to after paging.limit (map (answer_tuple answer) spots) more
 
 -- what holds of a purpose that words ask for: the name of its answers' relation is a name, and the ends of its window are ends
-abbrev pub IsProper : Purpose → Type 0
-IsProper (purpose.Answer cap canon name) = IsName name.now
-IsProper (purpose.Page paging) = IsEnd paging.civil paging.from × IsEnd paging.civil paging.to
-IsProper (purpose.Count counting) = IsEnd counting.civil counting.from × IsEnd counting.civil counting.to
-IsProper (purpose.Ranges ranging) = IsEnd ranging.civil ranging.from × IsEnd ranging.civil ranging.to
-IsProper _ = Unit {0}
+abbrev pub IsProperPurpose : Purpose → Type 0
+IsProperPurpose (purpose.Answer cap canon name) = IsName name.now
+IsProperPurpose (purpose.Page paging) = IsEnd paging.civil paging.from × IsEnd paging.civil paging.to
+IsProperPurpose (purpose.Count counting) = IsEnd counting.civil counting.from × IsEnd counting.civil counting.to
+IsProperPurpose (purpose.Ranges ranging) = IsEnd ranging.civil ranging.from × IsEnd ranging.civil ranging.to
+IsProperPurpose _ = Unit {0}
 
 -- the question that a command asks, where it asks one: of which files, and for what
 abbrev pub asked_of : Command → Option Asked

@@ -1,4 +1,4 @@
--- Where a page begins: behind the tuple of a token, where there is one; or why the token is refused.
+-- Where a page begins: after the tuple of a token, where there is one; or why the token is refused.
 use Rattle.std.specs.Prelude.{◌≡◌, ◌≢◌, ℕ, ℤ, List, Option, Some, None, Result, Ok, Err}
 use Rattle.lrp_model.specs.Texts.{Text}
 use Rattle.lrp_model.specs.Rows.{Tuple}
@@ -39,7 +39,7 @@ pub record IsStale (current : List ℕ) (head : List Column) (text : Text) : Typ
   pub counts : HasCounts (shape_of head) times texts
   pub other : digest ≢ current
 
--- where a page begins. Without a token: nowhere. Ok: behind the tuple of the token. Refused: why the text is no such token
+-- where a page begins. Without a token: nowhere. Ok: after the tuple of the token. Refused: why the text is no such token
 abbrev pub IsResumed : List ℕ → List Column → Option Text → Result (Option Tuple) Refusal → Type 0
 IsResumed current head None result = result ≡ Ok None
 IsResumed current head (Some text) (Ok None) = ⊥

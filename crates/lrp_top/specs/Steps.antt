@@ -1,8 +1,8 @@
--- Steps that may be refused, one behind the other.
+-- Steps that may be refused, one after the other.
 use Rattle.std.specs.Prelude.{◌≡◌, Result, Ok, Err}
 use Rattle.lrp_outputs.specs.declared.refusal.Refusal.{Refusal}
 
--- what comes behind a step: where that one is refused, the same refusal
+-- what comes after a step: where that one is refused, the same refusal
 abbrev pub Behind : {A B : Type 0} → Result A Refusal → (A → Result B Refusal → Type 0) → Result B Refusal → Type 0
 Behind (Ok a) Next result = Next a result
 Behind (Err refusal) Next result = result ≡ Err refusal

@@ -57,7 +57,7 @@ pub record TellsRanges (db : List Relation) (q : Question) (from to : ℤ) (limi
   pub are : AreRanges (IsAnswerTime (IsAnswer db q)) from to limit ranges more
   pub spelled : bytes ≡ ranges_bytes civil json ranges more
 
--- the text is that of the page of the query's answers in the window behind a tuple, with tokens of the files' digest
+-- the text is that of the page of the query's answers in the window after a tuple, with tokens of the files' digest
 pub record TellsPage (db : List Relation) (q : Question) (from to : ℤ) (after : Option Tuple) (limit : ℕ) (civil json : Bool) (digest : List ℕ) (bytes : List ℕ) : Type 0 where
   pub page : List Tuple
   pub more : Bool

@@ -17,7 +17,7 @@ use Rattle.lrp_top.specs.declared.language.QueryLanguage.TheVariants.{FirstOrder
 use Rattle.lrp_model.specs.RawQueries.{RawFileView}
 use Rattle.lrp_model.specs.QueryReading.{IsFile, IsFileFault}
 use Rattle.lrp_wide.specs.Inlining.{expanded_file}
-use Rattle.lrp_wide.specs.Limits.{IsSmall}
+use Rattle.lrp_wide.specs.Limits.{IsSmallFile}
 use Rattle.lrp_wide.specs.Meaning.{IsWideAnswer}
 use Rattle.lrp_wide.specs.WideSorting.{IsWellSortedFile, IsFileSortFault, own_faults}
 use Rattle.lrp_tense.specs.Expanding.{expanded_question}
@@ -62,7 +62,7 @@ pub record IsTenseSorted (db : List Relation) (bytes : List ℕ) (q : Question) 
 pub record IsWideSorted (civil : Bool) (db : List Relation) (bytes : List ℕ) (q : Question) : Type 0 where
   pub file : RawFileView
   pub is : IsFile (query_plain civil bytes) file
-  pub small : IsSmall db file
+  pub small : IsSmallFile db file
   pub sorted : IsWellSortedFile db file
   pub plain : q ≡ plain_question (expanded_file db file)
   pub answers : (tuple : Tuple) → IsAnswer db q tuple ↔ IsWideAnswer db file tuple
@@ -71,7 +71,7 @@ pub record IsWideSorted (civil : Bool) (db : List Relation) (bytes : List ℕ) (
 pub record IsWideSaid (civil : Bool) (db : List Relation) (bytes : List ℕ) (raw : RawQuestion) : Type 0 where
   pub file : RawFileView
   pub is : IsFile (query_plain civil bytes) file
-  pub small : IsSmall db file
+  pub small : IsSmallFile db file
   pub sorted : own_faults db file ≡ []
   pub written : raw ≡ expanded_file db file
 
@@ -114,7 +114,7 @@ pub record IsTenseUnsortedBy (db : List Relation) (bytes : List ℕ) (fault : Qu
 pub record IsWideUnsortedBy (civil : Bool) (db : List Relation) (bytes : List ℕ) (fault : QueryFault) : Type 0 where
   pub file : RawFileView
   pub is : IsFile (query_plain civil bytes) file
-  pub small : IsSmall db file
+  pub small : IsSmallFile db file
   pub unsorted : IsFileSortFault db file fault
 
 -- the bytes are a file of the wide language whose expanded query has too many formulas, or else one that is too deep

@@ -5,7 +5,7 @@ ghost use Rattle.lrp_top.specs.Languages.{usual_by};
 ghost use Rattle.lrp_top.specs.Due.{IsDue, IsDueOf, IsDatabaseRead, IsOutput, IsLengthOrMemory, files_named, files_of};
 ghost use Rattle.lrp_top.specs.Lengths.{TellsLength};
 ghost use Rattle.lrp_outputs.specs.Outputs.{told};
-ghost use Rattle.lrp_top.specs.Questions.{IsProper, IsAsked, IsServed, asked_of, need_of};
+ghost use Rattle.lrp_top.specs.Questions.{IsProperPurpose, IsAsked, IsServed, asked_of, need_of};
 ghost use Rattle.lrp_top.specs.Seen.{IsOverrun};
 ghost use Rattle.lrp_top.specs.Steps.{Then};
 ghost use Rattle.lrp_top.specs.Telling.{TellsRelations};
@@ -122,7 +122,7 @@ fn check<F: Shelf>(
 
 /// What is told of a query over a database for a purpose.
 fn answer_to<F: Shelf>(alloc: Global, asked: &Asked<'_>, shelf: &mut F) -> Result<Output, Refusal>
-    requires proper { IsProper asked.now.purpose }
+    requires proper { IsProperPurpose asked.now.purpose }
     ensures due { IsAsked asked.now.files (need_of asked.now.purpose)
         (⟦<F as Watched>⟧.seen shelf.old shelf.new)
         (IsServed asked.now.files.planning asked.now.purpose) (told result) }

@@ -1,7 +1,7 @@
 // A database that is kept, and the answers of the page that was asked of it last.
 ghost use Rattle.std.specs.Prelude.{◌≡◌, ◌≤◌, IfOk, IfSome, IsTrue, Some, length};
 ghost use Rattle.lrp_model.specs.Limits.{most_bytes};
-ghost use Rattle.lrp_top.specs.Keeping.{AsksAgain, AsksSame, IsKept, IsReadFor};
+ghost use Rattle.lrp_top.specs.Keeping.{AsksAgain, AsksSame, IsDatabaseKept, IsReadFor};
 
 use crate::asking::Asked;
 use crate::files::{DatabaseFile, QueryFile};
@@ -42,7 +42,7 @@ pub struct KeptDatabase {
 /// The database of a file's bytes, read as a question reads it, of which nothing was asked yet.
 pub fn keep(alloc: Global, bytes: List<u8>, asked: &Asked<'_>) -> Result<KeptDatabase, Refusal>
     requires { length bytes ≤ most_bytes }
-    ensures kept { IfOk result IsKept }
+    ensures kept { IfOk result IsDatabaseKept }
     ensures bytes { IfOk result (λ kept. kept.file.bytes ≡ bytes) }
     ensures reads { IfOk result (IsReadFor asked.now) }
 {

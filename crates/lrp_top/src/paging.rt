@@ -7,8 +7,8 @@ ghost use Rattle.lrp_outputs.specs.Outputs.{page_text};
 ghost use Rattle.lrp_token.specs.Files.{files_digest};
 ghost use Rattle.lrp_top.specs.Due.{IsCounted, IsOutput, IsPlannedAs};
 ghost use Rattle.lrp_top.specs.Ends.{Ends};
-ghost use Rattle.lrp_top.specs.Keeping.{IsAnswerKept, IsAnswering, IsBegun, IsEndedBy, IsFileRead, IsKept, IsKeptOf, IsPageDue, IsPageListed, IsPageTold, IsQuerySaid, IsReadFor, IsToldOf, IsWhole, MeansDue, civil_asked, language_asked};
-ghost use Rattle.lrp_top.specs.Questions.{IsProper, IsReady, database_source, query_source};
+ghost use Rattle.lrp_top.specs.Keeping.{IsAnswerKept, IsAnswering, IsPageBegun, IsEndedBy, IsFileRead, IsDatabaseKept, IsKeptOf, IsPageDue, IsPageListed, IsPageTold, IsQuerySaid, IsReadFor, IsToldOf, IsWholePurpose, MeansDue, civil_asked, language_asked};
+ghost use Rattle.lrp_top.specs.Questions.{IsProperPurpose, IsReady, database_source, query_source};
 ghost use Rattle.lrp_top.specs.Resuming.{shape_of};
 ghost use Rattle.lrp_top.specs.Telling.{TellsPage};
 ghost use Rattle.lrp_top.specs.declared.purpose.Purpose.TheVariants as purpose;
@@ -56,7 +56,7 @@ pub struct Begun {
 
 /// The question that words ask for answers, where they ask one.
 pub fn question_in(words: &[String]) -> Option<Asked<'_>>
-    ensures proper { IfSome result (λ asked. IsProper asked.purpose) }
+    ensures proper { IfSome result (λ asked. IsProperPurpose asked.purpose) }
     ensures answers { IfSome result (λ asked. IsAnswering asked.purpose) }
     ensures due { IfSome result (MeansDue words.now) }
 {
@@ -88,14 +88,14 @@ pub fn ask<S: Sink>(
     kept: KeptDatabase,
     out: &mut S,
 ) -> Told
-    requires proper { IsProper asked.now.purpose }
+    requires proper { IsProperPurpose asked.now.purpose }
     requires answers { IsAnswering asked.now.purpose }
-    requires kept { IsKept kept }
+    requires kept { IsDatabaseKept kept }
     requires reads { IsReadFor asked.now kept }
     requires short { length query ≤ most_bytes }
     ensures told { IsToldOf asked.now kept.file.bytes query
         (⟦<S as Filled>⟧.taken out.old out.new) result.status }
-    ensures kept { IsKept result.kept }
+    ensures kept { IsDatabaseKept result.kept }
     ensures bytes { result.kept.file.bytes ≡ kept.file.bytes }
 {
     match &asked.purpose {
@@ -118,8 +118,8 @@ fn ask_whole<S: Sink>(
     kept: KeptDatabase,
     out: &mut S,
 ) -> Told
-    requires proper { IsProper asked.now.purpose }
-    requires whole { IsWhole asked.now.purpose }
+    requires proper { IsProperPurpose asked.now.purpose }
+    requires whole { IsWholePurpose asked.now.purpose }
     requires kept { IsKeptOf (civil_asked asked.now.files) kept.file.bytes kept }
     requires short { length query ≤ most_bytes }
     ensures told { IsToldOf asked.now kept.file.bytes query
@@ -141,7 +141,7 @@ fn ask_page<S: Sink>(
     kept: KeptDatabase,
     out: &mut S,
 ) -> Told
-    requires proper { IsProper (purpose.Page page.now.paging) }
+    requires proper { IsProperPurpose (purpose.Page page.now.paging) }
     requires kept { IsKeptOf (civil_asked page.now.files) kept.file.bytes kept }
     requires short { length query ≤ most_bytes }
     ensures told { IsPageTold page.now kept.file.bytes query
@@ -167,7 +167,7 @@ fn first_page<S: Sink>(
     file: DatabaseFile,
     out: &mut S,
 ) -> Told
-    requires proper { IsProper (purpose.Page page.now.paging) }
+    requires proper { IsProperPurpose (purpose.Page page.now.paging) }
     requires read { IsFileRead (civil_asked page.now.files) file }
     requires short { length query ≤ most_bytes }
     ensures told { IsPageTold page.now file.bytes query
@@ -208,7 +208,7 @@ fn begin(
 ) -> Result<Begun, Unasked>
     requires read { IsFileRead (civil_asked page.now.files) file }
     requires short { length query ≤ most_bytes }
-    ensures begun { IfOk result (IsBegun page.now file query) }
+    ensures begun { IfOk result (IsPageBegun page.now file query) }
     ensures refused { IfErr result (λ unasked.
         IsPageDue page.now file.bytes query (Err unasked.refusal)) }
     ensures file { IfErr result (λ unasked. unasked.file ≡ file) }
@@ -226,7 +226,7 @@ fn answers_for(alloc: Global, page: &PageAsked<'_>, question: Question) -> Resul
     requires planning { question.planning ≡ page.now.files.planning }
     requires planned { IsPlannedAs question.planning Nothing question.database.relations
         (question_of question.query.query) (Ok question.plan) }
-    ensures begun { IfOk result (IsBegun page.now question.database question.query.bytes) }
+    ensures begun { IfOk result (IsPageBegun page.now question.database question.query.bytes) }
     ensures refused { IfErr result (λ unasked. IsPageListed question.planning page.now
         (database_source question.database) (query_source question.query)
         (Err unasked.refusal)) }
@@ -259,7 +259,7 @@ fn answered(
     requires planned { IsPlannedAs question.planning Nothing question.database.relations
         (question_of question.query.query) (Ok question.plan) }
     requires digest { files ≡ files_digest question.database.bytes question.query.bytes }
-    ensures begun { IfOk result (IsBegun page.now question.database question.query.bytes) }
+    ensures begun { IfOk result (IsPageBegun page.now question.database question.query.bytes) }
     ensures refused { IfErr result (λ unasked. IsCounted question.planning
         question.database.relations (question_of question.query.query) page.now.paging.cap
         (Err unasked.refusal)) }
@@ -295,9 +295,9 @@ fn unasked_of(refusal: Refusal, question: Question) -> Unasked
 
 /// Writes a page of the answers that are kept, or why its token is refused.
 fn next_page<S: Sink>(alloc: Global, page: &PageAsked<'_>, begun: Begun, out: &mut S) -> Told
-    requires proper { IsProper (purpose.Page page.now.paging) }
+    requires proper { IsProperPurpose (purpose.Page page.now.paging) }
     requires read { IsFileRead (civil_asked page.now.files) begun.file }
-    requires begun { IsBegun page.now begun.file begun.kept.query.file.bytes begun }
+    requires begun { IsPageBegun page.now begun.file begun.kept.query.file.bytes begun }
     ensures told { IsPageTold page.now begun.file.bytes begun.kept.query.file.bytes
         (⟦<S as Filled>⟧.taken out.old out.new) result.status }
     ensures kept { IsKeptOf (civil_asked page.now.files) begun.file.bytes result.kept }
@@ -316,7 +316,7 @@ fn next_page<S: Sink>(alloc: Global, page: &PageAsked<'_>, begun: Begun, out: &m
     }
 }
 
-/// Writes the page of the answers that are kept behind a tuple, where there is one.
+/// Writes the page of the answers that are kept after a tuple, where there is one.
 fn page_from<S: Sink>(
     alloc: Global,
     page: &PageAsked<'_>,
@@ -324,7 +324,7 @@ fn page_from<S: Sink>(
     after: Option<&Tuple>,
     out: &mut S,
 ) -> Told
-    requires proper { IsProper (purpose.Page page.now.paging) }
+    requires proper { IsProperPurpose (purpose.Page page.now.paging) }
     requires read { IsFileRead (civil_asked page.now.files) begun.file }
     requires kept { IsAnswerKept begun.file begun.kept }
     requires after { IfSome after (λ t. HasShapeOf

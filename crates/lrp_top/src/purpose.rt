@@ -57,7 +57,7 @@ fn needed_by(canon: bool) -> Option<HeadNeed>
     if canon { Some(HeadNeed::Canon) } else { None }
 }
 
-/// What a page is asked for: a window, at most how many lines, a token behind which it begins, its form, a cap on the
+/// What a page is asked for: a window, at most how many lines, a token after which it begins, its form, a cap on the
 /// cells of each step, and whether its times are shown as dates.
 #[derive(Clone, Copy)]
 pub struct Paging<'a> {

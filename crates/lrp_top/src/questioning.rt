@@ -5,8 +5,8 @@ ghost use Rattle.lrp_top.specs.Due.{IsPlannedAs};
 ghost use Rattle.lrp_model.specs.Limits.{most_bytes};
 ghost use Rattle.lrp_outputs.specs.Outputs.{told};
 ghost use Rattle.lrp_top.specs.Heads.{IsHeadFor};
-ghost use Rattle.lrp_top.specs.Keeping.{IsDueOver, IsFileRead, IsQuerySaid, IsWhole, civil_asked, language_asked, unasked_as};
-ghost use Rattle.lrp_top.specs.Questions.{IsProper, IsAsked, IsMadeOf, IsReady, IsServed, database_source, need_of, query_source};
+ghost use Rattle.lrp_top.specs.Keeping.{IsDueOver, IsFileRead, IsQuerySaid, IsWholePurpose, civil_asked, language_asked, unasked_as};
+ghost use Rattle.lrp_top.specs.Questions.{IsProperPurpose, IsAsked, IsMadeOf, IsReady, IsServed, database_source, need_of, query_source};
 ghost use Rattle.lrp_top.specs.Seen.{AreBytesOf, ShelfSeen};
 
 use crate::asking::Asked;
@@ -38,8 +38,8 @@ pub struct Served {
 
 /// What the question of a query's bytes over a database comes to.
 pub fn answer_over(alloc: Global, asked: &Asked<'_>, query: List<u8>, file: DatabaseFile) -> Served
-    requires proper { IsProper asked.now.purpose }
-    requires whole { IsWhole asked.now.purpose }
+    requires proper { IsProperPurpose asked.now.purpose }
+    requires whole { IsWholePurpose asked.now.purpose }
     requires read { IsFileRead (civil_asked asked.now.files) file }
     requires short { length query ≤ most_bytes }
     ensures due { IsDueOver asked.now file.bytes query (told result.outcome) }
@@ -105,8 +105,8 @@ pub fn question_over(
 /// What is told of a question for a purpose, and its database.
 fn serve_lent(alloc: Global, question: Question, purpose: &Purpose<'_>) -> Served
     requires ready { IsReady question }
-    requires proper { IsProper purpose.now }
-    requires whole { IsWhole purpose.now }
+    requires proper { IsProperPurpose purpose.now }
+    requires whole { IsWholePurpose purpose.now }
     requires head { IsHeadFor (need_of purpose.now) question.query.query.head.columns }
     ensures served { IsServed question.planning purpose.now (database_source question.database)
         (query_source question.query) question.plan (told result.outcome) }
@@ -122,8 +122,8 @@ fn serve_lent(alloc: Global, question: Question, purpose: &Purpose<'_>) -> Serve
 /// What is told of all answers of a question.
 fn told_whole(alloc: Global, question: &Question, purpose: &Purpose<'_>) -> Result<Output, Refusal>
     requires ready { IsReady question.now }
-    requires proper { IsProper purpose.now }
-    requires whole { IsWhole purpose.now }
+    requires proper { IsProperPurpose purpose.now }
+    requires whole { IsWholePurpose purpose.now }
     requires head { IsHeadFor (need_of purpose.now) question.now.query.query.head.columns }
     ensures served { IsServed question.now.planning purpose.now
         (database_source question.now.database) (query_source question.now.query)

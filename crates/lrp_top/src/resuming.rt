@@ -1,4 +1,4 @@
-// Where a page begins: behind the tuple of a token, where there is one.
+// Where a page begins: after the tuple of a token, where there is one.
 ghost use Rattle.std.specs.Prelude.{◌≡◌, ◌≤◌, IfOk, IfSome};
 ghost use Rattle.lrp_list.specs.Listing.{HasShapeOf};
 ghost use Rattle.lrp_model.specs.Sorts.{time_count, text_count};

@@ -2,7 +2,7 @@
 ghost use Rattle.std.specs.Prelude.{◌≤◌, IfOk, ℕ};
 ghost use Rattle.lrp_eval.specs.Answered.{IsAnswerOf};
 ghost use Rattle.lrp_sample.specs.Trees.{sample_question, sample_relations};
-ghost use Rattle.lrp_sample_laws.specs.Plans.{IsSampleSize, sample_steps};
+ghost use Rattle.lrp_sample.specs.Plans.{IsSampleSize, sample_steps};
 ghost use Rattle.lrp_store.specs.Least.{HasRoom};
 ghost use Rattle.lrp_top.specs.Due.{IsOutput};
 ghost use Rattle.lrp_outputs.specs.Outputs.{sample_text, told};
@@ -19,8 +19,10 @@ use lrp_answers::Answer;
 use lrp_eval::whole_pages_count_answers;
 use lrp_model::{Memory, Planning};
 use lrp_outputs::{Output, Refusal, Report};
-use lrp_sample::{Texts, sample_query_is_well_sorted, sample_texts, sample_texts_are_read};
-use lrp_sample_laws::{sample_has_few_answers, sample_has_few_cells, sample_is_within_limits};
+use lrp_sample::{
+    Texts, sample_has_few_answers, sample_has_few_cells, sample_is_within_limits,
+    sample_query_is_well_sorted, sample_texts, sample_texts_are_read,
+};
 use std::alloc::Global;
 use std::marker::Brand;
 use std::sync::ledger::Blank;

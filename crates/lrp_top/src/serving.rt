@@ -13,7 +13,7 @@ ghost use Rattle.lrp_top.specs.Canonical.{IsCanonicalText};
 ghost use Rattle.lrp_top.specs.Heads.{IsHeadFor, canon_need};
 ghost use Rattle.lrp_top.specs.Due.{AreRowsCounted, IsAnswered, IsCounted, IsDecided, IsOutput};
 ghost use Rattle.lrp_outputs.specs.Outputs.{least_of as least_tuple, told, witness_text};
-ghost use Rattle.lrp_top.specs.Questions.{IsProper, IsReady, IsServed, database_source, done_as, need_of, query_source, question_steps};
+ghost use Rattle.lrp_top.specs.Questions.{IsProperPurpose, IsReady, IsServed, database_source, done_as, need_of, query_source, question_steps};
 ghost use Rattle.lrp_outputs.specs.First.{IsFirst};
 ghost use Rattle.lrp_top.specs.Steps.{Then};
 ghost use Rattle.lrp_top.specs.Telling.{TellsWitness};
@@ -34,10 +34,10 @@ use lrp_outputs::{
 use lrp_theory::floors_keep_bounds;
 use std::alloc::Global;
 
-/// What is told of a question for a purpose, or the first refusal behind its plan.
+/// What is told of a question for a purpose, or the first refusal after its plan.
 pub fn serve(alloc: Global, question: Question, purpose: &Purpose<'_>) -> Result<Output, Refusal>
     requires ready { IsReady question }
-    requires proper { IsProper purpose.now }
+    requires proper { IsProperPurpose purpose.now }
     requires head { IsHeadFor (need_of purpose.now) question.query.query.head.columns }
     ensures served { IsServed question.planning purpose.now (database_source question.database)
         (query_source question.query) question.plan (told result) }

@@ -1,4 +1,4 @@
--- Where the page begins, and what is due behind that.
+-- Where the page begins, and what is due after that.
 use Rattle.std.proofs.Common.{◌≡◌, ◌≤◌, Err, Ok, List, Option, refl, sym, ap₂, subst, ◌∙◌}
 use Rattle.std.specs.Prelude.{ℕ, IfSome}
 use Rattle.lrp_list.specs.Listing.{HasShapeOf}

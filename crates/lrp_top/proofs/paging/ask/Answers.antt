@@ -1,12 +1,12 @@
 -- A page, or what is told of all answers.
 use Rattle.std.proofs.Common.{subst}
-use Rattle.lrp_top.specs.Questions.{IsProper}
+use Rattle.lrp_top.specs.Questions.{IsProperPurpose}
 use Rattle.lrp_top.proofs.KeepingLemmas.{kept_as, kept_own}
 use Rattle.lrp_top.proofs.PagingLemmas.{asked_told}
 use Rattle.lrp_top.proofs.paging.ask.Goals as goal
 
 pub ask_page-requires-clause-proper : goal.ask_page-requires-clause-proper
-ask_page-requires-clause-proper g c = subst IsProper c.in-Page.is c.requires.proper
+ask_page-requires-clause-proper g c = subst IsProperPurpose c.in-Page.is c.requires.proper
 
 pub ask_page-requires-clause-kept : goal.ask_page-requires-clause-kept
 ask_page-requires-clause-kept g c = kept_as _ c.args.kept c.requires.reads c.requires.kept

@@ -5,7 +5,7 @@ use Rattle.lrp_model.specs.Formulas.{question_of}
 use Rattle.lrp_model.specs.declared.plans.Planning.{Planning}
 use Rattle.lrp_words.specs.Commands.{asked_files}
 use Rattle.lrp_top.specs.Due.{IsPlannedAs}
-use Rattle.lrp_top.specs.Keeping.{IsBegun, IsPageDue, IsQuerySaid, language_asked}
+use Rattle.lrp_top.specs.Keeping.{IsPageBegun, IsPageDue, IsQuerySaid, language_asked}
 use Rattle.lrp_top.specs.Questions.{IsMadeOf, IsServed, database_source, query_source}
 use Rattle.lrp_top.specs.declared.files.DatabaseFile.{DatabaseFile}
 use Rattle.lrp_top.specs.declared.purpose.Purpose.TheVariants as purpose
@@ -25,7 +25,7 @@ pub returns-in-Ok-clause-begun : goal.returns-in-Ok-clause-begun
 returns-in-Ok-clause-begun c =
     let page = c.args.page.now in
     let made = c.answers_for.result in
-    subst (λ (d : DatabaseFile). IfOk made (IsBegun page d c.args.query)) c.in-Ok.ensures.database (subst (λ (bytes : List ℕ). IfOk made (IsBegun page c.in-Ok.question.database bytes)) c.in-Ok.ensures.bytes c.answers_for.ensures.begun)
+    subst (λ (d : DatabaseFile). IfOk made (IsPageBegun page d c.args.query)) c.in-Ok.ensures.database (subst (λ (bytes : List ℕ). IfOk made (IsPageBegun page c.in-Ok.question.database bytes)) c.in-Ok.ensures.bytes c.answers_for.ensures.begun)
 
 pub returns-in-Ok-clause-refused : goal.returns-in-Ok-clause-refused
 returns-in-Ok-clause-refused c =

@@ -1,4 +1,4 @@
--- Where the page begins, and what is due behind that.
+-- Where the page begins, and what is due after that.
 use Rattle.std.proofs.Common.{◌≤◌, Ok, Err, List, Option, refl, sym, subst}
 use Rattle.std.specs.Prelude.{IfSome, ℕ}
 use Rattle.lrp_list.specs.Listing.{HasShapeOf}

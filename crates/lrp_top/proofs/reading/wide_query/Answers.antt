@@ -6,7 +6,7 @@ use Rattle.lrp_top.specs.Questions.{IsMemory, IsUnreadIn}
 use Rattle.lrp_top.specs.declared.language.QueryLanguage.TheVariants.{Wide}
 use Rattle.lrp_top.proofs.WideLemmas.{unread_file, file_refused, unread_every_file, refused_memory, lawful_file}
 use Rattle.lrp_wide.specs.Inlining.{expanded_file}
-use Rattle.lrp_wide.specs.Limits.{IsSmall}
+use Rattle.lrp_wide.specs.Limits.{IsSmallFile}
 use Rattle.lrp_wide.specs.WideSorting.{own_faults}
 use Rattle.std.specs.Prelude.{false}
 use Rattle.lrp_top.proofs.reading.wide_query.Goals as goal
@@ -52,6 +52,6 @@ pub returns-in-Err-clause-every : goal.returns-in-Err-clause-every
 returns-in-Err-clause-every c =
     λ raw said.
     let same : raw_file_of c.in_ok-file.file ≡ said.file = c.in_ok-file.ensures.every_file said.file said.is in
-    let small : IsSmall c.args.database.now (raw_file_of c.in_ok-file.file) = subst (IsSmall c.args.database.now) (sym same) said.small in
+    let small : IsSmallFile c.args.database.now (raw_file_of c.in_ok-file.file) = subst (IsSmallFile c.args.database.now) (sym same) said.small in
     let own : own_faults c.args.database.now (raw_file_of c.in_ok-file.file) ≡ [] = subst (λ f. own_faults c.args.database.now f ≡ []) (sym same) said.sorted in
     subst IsMemory (sym c.refusal.ensures) (refused_memory c.in-Err.read (c.in-Err.ensures.every_file small own))

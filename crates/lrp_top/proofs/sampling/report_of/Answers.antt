@@ -1,6 +1,6 @@
 -- The page of the first day has all of its answers.
 use Rattle.std.proofs.Common.{refl}
-use Rattle.lrp_sample_laws.specs.Plans.{sample_steps}
+use Rattle.lrp_sample.specs.Plans.{sample_steps}
 use Rattle.lrp_sample.specs.Trees.{sample_question, sample_relations}
 use Rattle.lrp_outputs.specs.declared.report.Report.{Report}
 use Rattle.lrp_top.proofs.SampleLemmas.{told_sample}
