@@ -25,7 +25,7 @@ range_grows f a (suc n) =
 pub range_more : {A : Type 0} (f : ℕ → List A) (n : ℕ) → flat_map f (range_with_len 0 (n + 1)) ≡ flat_map f (range_with_len 0 n) ++ f n
 range_more f n = let e : 0 + n ≡ n = omega arith in rw add-one (range_grows f 0 n ∙ ap (λ m. flat_map f (range_with_len 0 n) ++ f m) e)
 
--- behind what was there, one more
+-- after what was there, one more
 pub pushed : {A : Type 0} (f : ℕ → List A) (n : ℕ) (old now new : List A) → now ≡ old ++ flat_map f (range_with_len 0 n) → new ≡ now ++ f n → new ≡ old ++ flat_map f (range_with_len 0 (n + 1))
 pushed f n old now new e g = g ∙ ap (λ r. r ++ f n) e ∙ append_assoc old (flat_map f (range_with_len 0 n)) (f n) ∙ ap (λ r. old ++ r) (sym (range_more f n))
 

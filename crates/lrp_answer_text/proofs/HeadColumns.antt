@@ -53,7 +53,7 @@ other_name m n e d = let t : bytes_eq n m ≡ true = (bytes_decides n m).1 (sym 
 abbrev AreNew : List Identifier → List RawColumn → Type 0
 AreNew before cs = AllByRecursion (λ c. is_named_in before c.name ≡ false) cs
 
--- none of them has the first one's name, and none one behind it
+-- none of them has the first one's name, and none one after it
 first_new : (n : Identifier) (before : List Identifier) (cs : List RawColumn) → AreNew (n ∷ before) cs → AllByRecursion (λ m. n ≢ m) (map (λ c. c.name) (map column_of cs)) × AreNew before cs
 first_new n before [] h = (tt, tt)
 first_new n before (c ∷ cs) h =

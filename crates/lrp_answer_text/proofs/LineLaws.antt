@@ -15,7 +15,7 @@ use Rattle.lrp_answer_text.specs.AnswerText.{residue_point, answer_value}
 use Rattle.lrp_answer_text.specs.Lines.{tuple_line, spelled_datum, values_behind}
 use Rattle.lrp_answers.proofs.HeadOrder.{head_is}
 
--- what is left of a list behind its first element
+-- what is left of a list after its first element
 rest_is : {A : Type 0} (x : A) (xs : List A) → take (length (x ∷ xs) - 1) xs ≡ xs
 rest_is x xs = take_all (length (x ∷ xs) - 1) xs (omega arith)
 
@@ -32,7 +32,7 @@ text_put Time xs t ts rest e = absurd (clash e)
 text_put Data xs t ts rest e = refl
 text_put (Named name) xs t ts rest e = refl
 
--- the first column's time, and the others behind it
+-- the first column's time, and the others after it
 pub time_first : (times : ℤ → List ℕ) (before between : List ℕ) (cs : List Column) (c : Column) (xs : List ℤ) (d : ℤ) (ts : List Text) → 1 ≤ length cs → c ≡ get_or cs 0 c → is_time c.sort ≡ true → 1 ≤ length xs
     → (before ++ times (get_or xs 0 d)) ++ values_behind times between between (in_head_order (take (length cs - 1) (drop 1 cs)) (take (length xs - 1) (drop 1 xs)) ts) ≡ values_behind times before between (in_head_order cs xs ts)
 time_first times before between [] c xs d ts l e k m = absurd (omega arith)
@@ -42,7 +42,7 @@ time_first times before between (b ∷ cs) c (x ∷ xs) d ts l e k m =
     ∙ append_assoc before (times x) (values_behind times between between (in_head_order cs xs ts))
     ∙ ap (values_behind times before between) (sym (time_put b.sort x xs ts (in_head_order cs) (ap (λ a. is_time a.sort) (sym e) ∙ k)))
 
--- the first column's text, and the others behind it
+-- the first column's text, and the others after it
 pub text_first : (times : ℤ → List ℕ) (domain : List Text) (before between : List ℕ) (cs : List Column) (c : Column) (xs : List ℤ) (ns : List ℕ) → 1 ≤ length cs → c ≡ get_or cs 0 c → is_time c.sort ≡ false → 1 ≤ length ns
     → (before ++ quoted (text_at domain (get_or ns 0 0))) ++ values_behind times between between (in_head_order (take (length cs - 1) (drop 1 cs)) xs (texts_at domain (take (length ns - 1) (drop 1 ns)))) ≡ values_behind times before between (in_head_order cs xs (texts_at domain ns))
 text_first times domain before between [] c xs ns l e k m = absurd (omega arith)
@@ -52,12 +52,12 @@ text_first times domain before between (b ∷ cs) c xs (n ∷ ns) l e k m =
     ∙ append_assoc before (quoted (text_at domain n)) (values_behind times between between (in_head_order cs xs (texts_at domain ns)))
     ∙ ap (values_behind times before between) (sym (text_put b.sort xs (text_at domain n) (texts_at domain ns) (in_head_order cs) (ap (λ a. is_time a.sort) (sym e) ∙ k)))
 
--- a value and those behind it
+-- a value and those after it
 joined_more : (times : ℤ → List ℕ) (between : List ℕ) (d : Datum) (ds : Tuple) → spelled_datum times d ++ values_behind times between between ds ≡ joined_by between (spelled_datum times) (d ∷ ds)
 joined_more times between d [] = append-nil (spelled_datum times d)
 joined_more times between d (e ∷ es) = ap (λ r. spelled_datum times d ++ (between ++ r)) (joined_more times between e es)
 
--- the first value behind no bytes
+-- the first value after no bytes
 pub joined_behind : (times : ℤ → List ℕ) (between : List ℕ) (tuple : Tuple) → values_behind times [] between tuple ≡ joined_by between (spelled_datum times) tuple
 joined_behind times between [] = refl
 joined_behind times between (d ∷ ds) = joined_more times between d ds

@@ -27,7 +27,7 @@ tuple_line times false [] = codes "()\n"
 tuple_line times false (d ∷ ds) = joined_by (codes ", ") (spelled_datum times) (d ∷ ds) ++ codes "\n"
 tuple_line times true tuple = codes "[" ++ (joined_by (codes ",") (spelled_datum times) tuple ++ codes "]\n")
 
--- the values of a tuple, the first behind some bytes and each further one behind others
+-- the values of a tuple, the first after some bytes and each further one after others
 abbrev pub values_behind : (ℤ → List ℕ) → List ℕ → List ℕ → Tuple → List ℕ
 values_behind times before between [] = []
 values_behind times before between (d ∷ ds) = before ++ (spelled_datum times d ++ values_behind times between between ds)

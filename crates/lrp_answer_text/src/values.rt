@@ -28,7 +28,7 @@ pub(crate) struct Values<'a, 'v> {
     pub numbers: &'v [u32],
 }
 
-// The values in head order, the first behind some bytes and each further one behind others.
+// The values in head order, the first after some bytes and each further one after others.
 pub(crate) fn write_values<S: Sink, T: Notation<Item = i64>>(
     out: &mut S,
     spelling: &Spelling<'_, T>,
@@ -82,7 +82,7 @@ pub(crate) fn write_values<S: Sink, T: Notation<Item = i64>>(
     }
 }
 
-// A time behind these bytes.
+// A time after these bytes.
 fn write_time<S: Sink, T: Notation<Item = i64>>(
     out: &mut S,
     spelling: &Spelling<'_, T>,
@@ -98,7 +98,7 @@ fn write_time<S: Sink, T: Notation<Item = i64>>(
     spelling.times.write(out, time)
 }
 
-// A text of the domain in quotes, by its number, behind these bytes.
+// A text of the domain in quotes, by its number, after these bytes.
 fn write_text<S: Sink>(
     out: &mut S,
     texts: Option<&JsonTexts>,

@@ -7,14 +7,14 @@ use Rattle.lrp_io.specs.declared.shelf.File.{File}
 use Rattle.lrp_outputs.specs.declared.status.Status.{Status}
 use Rattle.lrp_c.specs.Calls.{AreUnpacked, IsReplied, IsReply, IsRunOver, IsUnreplied}
 use Rattle.lrp_c.specs.Packed.{framed_file, packed_files, packed_words}
-use Rattle.lrp_c.specs.Sessions.{IsAsked, IsTold, closing_number}
+use Rattle.lrp_c.specs.Sessions.{IsHandleAsked, IsReplyTold, closing_number}
 use Rattle.lrp_c.specs.declared.packed.Unread.{Unread}
 use Rattle.lrp_c.specs.declared.packed.Unread.TheVariants as unread
 use Rattle.lrp_c.specs.declared.reply.Reply.{Reply}
 
 -- words and files whose reply is told, or why there is none
 pub call_of : {words files whole room new : List ℕ} {count : ℕ} {number : ℤ} (reply : Result Reply Unread) → IfOk reply (λ r. IsReply words whole r.text.items r.status) → (IsErrOf reply unread.Unpacked → AreUnpacked words files)
-    → IsTold reply room new count number → IsReplied words whole room new count number ⊎ (IsUnreplied 8 room new count number ⊎ (IsUnreplied 10 room new count number × AreUnpacked words files))
+    → IsReplyTold reply room new count number → IsReplied words whole room new count number ⊎ (IsUnreplied 8 room new count number ⊎ (IsUnreplied 10 room new count number × AreUnpacked words files))
 call_of (Ok reply) is un told = inl (record { text = reply.text.items; ended = reply.status; reply = is; written = told.0; counted = told.1; numbered = told.2 })
 call_of (Err unread.Memory) is un told = inr (inl told)
 call_of (Err unread.Unpacked) is un told = inr (inr (told, un refl))
@@ -25,13 +25,13 @@ pub reply_joined : {words files : List ℕ} {said : List (String Global)} (own h
 reply_joined {said = said} own held w f run = record { said = said; held = own ++ held; words_packed = w; files_packed = ap (λ xs. xs ++ packed_files held) f ∙ sym (flat_map-append framed_file own held); run = run }
 
 -- where no files are kept, nothing is told
-pub asked_closed : (words files room after : List ℕ) (count : ℕ) (number : ℤ) (old new : Option (List File)) → old ≡ None → new ≡ None → IsUnreplied 11 room after count number → IsAsked words files old new room after count number
-asked_closed words files room after count number old new e n told = subst (λ (o : Option (List File)). IsAsked words files o new room after count number) (sym e) (n, told)
+pub asked_closed : (words files room after : List ℕ) (count : ℕ) (number : ℤ) (old new : Option (List File)) → old ≡ None → new ≡ None → IsUnreplied 11 room after count number → IsHandleAsked words files old new room after count number
+asked_closed words files room after count number old new e n told = subst (λ (o : Option (List File)). IsHandleAsked words files o new room after count number) (sym e) (n, told)
 
 -- where some are, the call over them is told
 pub asked_open : (words files room after : List ℕ) (count : ℕ) (number : ℤ) (old new : Option (List File)) (held : List File) → old ≡ Some held → new ≡ Some held
-    → IsReplied words (files ++ packed_files held) room after count number ⊎ (IsUnreplied 8 room after count number ⊎ (IsUnreplied 10 room after count number × AreUnpacked words files)) → IsAsked words files old new room after count number
-asked_open words files room after count number old new held e n told = subst (λ (o : Option (List File)). IsAsked words files o new room after count number) (sym e) (n, told)
+    → IsReplied words (files ++ packed_files held) room after count number ⊎ (IsUnreplied 8 room after count number ⊎ (IsUnreplied 10 room after count number × AreUnpacked words files)) → IsHandleAsked words files old new room after count number
+asked_open words files room after count number old new held e n told = subst (λ (o : Option (List File)). IsHandleAsked words files o new room after count number) (sym e) (n, told)
 
 -- what is told where files are let go of
 pub closing_of : {number : ℤ} (old : Option (List File)) (held : List File) → old ≡ Some held → number ≡ pos 0 → number ≡ closing_number old

@@ -3,7 +3,7 @@ use Rattle.std.specs.Prelude.{◌≡◌, ◌⊎◌, ◌≤◌, ◌++◌, ℕ, �
 use Rattle.lrp_io.specs.Files.{content_of, holds_file}
 use Rattle.lrp_io.specs.declared.shelf.File.{File}
 use Rattle.lrp_model.specs.Limits.{most_bytes}
-use Rattle.lrp_top.specs.Keeping.{IsKept, IsReadFor}
+use Rattle.lrp_top.specs.Keeping.{IsDatabaseKept, IsReadFor}
 use Rattle.lrp_top.specs.declared.asking.Asked.{Asked}
 use Rattle.lrp_outputs.specs.Statuses.{status_number}
 use Rattle.lrp_c.specs.Calls.{AreUnpacked, IsReplied, IsUnreplied, filled_with}
@@ -17,7 +17,7 @@ use Rattle.lrp_c.specs.declared.session.Session.{Session}
 -- the database is the one that the first file of its name says
 pub record IsNamedOf (files : List File) (named : NamedDatabase) : Type 0 where
   pub content : named.kept.file.bytes ≡ content_of files named.name
-  pub kept : IsKept named.kept
+  pub kept : IsDatabaseKept named.kept
 
 -- the database of a session is one of its files
 abbrev pub IsSession : Session → Type 0
@@ -48,15 +48,15 @@ IsOpening files old new number =
     ((number ≡ pos 0) × ((held : List File) × (new ≡ Some held) × (files ≡ packed_files held))) ⊎ (((number ≡ pos 8) × (new ≡ old)) ⊎ ((number ≡ pos 10) × (new ≡ old) × ((held : List File) → AreFiles held → files ≡ packed_files held → ⊥)))
 
 -- a reply is written, counted and numbered
-abbrev pub IsTold : Result Reply Unread → List ℕ → List ℕ → ℕ → ℤ → Type 0
-IsTold (Ok reply) room new count number = (new ≡ filled_with reply.text.items room) × (count ≡ length reply.text.items) × (number ≡ pos (status_number reply.status))
-IsTold (Err unread.Memory) room new count number = IsUnreplied 8 room new count number
-IsTold (Err unread.Unpacked) room new count number = IsUnreplied 10 room new count number
+abbrev pub IsReplyTold : Result Reply Unread → List ℕ → List ℕ → ℕ → ℤ → Type 0
+IsReplyTold (Ok reply) room new count number = (new ≡ filled_with reply.text.items room) × (count ≡ length reply.text.items) × (number ≡ pos (status_number reply.status))
+IsReplyTold (Err unread.Memory) room new count number = IsUnreplied 8 room new count number
+IsReplyTold (Err unread.Unpacked) room new count number = IsUnreplied 10 room new count number
 
 -- the run over these files in front of those that are kept, which stay, is told; where none are kept, nothing is
-abbrev pub IsAsked : List ℕ → List ℕ → Option (List File) → Option (List File) → List ℕ → List ℕ → ℕ → ℤ → Type 0
-IsAsked words files None new room after count number = (new ≡ None) × IsUnreplied 11 room after count number
-IsAsked words files (Some held) new room after count number =
+abbrev pub IsHandleAsked : List ℕ → List ℕ → Option (List File) → Option (List File) → List ℕ → List ℕ → ℕ → ℤ → Type 0
+IsHandleAsked words files None new room after count number = (new ≡ None) × IsUnreplied 11 room after count number
+IsHandleAsked words files (Some held) new room after count number =
     (new ≡ Some held) × (IsReplied words (files ++ packed_files held) room after count number ⊎ (IsUnreplied 8 room after count number ⊎ (IsUnreplied 10 room after count number × AreUnpacked words files)))
 
 -- what is told where these files are let go of

@@ -15,7 +15,7 @@ use std::mem;
 /// What a caller has of a database: whether it is open, and its session.
 #[repr(C)]
 #[derive(Drop)]
-pub struct Database {
+pub struct OpenDatabase {
     is_open: bool,
     pub held: Held,
     ghost agrees: { is_open ≡ is_some held.files },
@@ -38,17 +38,17 @@ pub fn open(alloc: Global, files: &[u8]) -> Result<Box<Session>, Unread>
 }
 
 /// The session of a database, which is closed by that.
-pub fn take(alloc: Global, database: &mut Database) -> Option<Box<Session>>
+pub fn take(alloc: Global, database: &mut OpenDatabase) -> Option<Box<Session>>
     ensures closed { database.new.held.files ≡ None }
     ensures files { IfSome result (λ boxed. database.old.held.files ≡ Some boxed.value.files) }
     ensures sound { IfSome result (λ boxed. IsSession boxed.value) }
     ensures none { IsNone result → database.old.held.files ≡ None }
 {
-    let closed = Database {
+    let closed = OpenDatabase {
         is_open: false,
         held: Held::none(alloc),
     };
-    let Database { is_open, held } = mem::replace(database, closed);
+    let OpenDatabase { is_open, held } = mem::replace(database, closed);
     if is_open {
         Some(held.into_loose().into_box())
     } else {
@@ -58,11 +58,11 @@ pub fn take(alloc: Global, database: &mut Database) -> Option<Box<Session>>
 }
 
 /// Opens a database that is closed with this session.
-pub fn give_back(database: &mut Database, boxed: Box<Session>)
+pub fn give_back(database: &mut OpenDatabase, boxed: Box<Session>)
     requires { IsSession boxed.value }
     ensures { database.new.held.files ≡ Some boxed.value.files }
 {
-    *database = Database {
+    *database = OpenDatabase {
         is_open: true,
         held: Held::of(Loose::of(boxed)),
     };

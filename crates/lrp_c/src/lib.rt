@@ -16,9 +16,9 @@ mod text;
 
 ghost use Rattle.std.specs.Prelude.{◌≡◌, None};
 ghost use Rattle.lrp_c.specs.Calls.{IsCall};
-ghost use Rattle.lrp_c.specs.Sessions.{IsAsked, IsOpening, IsTold, closing_number};
+ghost use Rattle.lrp_c.specs.Sessions.{IsHandleAsked, IsOpening, IsReplyTold, closing_number};
 
-use crate::handle::{Database, give_back, open, take};
+use crate::handle::{OpenDatabase, give_back, open, take};
 use crate::packed::Unread;
 use crate::reply::{Reply, reply_to};
 use crate::room::put_front;
@@ -51,7 +51,7 @@ pub extern "C" fn fizhedul_run(
 
 /// Writes as much of a reply as there is room for, and gives its number.
 fn tell(reply: Result<Reply, Unread>, out: &mut [u8], count: &mut usize) -> i32
-    ensures { IsTold reply out.old out.new count.new result }
+    ensures { IsReplyTold reply out.old out.new count.new result }
 {
     match reply {
         Ok(reply) => {
@@ -72,7 +72,7 @@ fn tell(reply: Result<Reply, Unread>, out: &mut [u8], count: &mut usize) -> i32
 
 /// Keeps these files for calls of `fizhedul_ask`. What was open before is closed, where the call doesn't fail.
 #[unsafe(no_mangle)]
-pub extern "C" fn fizhedul_open(alloc: Global, files: &[u8], database: &mut Database) -> i32
+pub extern "C" fn fizhedul_open(alloc: Global, files: &[u8], database: &mut OpenDatabase) -> i32
     ensures { IsOpening files.now database.old.held.files database.new.held.files result }
 {
     match open(alloc, files) {
@@ -91,13 +91,13 @@ pub extern "C" fn fizhedul_open(alloc: Global, files: &[u8], database: &mut Data
 #[unsafe(no_mangle)]
 pub extern "C" fn fizhedul_ask(
     alloc: Global,
-    database: &mut Database,
+    database: &mut OpenDatabase,
     words: &[u8],
     files: &[u8],
     out: &mut [u8],
     count: &mut usize,
 ) -> i32
-    ensures { IsAsked words.now files.now database.old.held.files database.new.held.files
+    ensures { IsHandleAsked words.now files.now database.old.held.files database.new.held.files
         out.old out.new count.new result }
 {
     match take(alloc, database) {
@@ -115,7 +115,7 @@ pub extern "C" fn fizhedul_ask(
 
 /// Lets go of the files that are kept; says whether some were.
 #[unsafe(no_mangle)]
-pub extern "C" fn fizhedul_close(alloc: Global, database: &mut Database) -> i32
+pub extern "C" fn fizhedul_close(alloc: Global, database: &mut OpenDatabase) -> i32
     ensures closed { database.new.held.files ≡ None }
     ensures told { result ≡ closing_number database.old.held.files }
 {

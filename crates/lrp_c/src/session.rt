@@ -7,7 +7,7 @@ ghost use Rattle.lrp_io.specs.declared.shelf.File.{File as FileOf};
 ghost use Rattle.lrp_c.specs.Sessions.{HasQuery, IsNamedFor, IsNamedOf, IsSession};
 ghost use Rattle.lrp_model.specs.Limits.{most_bytes};
 ghost use Rattle.lrp_top.specs.Keeping.{IsAnswering, MeansDue};
-ghost use Rattle.lrp_top.specs.Questions.{IsProper};
+ghost use Rattle.lrp_top.specs.Questions.{IsProperPurpose};
 
 use crate::files::{all_files, place_of, short_bytes};
 use crate::packed::{Unread, files_in, words_in};
@@ -174,7 +174,7 @@ fn reply_asked(
     session: Session,
 ) -> Replied
     requires session { IsSession session }
-    requires proper { IsProper asked.now.purpose }
+    requires proper { IsProperPurpose asked.now.purpose }
     requires answers { IsAnswering asked.now.purpose }
     requires due { MeansDue words.now asked.now }
     ensures reply { IfOk result.reply (λ reply. IsRunOver words.now (files ++ session.files)
@@ -233,7 +233,7 @@ fn reply_kept(
     files: List<File>,
     named: NamedDatabase,
 ) -> Replied
-    requires proper { IsProper asked.now.purpose }
+    requires proper { IsProperPurpose asked.now.purpose }
     requires answers { IsAnswering asked.now.purpose }
     requires named { IsNamedOf files named }
     requires asked { IsNamedFor asked.now named }

@@ -5,7 +5,7 @@ use Rattle.std.proofs.lemmas.List.Elements.{Contains-append_cases, Contains-appe
 use Rattle.lrp_spans.proofs.Lists.{head_in, in_cons, in_none, later, pairs_head, pairs_right}
 use Rattle.lrp_canon.specs.Rows.{AreJust, HasRowCount, IsLeastPeriod, IsOpenBelow, IsSetOfRows, IsStart, Moment}
 
--- a list with an element is what stands before it, it, and what stands behind it
+-- a list with an element is what stands before it, it, and what stands after it
 pub record IsSplit {X : Type 0} (xs : List X) (x : X) : Type 0 where
   pub front : List X
   pub back : List X

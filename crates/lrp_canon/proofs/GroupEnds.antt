@@ -26,7 +26,7 @@ use Rattle.lrp_canon.specs.Counting.{AreRepeatingGroups}
 use Rattle.lrp_canon.proofs.Stepping.{repeats_from}
 use Rattle.lrp_theory.proofs.Members.{in_map}
 
--- ---- behind all stored bounds a zone has all numbers of its residue, or none
+-- ---- after all stored bounds a zone has all numbers of its residue, or none
 module _ (z : ZoneView) (valid : IsZone z) (one : columns_of z ≡ 1) (reach : ℕ) (small : (i j : ℕ) → i < 2 → j < 2 → AtMost reach (entry z.bounds i j)) where
   move : (x y : ℤ) → IsMember z (x ∷ []) → Divides (pos z.period) (y -ℤ x) → Within (y -ℤ pos 0) (entry z.bounds 1 0) → Within (pos 0 -ℤ y) (entry z.bounds 0 1) → IsMember z (y ∷ [])
   move x y m d high low = in_line z y valid one (Divides-is (pos z.period) ((y -ℤ x) +ℤ (x -ℤ node z.residues 1)) _ (omega (arith, ints)) (Divides-+ (pos z.period) _ _ d (line_cell z x one m))) high low
@@ -55,7 +55,7 @@ module _ (z : ZoneView) (valid : IsZone z) (one : columns_of z ≡ 1) (reach : �
   pub move_deep : (x y : ℤ) → x ≤ℤ neg_ℤ (pos (reach + 1)) → y ≤ℤ neg_ℤ (pos (reach + 1)) → Divides (pos z.period) (y -ℤ x) → IsMember z (x ∷ []) → IsMember z (y ∷ [])
   move_deep x y lx ly d m = move x y m d (high_deep y (entry z.bounds 1 0) (small 1 0 (omega arith) (omega arith)) ly) (low_any x y (entry z.bounds 0 1) (small 0 1 (omega arith) (omega arith)) lx (line_low z x one m))
 
--- so a store of one time column repeats by its period behind its reach
+-- so a store of one time column repeats by its period after its reach
 module _ (s : StoreView) (is : IsStore s) (one : s.shape.times ≡ 1) (room : HasReach s (2 ^ 62 - s.period)) (texts : List ℕ) where
   abbrev reach : ℕ
   reach = 2 ^ 62 - s.period

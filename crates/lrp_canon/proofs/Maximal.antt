@@ -1,4 +1,4 @@
--- Rows from each beginning to the first stop behind it hold just the numbers of the set, and lie apart.
+-- Rows from each beginning to the first stop after it hold just the numbers of the set, and lie apart.
 use Rattle.std.proofs.Common.{◌≡◌, ℕ, zero, suc, ◌+◌, ◌*◌, ◌<◌, ◌≤◌, ◌^◌, ◌⊎◌, inl, inr, List, Option, Some, None, length, get_or, arith, refl, sym, subst, ◌∙◌}
 use Rattle.std.specs.Prelude.{ℤ, pos, nat_abs, ◌+ℤ◌, ◌-ℤ◌, ◌≤ℤ◌, ◌<ℤ◌, neg_ℤ, AllPairs, Contains}
 use Rattle.std.proofs.lemmas.Int.{ints, by_lt_z}
@@ -53,7 +53,7 @@ module _ (set : ℤ → Type 0) (either : (x : ℤ) → set x ⊎ (set x → ⊥
       let e : (x -ℤ pos period) +ℤ pos period ≡ x = omega (arith, ints) in
       by_lt_z x (pos (bound + period)) (λ lt. lt) (λ le. absurd (s.over (subst set e (ends.on (x -ℤ pos period) (omega (arith, ints)) s.inside))))
 
-  -- a number of the set is behind a beginning of its residue, and no stop stands between
+  -- a number of the set is after a beginning of its residue, and no stop stands between
   record IsUnder (x : ℤ) (r : ℕ) : Type 0 where
     pub edge : Edge
     pub listed : Contains starts edge
@@ -101,7 +101,7 @@ module _ (set : ℤ → Type 0) (either : (x : ℤ) → set x ⊎ (set x → ⊥
 
   -- ---- one row
   module _ (e : Edge) (listed : Contains starts e) (row : MaximalRow) (from : IsRowFrom period stops e row) where
-    -- a stop of this residue behind the start is behind the row
+    -- a stop of this residue after the start is after the row
     stop_ahead : (y : ℤ) → Above y e.number → Divides (pos period) (y -ℤ pos e.residue) → StopsAt set period y → IsEdgeAhead stops e y
     stop_ahead y a d s = (let t = stop.from y s in record { listed = subst (Contains stops) (edge_is period y e.residue t.0 (begin.below e listed) d t.1) t.2; later = a })
 
@@ -112,7 +112,7 @@ module _ (set : ℤ → Type 0) (either : (x : ℤ) → set x ⊎ (set x → ⊥
         by None t v = absurd (t y a)
         by (Some b) t v = let l : (b +ℤ pos period) ≤ℤ y = t.1 y a in omega (arith, ints)
 
-    -- what is behind a number of the set, in the row, is in the set
+    -- what is after a number of the set, in the row, is in the set
     from_number : (a x : ℤ) → set a → a ≤ℤ x → Above a e.number → Divides (pos period) (a -ℤ pos e.residue) → IsInside period row x → set x
     from_number a x h le above d i =
         let dx : Divides (pos period) (x -ℤ pos e.residue) = subst (λ q. Divides (pos period) (x -ℤ pos q)) from.residue i.residue in
@@ -139,7 +139,7 @@ module _ (set : ℤ → Type 0) (either : (x : ℤ) → set x ⊎ (set x → ⊥
             let le : a ≤ℤ x = subst (Above x) (from.least ∙ q) i.low in
             from_number a x g.0.inside le (subst (Above a) (sym q) (omega (arith, ints))) g.1 i
 
-    -- a number of the set that is under no stop behind the start is in the row
+    -- a number of the set that is under no stop after the start is in the row
     pub row_from : (x : ℤ) → e.residue < period → Divides (pos period) (x -ℤ pos e.residue) → Above x e.number → ((y : ℤ) → Above y e.number → y ≤ℤ x → Divides (pos period) (y -ℤ pos e.residue) → StopsAt set period y → ⊥) → IsInside period row x
     row_from x rl d a none = record {
       residue = subst (λ q. Divides (pos period) (x -ℤ pos q)) (sym from.residue) d;

@@ -18,7 +18,7 @@ some_get (y ∷ xs) (suc i) x h e = some_get xs i x (omega arith) e
 
 module _ (period : ℕ) (stops : List Edge) (is : AreStopEdges period stops) (place : ℕ) (start : Edge)
     (before : (e : Edge) → Contains (take place stops) e → IsEarlierEdge e start) (stop : (e : Edge) → slice_get stops place ≡ Some e → IsEarlierEdge e start → ⊥) where
-  -- an edge that is ahead stands at the place or behind it
+  -- an edge that is ahead stands at the place or after it
   not_front : (y : ℤ) (a : IsEdgeAhead stops start y) → a.listed.0 < place → ⊥
   not_front y a l =
       let n : a.listed.0 < length stops = a.listed.1 in
@@ -113,7 +113,7 @@ earlier_trans d e f (inl a) (inr b) = inl (let p : e.residue ≡ f.residue = b.0
 earlier_trans d e f (inr a) (inl b) = inl (let p : d.residue ≡ e.residue = a.0 in omega (arith, b, p))
 earlier_trans d e f (inr a) (inr b) = inr (a.0 ∙ b.0, number_trans d.number e.number f.number a.1 b.1)
 
--- what stands behind a place of a list in order comes behind the edge there
+-- what stands after a place of a list in order comes after the edge there
 behind : (edges : List Edge) (k : ℕ) (d : Edge) → k < length edges → AllPairs IsEarlierEdge edges → (s : Edge) → Contains (drop (k + 1) edges) s → IsEarlierEdge (get_or edges k d) s
 behind edges k d l all s h =
     let e : take (k + 1) edges ++ drop (k + 1) edges ≡ edges = take-append-drop (k + 1) edges in

@@ -33,7 +33,7 @@ reach_row (first ∷ rows) row l = elim (in_cons first rows row l) [
   | inr m ↦ (let p : magnitude row.least + magnitude row.most + 1 ≤ reach rows = reach_row rows row m in omega (arith, p))
 ]
 
--- behind the magnitude of an end
+-- after the magnitude of an end
 above_far : (x : ℤ) (h : ℕ) (e : Option ℤ) → magnitude e + 1 ≤ h → pos h ≤ℤ x → Above x e
 unfolding magnitude
 above_far x h None l g = tt

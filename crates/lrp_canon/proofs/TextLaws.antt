@@ -200,7 +200,7 @@ times_size M (c ∷ columns) (d ∷ tuple) h = more_times M c.sort d tuple (time
 rows_total : IsTotalOrder row_cell_cmp
 rows_total = then_total (on_total (λ r. value_texts r.values) (lists_total nat_list_cmp_total)) (on_total (λ r. value_residues r.values) (lists_total int_cmp_total))
 
--- rows of which neither is behind the other are of one cell
+-- rows of which neither is after the other are of one cell
 neither : (o p : Ordering) → o ≡ ordering_reverse p → o ≢ Greater → p ≢ Greater → o ≡ Equal
 neither Less Less e h g = cc
 neither Less Equal e h g = cc

@@ -375,7 +375,7 @@ module _ (s : StoreView) (h : IsCanonical s) (room : HasRoom s) where
         all = λ y l d. in_store c b.zone b.held y (on_down c b.zone b.held b.endless x.0 y x.1 l d);
       })
 
-  -- a cell has a zone without a beginning, or all its numbers are behind some number
+  -- a cell has a zone without a beginning, or all its numbers are after some number
   abbrev IsBehind : List ZoneView → ℤ → Type 0
   IsBehind zs l = (z : ZoneView) → Contains zs z → (x : ℤ) → IsMember z (x ∷ []) → l ≤ℤ x
 

@@ -9,7 +9,7 @@ use Rattle.lrp_spans.specs.Groups.{HoldsNumber}
 use Rattle.lrp_canon.specs.declared.edges.Periods.{Periods}
 use Rattle.lrp_canon.specs.Rows.{IsLeastPeriod, HasRowCount}
 
--- one time column, and room behind each stored bound for the period
+-- one time column, and room after each stored bound for the period
 pub record CanMakeCanonical (s : StoreView) : Type 0 where
   pub column : s.shape.times ≡ 1
   pub reach : HasReach s (2 ^ 62 - s.period)

@@ -56,7 +56,7 @@ pub record AreEdgeSpans (whole : ℕ) (kind : ℤ → Type 0) (spans : List Span
 abbrev pub AreStarts : Periods → List Span → List Span → Type 0
 AreStarts periods spans made = AreEdgeSpans periods.whole (Begins (SpansHaveNumber periods.whole spans) periods.least) made
 
--- the spans are those of the first numbers behind the maximal rows of others
+-- the spans are those of the first numbers after the maximal rows of others
 abbrev pub AreStopSpans : Periods → List Span → List Span → Type 0
 AreStopSpans periods spans made = AreEdgeSpans periods.whole (StopsAt (SpansHaveNumber periods.whole spans) periods.least) made
 
@@ -123,7 +123,7 @@ pub record AreBeginnings (set : ℤ → Type 0) (period : ℕ) (edges : List Edg
   pub down : (r : ℕ) → GoesDown set period r → Contains edges (record { residue = r; number = None })
   pub small : (e : Edge) → Contains edges e → AtMost (2 ^ 62) e.number
 
--- the edges are the first numbers behind the maximal rows, in order, each once
+-- the edges are the first numbers after the maximal rows, in order, each once
 pub record AreStops (set : ℤ → Type 0) (period : ℕ) (edges : List Edge) : Type 0 where
   pub apart : AllPairs IsEarlierEdge edges
   pub to : (e : Edge) → Contains edges e → (x : ℤ) × StopsAt set period x × IsEdgeAt period x e

@@ -54,7 +54,7 @@ pub record IsEdgeAhead (stops : List Edge) (start : Edge) (y : ℤ) : Type 0 whe
   pub listed : Contains stops (record { residue = start.residue; number = Some y })
   pub later : Above y start.number
 
--- the first of them is a period behind the end, and without an end there is none
+-- the first of them is a period after the end, and without an end there is none
 abbrev pub EndsAt : ℕ → List Edge → Edge → Option ℤ → Type 0
 EndsAt period stops start None = (y : ℤ) → IsEdgeAhead stops start y → ⊥
 EndsAt period stops start (Some b) = IsEdgeAhead stops start (b +ℤ pos period) × ((y : ℤ) → IsEdgeAhead stops start y → (b +ℤ pos period) ≤ℤ y)
@@ -108,7 +108,7 @@ pub record AddsRow (group : Cell) (row : MaximalRow) (old new : StoreView) : Typ
   pub rest : new ≡ record old { tables = new.tables; spare = new.spare }
   pub valid : IsStore new
 
--- the new store has the zones of the old one, and behind them those of the rows with the group's texts
+-- the new store has the zones of the old one, and after them those of the rows with the group's texts
 pub record AddsRows (group : Cell) (rows : List MaximalRow) (old new : StoreView) : Type 0 where
   pub rest : new ≡ record old { tables = new.tables; spare = new.spare }
   pub valid : IsStore old → IsStore new

@@ -1,4 +1,4 @@
--- Starts of rows with the stops behind them.
+-- Starts of rows with the stops after them.
 use Rattle.std.specs.Prelude.{◌≡◌, ℕ, ℤ, ◌^◌, ◌<◌, ◌≤◌, List, length, Some, AllPairs, Contains, get_or}
 use Rattle.lrp_theory.specs.Entries.{AtMost}
 use Rattle.lrp_canon.specs.declared.edges.Edge.{Edge}

@@ -61,7 +61,7 @@ pub record AreJust {T : Type 0} (kind : Moment T → Type 0) (moments : List (Mo
   pub from : (p : Moment T) → kind p → Contains moments p
 
 -- The set has so many maximal rows of its least period. A maximal row has all numbers of a residue between two ends, and neither
--- the number a period before its least one nor that behind its greatest. So each has its own beginning, which is a start, or has
+-- the number a period before its least one nor that after its greatest. So each has its own beginning, which is a start, or has
 -- none, and then it is the only one of its residue and texts that has none.
 pub record HasRowCount {T : Type 0} (set : ℤ → List T → Type 0) (count : ℕ) : Type 0 where
   pub period : ℕ

@@ -17,7 +17,7 @@ use std::alloc::Global;
 
 /// The same answers over the least period with which finitely many rows give them, in maximal rows.
 ///
-/// The bytes that are written of a canonical answer hang on its head and its answers alone. It takes memory and time in the
+/// The bytes that are written of a canonical answer depend on its head and its answers alone. It takes memory and time in the
 /// number of its rows, which [`canonical_rows`] tells first.
 pub fn canonical(alloc: Global, answer: &Answer) -> Result<Answer, Memory>
     requires { CanMakeCanonical answer.now.store }
@@ -38,7 +38,7 @@ pub fn canonical(alloc: Global, answer: &Answer) -> Result<Answer, Memory>
 
 /// The number of rows of the canonical answer, or `None` where it has more than `most`.
 ///
-/// No row is made: the cost hangs on the cells and zones of the answer, and not on the number of rows.
+/// No row is made: the cost depends on the cells and zones of the answer, and not on the number of rows.
 pub fn canonical_rows(alloc: Global, answer: &Answer, most: u32) -> Result<Option<u32>, Memory>
     requires { CanMakeCanonical answer.now.store }
     ensures some { IfOk result (λ found. IfSome found

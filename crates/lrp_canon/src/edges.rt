@@ -47,7 +47,7 @@ pub fn starts_of(alloc: Global, spans: &[Span], periods: Periods) -> Result<Vec<
     difference(alloc, spans, &before)
 }
 
-/// The spans of the first numbers behind maximal rows: they are not in the set, and those a period before are.
+/// The spans of the first numbers after maximal rows: they are not in the set, and those a period before are.
 pub fn stops_of(alloc: Global, spans: &[Span], periods: Periods) -> Result<Vec<Span>, Memory>
     requires { AreRepeating periods spans.now }
     ensures { IfOk result (λ made. AreStopSpans periods spans.now made.items) }
@@ -71,7 +71,7 @@ pub fn beginnings(alloc: Global, spans: &[Span], periods: Periods) -> Result<Vec
     Ok(edges)
 }
 
-/// The edges of the first numbers behind maximal rows, in order.
+/// The edges of the first numbers after maximal rows, in order.
 pub fn stops(alloc: Global, spans: &[Span], periods: Periods) -> Result<Vec<Edge>, Memory>
     requires { AreRepeating periods spans.now }
     ensures { IfOk result (λ made. AreStops

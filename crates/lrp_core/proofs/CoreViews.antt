@@ -20,17 +20,17 @@ core_of-And v = search (rules, the_lemmas, row_cores-items)
 pub core_of-Or : (v : Vec Core Global) → core_of (Or v) ≡ disjunction (cores_of v.items)
 core_of-Or v = search (rules, the_lemmas, row_cores-items)
 
--- two lists, one behind the other
+-- two lists, one after the other
 pub cores_of-append : (fs gs : List Core) → cores_of (fs ++ gs) ≡ joined (cores_of fs) (cores_of gs)
 cores_of-append [] gs = refl
 cores_of-append (f ∷ fs) gs = ap (form (core_of f)) (cores_of-append fs gs)
 
--- nothing behind a list leaves it as it is
+-- nothing after a list leaves it as it is
 pub joined_none : (fs : Forms) → joined fs no_forms ≡ fs
 joined_none no_forms = refl
 joined_none (form f fs) = ap (form f) (joined_none fs)
 
--- three lists, one behind the other
+-- three lists, one after the other
 pub joined_assoc : (fs gs hs : Forms) → joined (joined fs gs) hs ≡ joined fs (joined gs hs)
 joined_assoc no_forms gs hs = refl
 joined_assoc (form f fs) gs hs = ap (form f) (joined_assoc fs gs hs)

@@ -43,7 +43,7 @@ no_elements Positive Or named start = sym (joined_none start)
 no_elements Negative And named start = sym (joined_none start)
 no_elements Negative Or named start = sym (joined_none start)
 
--- the core forms of two lists, one behind the other
+-- the core forms of two lists, one after the other
 all_formed-joined : (p : Polarity) (fs gs : Forms) (named : Bool) → all_formed p (joined fs gs) named ≡ joined (all_formed p fs named) (all_formed p gs named)
 all_formed-joined Positive no_forms gs named = refl
 all_formed-joined Positive (form f fs) gs named = ap (form (positive f named)) (all_formed-joined Positive fs gs named)

@@ -21,7 +21,7 @@ all_elements-one : (j : Junction) (f : Form) → all_elements j (form f no_forms
 all_elements-one And f = joined_none (conjuncts f)
 all_elements-one Or f = joined_none (disjuncts f)
 
--- the elements of a further formula, behind those of the formulas before
+-- the elements of a further formula, after those of the formulas before
 pub elements-more : (j : Junction) (start gs hs : Forms) (f : Form) (made more : Forms) → gs ≡ joined start (all_elements j made) → hs ≡ joined gs (elements j f) → more ≡ joined made (form f no_forms) → hs ≡ joined start (all_elements j more)
 elements-more j start gs hs f made more before step e =
     step ∙ ap (λ x. joined x (elements j f)) before ∙ joined_assoc start (all_elements j made) (elements j f)

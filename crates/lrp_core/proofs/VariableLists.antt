@@ -51,7 +51,7 @@ is_among-with_variables vs (w ∷ ws) x =
 pub is_among-each_once : (vs : List Variable) (x : Variable) → is_among (each_once vs) x ≡ is_among vs x
 is_among-each_once vs x = is_among-with_variables [] vs x
 
--- the variables of two lists, one behind the other
+-- the variables of two lists, one after the other
 pub with_variables-append : (vs ws xs : List Variable) → with_variables vs (ws ++ xs) ≡ with_variables (with_variables vs ws) xs
 with_variables-append vs [] xs = refl
 with_variables-append vs (w ∷ ws) xs = with_variables-append (with_variable vs w) ws xs
@@ -60,7 +60,7 @@ with_variables-append vs (w ∷ ws) xs = with_variables-append (with_variable vs
 pub with_known : (vs : List Variable) (v : Variable) → is_among vs v ≡ true → with_variable vs v ≡ vs
 with_known vs v e = ap (λ b. if b then vs else vs ++ v ∷ []) e
 
--- and another one stands behind them
+-- and another one stands after them
 with_new : (vs : List Variable) (v : Variable) → is_among vs v ≡ false → with_variable vs v ≡ vs ++ v ∷ []
 with_new vs v e = ap (λ b. if b then vs else vs ++ v ∷ []) e
 
@@ -76,7 +76,7 @@ is_among-others : (b x : Variable) (us : List Variable) → not (same_variable b
 is_among-others b x [] free member = absurd (true≢false (sym member))
 is_among-others b x (u ∷ us) free member = kept_one b u x us (same_variable x u) (not (same_variable b u)) refl refl free member (is_among-others b x us free)
 
--- a further variable before or behind the choice of the others
+-- a further variable before or after the choice of the others
 again : (b x : Variable) (ws : List Variable) (kept : Bool) → not (same_variable b x) ≡ kept → (not (same_variable b x) ≡ true → is_among ws x ≡ true) → ws ≡ with_variables ws (if kept then x ∷ [] else [])
 again b x ws true k member = sym (with_known ws x (member k))
 again b x ws false k member = refl
@@ -127,7 +127,7 @@ free-And f v is = sym (ap (λ x. free (core_of x)) is ∙ ap free (core_of-And v
 pub free-Or : (f : Core) (v : Vec Core Global) → f ≡ Or v → free_each (cores_of v.items) ≡ free (core_of f)
 free-Or f v is = sym (ap (λ x. free (core_of x)) is ∙ ap free (core_of-Or v))
 
--- a variable that a quantifier does not bind, behind those before it
+-- a variable that a quantifier does not bind, after those before it
 pub others-step : (b : Variable) (seen more : List ProgramVariable) (v : ProgramVariable) (old made now : List Variable) → more ≡ seen ++ v ∷ [] → made ≡ with_variables old (others b (map variable_of seen)) → now ≡ with_variables made (others b (variable_of v ∷ [])) → now ≡ with_variables old (others b (map variable_of more))
 others-step b seen more v old made now e before step =
     step ∙ ap (λ x. with_variables x (others b (variable_of v ∷ []))) before ∙ sym (with_variables-append old (others b (map variable_of seen)) (others b (variable_of v ∷ [])))
@@ -137,7 +137,7 @@ others-step b seen more v old made now e before step =
 pub free-exists : (b : Variable) (vs inner fs gs : List Variable) → inner ≡ with_variables [] fs → gs ≡ others b fs → with_variables vs (others b inner) ≡ with_variables vs gs
 free-exists b vs inner fs gs e is = ap (λ x. with_variables vs (others b x)) e ∙ others-with_variables b vs [] fs ∙ ap (with_variables vs) (sym is)
 
--- a further variable, behind those before it
+-- a further variable, after those before it
 pub variables-step : (seen more : List ProgramVariable) (v : ProgramVariable) (old made now : List Variable) → more ≡ seen ++ v ∷ [] → made ≡ with_variables old (map variable_of seen) → now ≡ with_variable made (variable_of v) → now ≡ with_variables old (map variable_of more)
 variables-step seen more v old made now e before step =
     step ∙ ap (λ x. with_variable x (variable_of v)) before ∙ sym (with_variables-append old (map variable_of seen) (variable_of v ∷ []))

@@ -9,7 +9,7 @@ abbrev pub variable_of : ProgramVariable → Variable
 variable_of (Time v) = time_variable v
 variable_of (Data v) = data_variable v
 
--- a further variable behind the others, where it is none of them
+-- a further variable after the others, where it is none of them
 abbrev pub with_variable : List Variable → Variable → List Variable
 with_variable vs v = if is_among vs v then vs else vs ++ v ∷ []
 

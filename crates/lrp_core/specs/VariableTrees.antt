@@ -28,7 +28,7 @@ abbrev pub trees_of : List VariableTree → Trees
 trees_of [] = no_trees
 trees_of (t ∷ ts) = one_more (tree_of t) (trees_of ts)
 
--- each element of the `and` or the `or` that a formula is, or that stands in it behind denials and quantifiers alone, with the element's free variables, each once
+-- each element of the `and` or the `or` that a formula is, or that stands in it after denials and quantifiers alone, with the element's free variables, each once
 abbrev mutual
   pub inner_trees : Form → Trees
   inner_trees (conjunction fs) = free_trees fs

@@ -184,7 +184,7 @@ fn all_formed<'a>(
     Ok(junction.of(of))
 }
 
-// Their elements, behind the others.
+// Their elements, after the others.
 #[cycle(forming)]
 fn push_all<'a>(
     alloc: Global,

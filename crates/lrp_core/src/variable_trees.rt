@@ -12,7 +12,7 @@ use lrp_model::{List, Memory, Name, Sort};
 use std::alloc::Global;
 
 /// The variables that occur free in a formula, each once; and, in order, the trees of the elements of the `and` or the `or`
-/// that it is, or that stands in it behind `not`s and quantifiers alone.
+/// that it is, or that stands in it after `not`s and quantifiers alone.
 pub struct VariableTree {
     pub variables: List<Variable>,
     pub inner: Vec<VariableTree>,

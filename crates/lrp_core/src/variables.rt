@@ -133,7 +133,7 @@ pub(crate) fn contains(all: &[Variable], sort: &Sort, name: &Name) -> bool
     false
 }
 
-/// Copies of the variables, each behind the others where it is none of them yet.
+/// Copies of the variables, each after the others where it is none of them yet.
 pub fn add_variables(
     alloc: Global,
     all: &mut List<Variable>,

@@ -44,7 +44,7 @@ one_added cell zones more z start old new same h e shape period = record {
   others = λ d n. ⊎_elim (λ x. absurd (n x.0)) (λ x. ap (λ m. tables_at (record old { tables = m }) d) e ∙ x.1 ∙ h.others d n) (list_put old.tables cell (tables_at old cell ++ z.bounds ∷ []) d);
 }
 
--- one zone behind those before
+-- one zone after those before
 added_behind : (cell : Cell) (zones : List ZoneView) (z : ZoneView) (start old new : StoreView) → AddsZones cell zones start old → AddsZones cell (z ∷ []) old new → AddsZones cell (zones ++ z ∷ []) start new
 added_behind cell zones z start old new a b = record {
   shape = b.shape ∙ a.shape;

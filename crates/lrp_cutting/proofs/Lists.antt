@@ -98,7 +98,7 @@ cells_push z zs w a c = record {
   ];
 }
 
--- what stands behind the first element of a list, as in the whole list
+-- what stands after the first element of a list, as in the whole list
 pub behind_first : {X : Type 0} (all : List X) (x : X) (xs : List X) (i : ℕ) (y : X) → all ≡ x ∷ xs → i < length xs → y ≡ get_or xs i y → take (i + 1 + 1) all ≡ take (i + 1) all ++ y ∷ []
 behind_first all x xs i y e l q =
     let on : i + 1 ≡ suc i = omega arith in
@@ -148,7 +148,7 @@ drop_next (y ∷ all) (suc n) x rest e = let g = drop_next all n x rest e in let
 pub read_next : {X : Type 0} (P : ℕ → Type 0) (all left : List X) (r : IsReadTo P all left) (x : X) (rest : List X) → left ≡ x ∷ rest → slice_get all r.place ≡ Some x
 read_next P all left r x rest e = (drop_next all r.place x rest (sym r.rest ∙ e)).0
 
--- and the place behind it follows
+-- and the place after it follows
 pub read_goes : {X : Type 0} (P Q : ℕ → Type 0) (all left : List X) (r : IsReadTo P all left) (x : X) (rest : List X) → left ≡ x ∷ rest → Q (r.place + 1) → IsReadTo Q all rest
 read_goes P Q all left r x rest e q =
     let g = drop_next all r.place x rest (sym r.rest ∙ e) in

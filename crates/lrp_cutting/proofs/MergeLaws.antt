@@ -84,7 +84,7 @@ module _ (z : ZoneView) (vs : List Interval) (made : List ZoneView) (last next :
     );
   }
 
-  -- the zone of the last one is behind the others
+  -- the zone of the last one is after the others
   module _ (w : ZoneView) (is : IsIntervalZone z last w) where
     valid_more : (v : ZoneView) → Contains (made ++ w ∷ []) v → IsZone v × IsOfCell z v
     valid_more v l = elim (Contains-append_cases made (w ∷ []) v l) [

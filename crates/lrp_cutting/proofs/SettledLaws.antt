@@ -1,4 +1,4 @@
--- The zones of a cell of one column, each of which is far behind the one before it, are settled.
+-- The zones of a cell of one column, each of which is far after the one before it, are settled.
 use Rattle.std.proofs.Common.{◌≡◌, ℕ, zero, suc, ◌+◌, ◌-◌, ◌*◌, ◌<◌, ◌≤◌, ◌^◌, inl, inr, List, [], ◌∷◌, length, take, get_or, arith, refl, sym, subst, ◌∙◌, ap}
 use Rattle.std.specs.Prelude.{ℤ, pos, ◌+ℤ◌, ◌≤ℤ◌, ◌<ℤ◌, nat_abs, IfSome, Contains, AllPairs}
 use Rattle.std.proofs.lemmas.Int.{ints}
@@ -44,7 +44,7 @@ far_trans u v w valid one a b =
           omega (arith, ints);
     }
 
--- each zone at place i is far behind the one before it
+-- each zone at place i is far after the one before it
 abbrev pub AreFarAt : List ZoneView → ℕ → Type 0
 AreFarAt zones i = (d : ZoneView) → IsFarBelow (get_or zones (i - 1) d) (get_or zones i d)
 
@@ -59,7 +59,7 @@ in_turn_at z (w ∷ ws) far (suc (suc j)) low high = λ d.
     let f : IsFarBelow (get_or (w ∷ ws) (suc j - 1) d) (get_or (w ∷ ws) (suc j) d) = in_turn_at w ws far.1 (suc j) (omega arith) (omega arith) d in
     subst (λ n. IsFarBelow (get_or (z ∷ w ∷ ws) n d) (get_or (w ∷ ws) (suc j) d)) (sym here) (subst (λ n. IsFarBelow (get_or (w ∷ ws) n d) (get_or (w ∷ ws) (suc j) d)) there f)
 
--- the last interval is that of a zone, behind which the zones that are left have still to be far in turn
+-- the last interval is that of a zone, after which the zones that are left have still to be far in turn
 pub record IsInTurn (period : ℤ) (first : ZoneView) (rest : List ZoneView) (last : Interval) (left : List ZoneView) : Type 0 where
   pub zone : ZoneView
   pub span : last ≡ span_of zone
@@ -81,7 +81,7 @@ turn_begins period first rest left last span same lines = record {
 pub next_line : (period : ℤ) (z : ZoneView) (rest left : List ZoneView) → left ≡ z ∷ rest → ((w : ZoneView) → Contains left w → IsOnLine period w) → IsOnLine period z
 next_line period z rest left e lines = lines z (head_in z rest left e)
 
--- and far behind the last
+-- and far after the last
 pub turn_goes : (period : ℤ) (first : ZoneView) (all : List ZoneView) (last next : Interval) (z : ZoneView) (rest left : List ZoneView) → (t : IsInTurn period first all last left) → left ≡ z ∷ rest → next ≡ span_of z
     → LiesApart t.zone.period last next → IsInTurn period first all next rest
 turn_goes period first all last next z rest left t e span apart =

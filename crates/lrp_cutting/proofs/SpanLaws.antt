@@ -198,7 +198,7 @@ module _ (z : ZoneView) (v : Interval) (one : columns_of z ≡ 1) where
 
 -- ---- two intervals with no number between them
 module _ (z : ZoneView) (v w : Interval) (low : pos 1 ≤ℤ pos z.period) (vi : IsInterval z v) (begins : BeginsBy v w) (near : LiesApart z.period v w → ⊥) where
-  -- what lies behind the first lies behind the start of the second
+  -- what lies after the first lies after the start of the second
   behind : (x : ℤ) (e f : Option ℤ) → v.most ≡ e → w.least ≡ f → Divides (pos z.period) (x -ℤ node z.residues 1) → (Within x e → ⊥) → Above x f
   behind x None f q p d out = absurd (out tt)
   behind x (Some a) None q p d out = tt

@@ -288,7 +288,7 @@ taken_or_behind cuts n order u l =
           subst (λ y. BeginsBy y u) (get_or_default cuts k.0 u d first ∙ c.2) (subst (λ y. BeginsBy (get_or cuts k.0 u) y) l.2 b))
     ]
 
--- nothing is left above one of them, so the ones behind it take nothing away
+-- nothing is left above one of them, so the ones after it take nothing away
 pub all_swept : (z : ZoneView) (v : Interval) (cuts : List Interval) (i : ℕ) → AllPairs BeginsBy cuts → i < length cuts → (made : List ZoneView) (rest d : Interval) → AreSweeping z v (take i cuts) made rest → IsInterval z (get_or cuts i d)
     → ((u : Interval) → Contains (take i cuts) u → BeginsBy u (get_or cuts i d)) → (low : Option Interval) → IsPartBelow z rest (get_or cuts i d) low → (new : List ZoneView) → AppendsSpan z low made new
     → (part : Option Interval) → IsPartAbove z rest (get_or cuts i d) part → part ≡ None → AreGaps z v cuts new

@@ -58,7 +58,7 @@ pub record HasSmallEnds (h : ℕ) (v : Interval) : Type 0 where
 pub record BeginsBy (v w : Interval) : Type 0 where
   pub each : (x : ℤ) → Above x w.least → Above x v.least
 
--- the second interval begins more than a period behind the end of the first: a number of the cell lies between them
+-- the second interval begins more than a period after the end of the first: a number of the cell lies between them
 pub record LiesApart (k : ℕ) (v w : Interval) : Type 0 where
   pub end : ℤ
   pub ends : v.most ≡ Some end
@@ -92,7 +92,7 @@ pub record InInterval (z : ZoneView) (vs : List Interval) (x : ℤ) : Type 0 whe
 pub record IsFarBelow (u v : ZoneView) : Type 0 where
   pub far : (x y : ℤ) → IsMember u (x ∷ []) → IsMember v (y ∷ []) → (x +ℤ pos u.period) <ℤ y
 
--- each zone is far behind the one before it
+-- each zone is far after the one before it
 abbrev pub AreFarInTurn : ZoneView → List ZoneView → Type 0
 AreFarInTurn z [] = Unit {0}
 AreFarInTurn z (w ∷ ws) = IsFarBelow z w × AreFarInTurn w ws

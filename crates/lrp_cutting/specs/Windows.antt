@@ -37,17 +37,17 @@ pub record AreWindowsTo (zones : List ZoneView) (i n : ℕ) (ws : List Window) :
   pub each : (w : Window) → Contains ws w → IsWindowIn zones i w
   pub whole : (p : ℕ) → p < n → (w : Window) × Contains ws w × (w.place ≡ p)
 
--- e is the end of the last window where others end with ends, or no window ends behind it
+-- e is the end of the last window where others end with ends, or no window ends after it
 pub record IsNextEnd (ends : List (Option ℤ)) (w : Window) (e : Option ℤ) : Type 0 where
   pub own : (x : ℤ) → Within x w.most → Within x e
   pub last : 0 < length ends → (x : ℤ) → Within x (slice_index_or ends (length ends - 1) None) → Within x e
 
--- no window ends behind the end at its own place or a later one
+-- no window ends after the end at its own place or a later one
 pub record ReachTo (ws : List Window) (ends : List (Option ℤ)) : Type 0 where
   pub count : length ends ≡ length ws
   pub each : (j : ℕ) → j < length ends → (w : Window) → Contains (take (j + 1) ws) w → (x : ℤ) → Within x w.most → Within x (slice_index_or ends j None)
 
--- the windows are in order, and no one ends behind what is reached
+-- the windows are in order, and no one ends after what is reached
 pub record IsInLine (l : Line) : Type 0 where
   pub order : AllPairs StartsBy l.windows.items
   pub reached : ReachTo l.windows.items l.reached.items

@@ -19,7 +19,7 @@ pub(crate) fn bounded(cell: &Zone, bounds: &[Bound]) -> Option<Zone>
     Some(zone)
 }
 
-// The residues of a zone's columns, and zeros behind them.
+// The residues of a zone's columns, and zeros after them.
 fn residues_of(zone: &Zone) -> [i64; 8]
     ensures size { length result ≡ 8 }
     ensures value { take (columns_of zone.now) result ≡ zone.now.residues }

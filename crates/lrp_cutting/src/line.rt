@@ -14,7 +14,7 @@ use std::alloc::Global;
 
 /// Appends to another store the maximal intervals of the numbers of a cell with one column, ascending.
 ///
-/// An interval that comes behind its neighbour is joined to it as it comes, so zones that touch in turn take no memory.
+/// An interval that comes after its neighbour is joined to it as it comes, so zones that touch in turn take no memory.
 pub fn settle_line(
     alloc: Global,
     store: &Store,

@@ -15,7 +15,7 @@ use lrp_model::{List, Memory};
 use lrp_zone::Zone;
 use std::alloc::Global;
 
-// How many zones before and behind one in a list are its neighbours.
+// How many zones before and after one in a list are its neighbours.
 const NEIGHBOURS: usize = 8;
 
 /// The same set of tuples in settled zones of the cell: one zone where there is no column, the maximal intervals where there

@@ -110,7 +110,7 @@ beside_none (m ∷ ns) (ts ∷ tss) name none =
     let both = neither (bytes_eq name m) (list_any (bytes_eq name) ns) none in
     ap (λ b. if b then ts else texts_beside ns tss name) both.0 ∙ beside_none ns tss name both.1
 
--- a new name with its texts, behind the others
+-- a new name with its texts, after the others
 beside_new : (ns : List Identifier) (tss : List (List Text)) (name : Identifier) (u : List Text) → list_any (bytes_eq name) ns ≡ false → length ns ≡ length tss → (n : Identifier) → texts_beside (ns ++ name ∷ []) (tss ++ u ∷ []) n ≡ (if bytes_eq n name then u else texts_beside ns tss n)
 beside_new [] [] name u none same n = refl
 beside_new [] (ts ∷ tss) name u none same n = absurd (omega (arith, same))

@@ -60,7 +60,7 @@ not_before (m ∷ ns) (suc i) n d lt e =
     let other : m ≢ n = all_at (λ k. m ≢ k) ns i n d.0 (omega (arith, lt)) e in
     ap (λ b. b || list_any (bytes_eq n) (take i ns)) (apart m n (bytes_eq n m) refl other) ∙ not_before ns i n d.1 (omega (arith, lt)) e
 
--- the next name goes behind those before it
+-- the next name goes after those before it
 pub next_name : (ns : List Identifier) (i : ℕ) (n : Identifier) → AreDistinct ns → i < length ns → n ≡ get_or ns i n → insert_key bytes_eq (take i ns) n ≡ take (i + 1) ns
 next_name ns i n d lt e =
     ap (λ b. if b then take i ns else take i ns ++ n ∷ []) (not_before ns i n d lt e)

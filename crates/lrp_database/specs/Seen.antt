@@ -22,7 +22,7 @@ pub record HasSeen (entries : List (Sort × Text)) (seen : Seen) : Type 0 where
   pub unnamed : keys seen.unnamed ≡ once (texts_with Data entries)
   pub named : (n : Identifier) → named_texts seen n ≡ once (texts_with (Named n) entries)
 
--- these further texts, each with its sort, were seen behind those before
+-- these further texts, each with its sort, were seen after those before
 abbrev pub SeesMore : List (Sort × Text) → Seen → Seen → Type 0
 SeesMore more old new = (entries : List (Sort × Text)) → HasSeen entries old → HasSeen (entries ++ more) new
 

@@ -8,7 +8,7 @@ use Rattle.lrp_io.specs.Pieces.{IsWritten}
 use Rattle.lrp_io.specs.Buffers.{between, told_behind, Grew, HandsOn}
 use Rattle.lrp_io.proofs.BytesLemmas.{appended_twice}
 
--- a piece that is written behind the bytes that are held
+-- a piece that is written after the bytes that are held
 pub held_more : (old new piece : List ℕ) (first last n : ℕ) → first ≤ last → take last new ≡ take last old → between new last (last + n) ≡ piece → between new first (last + n) ≡ between old first last ++ piece
 held_more old new piece first last n le same e =
     let d = last - first in
@@ -86,7 +86,7 @@ front_of_held before now new more held bytes e whole f =
     let all : AppendsFront before (appended new (drop k held)) bytes = (length bytes, omega arith, kept ∙ whole ∙ ap (appended before) (sym (take-length bytes))) in
     front_of_kept before new (more ++ take k held) (drop k held) bytes grown all
 
--- a writer that failed leaves a front of its bytes in the sink behind the buffer
+-- a writer that failed leaves a front of its bytes in the sink after the buffer
 pub lent_front : {X : Type 0} (written : X → Option (List ℕ)) (old first now last : X) (none held bytes : List ℕ) → first ≡ old → none ≡ [] → last ≡ now → Grew (written first) (written now) → AppendsFront (appended (written first) none) (appended (written now) held) bytes → AppendsFront (written old) (written last) bytes
 lent_front written old first now last none held bytes from empty end g f =
     let start : appended (written first) none ≡ written first = ap (appended (written first)) empty ∙ appended_none (written first) in

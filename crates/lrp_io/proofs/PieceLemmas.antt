@@ -13,7 +13,7 @@ pub written_put : {T E : Type 0} (old new : Option (List ℕ)) (bytes : List ℕ
 written_put old new bytes (Ok t) ok front = ok
 written_put old new bytes (Err e) ok front = front
 
--- a front of the second bytes, behind the first, is a front of both
+-- a front of the second bytes, after the first, is a front of both
 pub front_behind : (old mid new : Option (List ℕ)) (a b : List ℕ) → mid ≡ appended old a → AppendsFront mid new b → AppendsFront old new (a ++ b)
 front_behind old mid new a b e f =
     let n = length a + f.0 in
@@ -41,7 +41,7 @@ written_err {T} {E} old new bytes r e is f = let P : Result T E → Type 0 = λ 
 pub flat_step : {A : Type 0} (f : A → List ℕ) (xs : List A) (i : ℕ) (d : A) → i < length xs → flat_map f (take (i + 1) xs) ≡ flat_map f (take i xs) ++ f (get_or xs i d)
 flat_step f xs i d lt = rw (add-one, take-suc xs i d lt, flat_map-append f (take i xs) (get_or xs i d ∷ [])) (ap (λ y. flat_map f (take i xs) ++ y) (append-nil (f (get_or xs i d))))
 
--- all bytes are those up to one element and those behind it
+-- all bytes are those up to one element and those after it
 pub flat_front : {A : Type 0} (f : A → List ℕ) (xs : List A) (i : ℕ) (d : A) → i < length xs → flat_map f xs ≡ (flat_map f (take i xs) ++ f (get_or xs i d)) ++ flat_map f (drop (i + 1) xs)
 flat_front f xs i d lt = ap (flat_map f) (sym (take-append-drop (i + 1) xs)) ∙ flat_map-append f (take (i + 1) xs) (drop (i + 1) xs) ∙ ap (λ y. y ++ flat_map f (drop (i + 1) xs)) (flat_step f xs i d lt)
 

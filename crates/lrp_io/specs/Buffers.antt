@@ -6,7 +6,7 @@ use Rattle.lrp_io.specs.Bytes.{appended}
 abbrev pub between : List ℕ → ℕ → ℕ → List ℕ
 between bytes first last = take (last - first) (drop first bytes)
 
--- the bytes told behind those that were told before
+-- the bytes told after those that were told before
 abbrev pub told_behind : Option (List ℕ) → Option (List ℕ) → List ℕ
 told_behind None now = []
 told_behind (Some before) None = []

@@ -34,7 +34,7 @@ impl HeldFiles {
         }
     }
 
-    /// Puts the reader at the first byte of the file at this place; behind the last file there is
+    /// Puts the reader at the first byte of the file at this place; after the last file there is
     /// an empty one.
     pub fn open(&mut self, file: usize)
         ensures { self.new ≡ record self.old { started = true; file = file; at = 0; given = 0 } }

@@ -38,7 +38,7 @@ pub fn write_buffered<S: Sink, T: Text>(out: &mut S, text: &T) -> Result<(), Fai
 /// Which sink was lent to a buffer, for proofs alone.
 ///
 /// A type that names it stays the same in every call, so a writer of which no clause speaks of the
-/// sink behind still leaves that in its place.
+/// sink after still leaves that in its place.
 trait Lent {
     /// The ghost name of the reference to it.
     ghost name: { ℕ };

@@ -39,7 +39,7 @@ module _ (M : Structure) (env : Assignment) where
   chosen_from (form (exists v s f) fs) e c = cc
   chosen_from (form (forall v s f) fs) e c = cc
 
--- ---- behind the quantifiers
+-- ---- after the quantifiers
 
 module _ (M : Structure) where
   all_of : (f : Form) (env : Assignment) → Satisfies f M env → SatisfiesAll (conjuncts f) M env

@@ -21,7 +21,7 @@ use Rattle.lrp_kept.specs.declared.disjuncts.DisjunctDraft.{DisjunctDraft}
 use Rattle.lrp_kept.specs.declared.disjuncts.NamedTerms.{NamedTerms}
 use Rattle.lrp_kept.proofs.DisjunctAtoms.{atoms_are}
 
--- ---- elements one behind the other
+-- ---- elements one after the other
 
 atoms_joined : (fs gs : Forms) → atoms_among (joined fs gs) ≡ atoms_among fs ++ atoms_among gs
 atoms_joined no_forms gs = refl

@@ -1,4 +1,4 @@
--- The atoms of a disjunct as they are joined one behind the other, and the disjuncts of a query.
+-- The atoms of a disjunct as they are joined one after the other, and the disjuncts of a query.
 use Rattle.std.proofs.Common.{◌≡◌, ◌<◌, ◌+◌, ℕ, zero, suc, false, Vec, Global, Result, Ok, Err, List, [], ◌∷◌, ◌++◌, length, take, get_or, map, Some, refl, sym, ap, subst, ◌∙◌, arith}
 use Rattle.std.specs.Prelude.{Contains, IfOk, filter, slice_get}
 use Rattle.std.specs.List.{AllByRecursion, AllZip}
@@ -26,7 +26,7 @@ use Rattle.lrp_kept.proofs.Zipped.{zip_push}
 
 -- ---- the atoms
 
--- one atom more, behind the variables so far
+-- one atom more, after the variables so far
 push_joined : (tests : List Test) (ts xs : List Identifier) (js : List JoinedAtom) (j : JoinedAtom) → AreJoined tests ts xs js
     → j.vars.times ≡ joint (times_behind ts js) (scan_times j.terms) → j.vars.texts ≡ joint (texts_behind xs js) (scan_texts j.terms) → j.tests ≡ filter (is_test_covered j.vars.times j.vars.texts) tests
     → AreJoined tests ts xs (js ++ j ∷ [])
@@ -41,7 +41,7 @@ texts_pushed : (xs : List Identifier) (js : List JoinedAtom) (j : JoinedAtom) �
 texts_pushed xs [] j = refl
 texts_pushed xs (k ∷ js) j = texts_pushed k.vars.texts js j
 
--- the first atoms are joined, and these are the variables behind them
+-- the first atoms are joined, and these are the variables after them
 pub record AreJoinedUp (names : List Identifier) (all : List Atom) (tests : List Test) (vars : Vars) (js : List JoinedAtom) : Type 0 where
   pub joined : AreAllJoined names all tests js
   pub times : vars.times ≡ times_behind [] js

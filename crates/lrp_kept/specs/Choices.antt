@@ -88,7 +88,7 @@ pub record IsChosenBy (db : List Relation) (fs : Forms) (env : Assignment) : Typ
   pub held : AllZip (λ a row. Contains (rows_of db a.name) row) (atoms_each fs) rows
   pub is : IsInChoice (atoms_each fs) (tests_among fs) rows env
 
--- some values of the sorts of a disjunct's quantifiers, and a choice for what stands behind them
+-- some values of the sorts of a disjunct's quantifiers, and a choice for what stands after them
 abbrev pub ChosenWithValues : Form → Structure → Assignment → Type 0
 ChosenWithValues (exists v s f) M env = (d : Datum) × IsOfSort M s d × ChosenWithValues f M (with_value v d env)
 ChosenWithValues f M env = IsChosenBy M.relations (conjuncts f) env

@@ -26,7 +26,7 @@ pub record IsAtomOf (names : List Identifier) (a : Atom) (j : JoinedAtom) : Type
   pub terms : j.terms ≡ a.terms
   pub name : slice_get names j.relation ≡ Some a.name
 
--- behind these variables each atom has the further ones of its terms, and the tests of no others
+-- after these variables each atom has the further ones of its terms, and the tests of no others
 abbrev pub AreJoined : List Test → List Identifier → List Identifier → List JoinedAtom → Type 0
 AreJoined tests times texts [] = Unit {0}
 AreJoined tests times texts (a ∷ more) =

@@ -55,7 +55,7 @@ pub record IsJoinedAtom (names : List Identifier) (a : Atom) (tests : List Test)
   pub texts : j.vars.texts ≡ vars.texts
   pub covered : j.tests ≡ filter (is_test_covered vars.times vars.texts) tests
 
--- the variables behind atoms
+-- the variables after atoms
 abbrev pub times_behind : List Identifier → List JoinedAtom → List Identifier
 times_behind times [] = times
 times_behind times (a ∷ more) = times_behind a.vars.times more
@@ -64,7 +64,7 @@ abbrev pub texts_behind : List Identifier → List JoinedAtom → List Identifie
 texts_behind texts [] = texts
 texts_behind texts (a ∷ more) = texts_behind a.vars.texts more
 
--- the atoms as they are joined one behind the other
+-- the atoms as they are joined one after the other
 pub record AreAllJoined (names : List Identifier) (all : List Atom) (tests : List Test) (js : List JoinedAtom) : Type 0 where
   pub each : AllZip (IsAtomOf names) all js
   pub joined : AreJoined tests [] [] js
@@ -78,7 +78,7 @@ pub record MakesDisjunct (names : List Identifier) (draft : DisjunctDraft) (d : 
 
 -- ---- disjuncts
 
--- only atoms and tests stand behind the quantifiers, and the relation of each atom has one of the names
+-- only atoms and tests stand after the quantifiers, and the relation of each atom has one of the names
 pub record CanBeJoinedUp (names : List Identifier) (f : Form) : Type 0 where
   pub conjunctive : is_conjunctive (kept_elements f) ≡ true
   pub named : AreOfRelations names (atoms f)

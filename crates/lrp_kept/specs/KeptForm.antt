@@ -37,7 +37,7 @@ abbrev pub tested_variables : Form → List Variable
 tested_variables (test t) = variables_of_test t
 tested_variables f = []
 
--- the formula behind the `exists` that a formula begins with
+-- the formula after the `exists` that a formula begins with
 abbrev pub matrix : Form → Form
 matrix (exists v s f) = matrix f
 matrix f = f
@@ -47,7 +47,7 @@ abbrev pub bound_variables : Form → List Variable
 bound_variables (exists v s f) = bound_by s v ∷ bound_variables f
 bound_variables f = []
 
--- the elements of the `and` behind the `exists`, or what stands there in place of an `and`
+-- the elements of the `and` after the `exists`, or what stands there in place of an `and`
 abbrev pub kept_elements : Form → Forms
 kept_elements f = conjuncts (matrix f)
 

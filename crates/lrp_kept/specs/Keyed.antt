@@ -46,7 +46,7 @@ pub record IsUnlisted (relation place key : ℕ) (old new : List HeldRelation) :
   pub size : length front ≡ place
   pub listed : AreRelisted relation (front ++ back) old new
 
--- a row stands under a new key behind the others of its relation
+-- a row stands under a new key after the others of its relation
 pub record IsHeldBehind (source : HeldRow) (key : ℕ) (old new : HeldRows) : Type 0 where
   pub free : get old.sources key ≡ None
   pub there : get new.sources key ≡ Some source

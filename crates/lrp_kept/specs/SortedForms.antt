@@ -43,7 +43,7 @@ abbrev mutual
   AreSortedForms no_forms db bs = Unit {0}
   AreSortedForms (form f fs) db bs = IsSortedForm f db bs × AreSortedForms fs db bs
 
--- the binders around what stands behind the `exists` that a formula begins with
+-- the binders around what stands after the `exists` that a formula begins with
 abbrev pub binders_at : Form → List Column → List Column
 binders_at (exists v s f) bs = binders_at f (record { name = v; sort = s } ∷ bs)
 binders_at f bs = bs

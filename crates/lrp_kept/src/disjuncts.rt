@@ -173,7 +173,7 @@ fn joined_atoms(
     Ok(atoms)
 }
 
-// The atom behind which there are these variables.
+// The atom after which there are these variables.
 fn joined_atom(
     alloc: Global,
     atom: &NamedTerms,

@@ -14,7 +14,7 @@ use crate::signs::{Signed, matrix_of};
 use lrp_model::{Column, Op, Query, RawFormula, RawKind, RawTerm, RawTermKind, Sort};
 
 /// Whether a query is in kept form: its core form, taken without sort elements, is an `or` of one or more conjunctions of
-/// atoms, `in` points, comparisons and equalities, each behind any number of `exists`; and in each of them every variable of
+/// atoms, `in` points, comparisons and equalities, each after any number of `exists`; and in each of them every variable of
 /// the head, of an `exists` and of a test occurs in an atom.
 pub fn is_kept(query: &Query) -> bool
     ensures { result ≡ is_kept_query (question_of query.now) }

@@ -138,7 +138,7 @@ impl HeldRows {
         }
     }
 
-    /// Puts a row behind the others of its relation, and gives its key.
+    /// Puts a row after the others of its relation, and gives its key.
     pub fn hold(&mut self, source: HeldRow) -> Result<usize, Memory>
         requires { source.relation < length self.old.relations.items }
         ensures held { IfOk result (λ key. IsHeldBehind source key self.old self.new) }
@@ -167,7 +167,7 @@ impl HeldRows {
     }
 }
 
-// Puts a key behind the others of a relation.
+// Puts a key after the others of a relation.
 fn list_key(relations: &mut Vec<HeldRelation>, relation: usize, key: usize) -> Result<(), Memory>
     requires { relation < length relations.old.items }
     ensures listed { OnOk result (AreRelisted relation

@@ -14,7 +14,7 @@ pub(crate) struct Signed<'a> {
     pub(crate) holds: bool,
 }
 
-/// What stands behind the `exists` with which the core form of a formula, or that of its negation, begins.
+/// What stands after the `exists` with which the core form of a formula, or that of its negation, begins.
 pub(crate) fn matrix_of<'a>(formula: &'a RawFormula, holds: bool) -> Signed<'a>
     ensures { core_of result ≡ matrix (kept_signed holds (form_of formula.now)) }
 {

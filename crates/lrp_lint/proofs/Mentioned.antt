@@ -12,7 +12,7 @@ use Rattle.lrp_model.specs.declared.raw.RawTerm.{RawTerm}
 use Rattle.lrp_model.specs.declared.relations.Column.{Column}
 use Rattle.lrp_model.specs.declared.relations.Relation.{Relation}
 use Rattle.lrp_model.specs.declared.tokens.Place.{Place}
-use Rattle.lrp_lint.specs.Known.{column_at}
+use Rattle.lrp_lint.specs.Known.{column_if_any}
 use Rattle.lrp_lint.specs.Mentions.{Mention, empty_findings, mention_findings, mention_of, mentions, query_findings, term_mentions}
 use Rattle.lrp_lint.specs.declared.flaws.QueryFinding.{QueryFinding}
 use Rattle.lrp_lint.proofs.TextSets.{front_length}
@@ -26,19 +26,19 @@ no_terms (c ∷ cs) = refl
 pub one_term : (c : Column) (t : RawTerm) → term_mentions (c ∷ []) (t ∷ []) ≡ mention_of t.place t.kind c.sort
 one_term c t = append-nil (mention_of t.place t.kind c.sort)
 
-terms_push : (cs : List Column) (ts : List RawTerm) (t : RawTerm) → term_mentions cs (ts ++ t ∷ []) ≡ term_mentions cs ts ++ term_mentions (column_at cs (length ts)) (t ∷ [])
+terms_push : (cs : List Column) (ts : List RawTerm) (t : RawTerm) → term_mentions cs (ts ++ t ∷ []) ≡ term_mentions cs ts ++ term_mentions (column_if_any cs (length ts)) (t ∷ [])
 terms_push [] ts t = refl
 terms_push (c ∷ cs) [] t = ap (λ ms. mention_of t.place t.kind c.sort ++ ms) (no_terms cs)
 terms_push (c ∷ cs) (u ∷ ts) t =
-    ap (λ ms. mention_of u.place u.kind c.sort ++ ms) (terms_push cs ts t) ∙ sym (append_assoc (mention_of u.place u.kind c.sort) (term_mentions cs ts) (term_mentions (column_at cs (length ts)) (t ∷ [])))
+    ap (λ ms. mention_of u.place u.kind c.sort ++ ms) (terms_push cs ts t) ∙ sym (append_assoc (mention_of u.place u.kind c.sort) (term_mentions cs ts) (term_mentions (column_if_any cs (length ts)) (t ∷ [])))
 
 -- one term more
 pub terms_more : (db : List Relation) (cs : List Column) (ts : List RawTerm) (i : ℕ) (t : RawTerm) (old mid new : List QueryFinding) → i < length ts → t ≡ get_or ts i t → mid ≡ old ++ flat_map (mention_findings db) (term_mentions cs (take i ts))
-    → new ≡ mid ++ flat_map (mention_findings db) (term_mentions (column_at cs i) (t ∷ [])) → new ≡ old ++ flat_map (mention_findings db) (term_mentions cs (take (i + 1) ts))
+    → new ≡ mid ++ flat_map (mention_findings db) (term_mentions (column_if_any cs i) (t ∷ [])) → new ≡ old ++ flat_map (mention_findings db) (term_mentions cs (take (i + 1) ts))
 terms_more db cs ts i t old mid new low is m n =
     let count : length (take i ts) ≡ i = front_length ts i (omega (arith, low)) in
-    found_twice db old mid new (term_mentions cs (take i ts)) (term_mentions (column_at cs i) (t ∷ [])) m n
-    ∙ ap (λ ms. old ++ flat_map (mention_findings db) ms) (sym (ap (term_mentions cs) (take_more ts i t low ∙ ap (λ x. take i ts ++ x ∷ []) (sym is)) ∙ terms_push cs (take i ts) t ∙ ap (λ k. term_mentions cs (take i ts) ++ term_mentions (column_at cs k) (t ∷ [])) count))
+    found_twice db old mid new (term_mentions cs (take i ts)) (term_mentions (column_if_any cs i) (t ∷ [])) m n
+    ∙ ap (λ ms. old ++ flat_map (mention_findings db) ms) (sym (ap (term_mentions cs) (take_more ts i t low ∙ ap (λ x. take i ts ++ x ∷ []) (sym is)) ∙ terms_push cs (take i ts) t ∙ ap (λ k. term_mentions cs (take i ts) ++ term_mentions (column_if_any cs k) (t ∷ [])) count))
 
 -- an atom mentions its relation, and then its texts
 pub atom_found : (db : List Relation) (p : Place) (n : Identifier) (ts : List RawTerm) (r : Option Relation) (cs : List Column) (old mid new : List QueryFinding) → r ≡ relation_named db n → cs ≡ columns_in r → mid ≡ old ++ empty_findings p (rows_in r)

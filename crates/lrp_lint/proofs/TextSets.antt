@@ -17,7 +17,7 @@ use Rattle.lrp_model.specs.declared.relations.Sort.TheVariants.{Time, Data, Name
 use Rattle.lrp_model.specs.declared.relations.Value.{Value}
 use Rattle.lrp_model.specs.declared.relations.Value.TheVariants.{Point, Const}
 use Rattle.lrp_model.specs.declared.relations.RowPoint.{RowPoint}
-use Rattle.lrp_lint.specs.Known.{option_list, column_at, has, names, says}
+use Rattle.lrp_lint.specs.Known.{option_list, column_if_any, has, names, says}
 use Rattle.lrp_lint.specs.Mentions.{is_entry}
 use Rattle.lrp_lint.specs.contracts.known.SortNamePartialEq.TheImpl as by_name
 use Rattle.lrp_lint.specs.contracts.known.SortedTextPartialEq.TheImpl as by_text
@@ -117,10 +117,10 @@ pub point_text : (s : Sort) (t : Text) (c : Column) (v : Value) (at : RowPoint) 
 point_text s t c v at before e = nothing_added before ∙ ap (λ w. before || list_any (is_entry s t) (row_texts (c ∷ []) (w ∷ []))) (sym e)
 
 -- the column at an index
-pub column_there : (cs : List Column) (i : ℕ) (c : Column) → i < length cs → c ≡ get_or cs i c → column_at cs i ≡ c ∷ []
+pub column_there : (cs : List Column) (i : ℕ) (c : Column) → i < length cs → c ≡ get_or cs i c → column_if_any cs i ≡ c ∷ []
 column_there cs i c low is = ap option_list (slice_get-get_or cs i c low ∙ ap (λ x. Some x) (sym is))
 
-pub column_past : (cs : List Column) (i : ℕ) → length cs ≤ i → column_at cs i ≡ []
+pub column_past : (cs : List Column) (i : ℕ) → length cs ≤ i → column_if_any cs i ≡ []
 column_past [] i high = refl
 column_past (c ∷ cs) zero high = absurd (omega arith)
 column_past (c ∷ cs) (suc i) high = column_past cs i (omega arith)
@@ -135,7 +135,7 @@ no_values : (cs : List Column) → row_texts cs [] ≡ []
 no_values [] = refl
 no_values (c ∷ cs) = refl
 
-values_push : (cs : List Column) (vs : List Value) (v : Value) → row_texts cs (vs ++ v ∷ []) ≡ row_texts cs vs ++ row_texts (column_at cs (length vs)) (v ∷ [])
+values_push : (cs : List Column) (vs : List Value) (v : Value) → row_texts cs (vs ++ v ∷ []) ≡ row_texts cs vs ++ row_texts (column_if_any cs (length vs)) (v ∷ [])
 values_push [] vs v = refl
 values_push (c ∷ cs) [] (Point at) = no_values cs
 values_push (c ∷ cs) [] (Const t) = ap (λ ys. (c.sort, t) ∷ ys) (no_values cs)
@@ -149,11 +149,11 @@ any_longer p front more all before old new is o n =
 
 -- one value more
 pub value_more : (s : Sort) (t : Text) (cs : List Column) (vs : List Value) (i : ℕ) (v : Value) (before old new : Bool) → i < length vs → v ≡ get_or vs i v → old ≡ (before || list_any (is_entry s t) (row_texts cs (take i vs)))
-    → new ≡ (old || list_any (is_entry s t) (row_texts (column_at cs i) (v ∷ []))) → new ≡ (before || list_any (is_entry s t) (row_texts cs (take (i + 1) vs)))
+    → new ≡ (old || list_any (is_entry s t) (row_texts (column_if_any cs i) (v ∷ []))) → new ≡ (before || list_any (is_entry s t) (row_texts cs (take (i + 1) vs)))
 value_more s t cs vs i v before old new low is o n =
     let count : length (take i vs) ≡ i = front_length vs i (omega (arith, low)) in
-    any_longer (is_entry s t) (row_texts cs (take i vs)) (row_texts (column_at cs i) (v ∷ [])) (row_texts cs (take (i + 1) vs)) before old new
-    (ap (row_texts cs) (take_more vs i v low ∙ ap (λ x. take i vs ++ x ∷ []) (sym is)) ∙ values_push cs (take i vs) v ∙ ap (λ m. row_texts cs (take i vs) ++ row_texts (column_at cs m) (v ∷ [])) count) o n
+    any_longer (is_entry s t) (row_texts cs (take i vs)) (row_texts (column_if_any cs i) (v ∷ [])) (row_texts cs (take (i + 1) vs)) before old new
+    (ap (row_texts cs) (take_more vs i v low ∙ ap (λ x. take i vs ++ x ∷ []) (sym is)) ∙ values_push cs (take i vs) v ∙ ap (λ m. row_texts cs (take i vs) ++ row_texts (column_if_any cs m) (v ∷ [])) count) o n
 
 -- one element more, of which each has texts
 pub one_more_of : {A : Type 0} (s : Sort) (t : Text) (f : A → List (Sort × Text)) (xs : List A) (i : ℕ) (x : A) (before old new : Bool) → i < length xs → x ≡ get_or xs i x → old ≡ (before || list_any (is_entry s t) (flat_map f (take i xs)))

@@ -39,8 +39,8 @@ abbrev pub option_list : {A : Type 0} → Option A → List A
 option_list None = []
 option_list (Some x) = x ∷ []
 
-abbrev pub column_at : List Column → ℕ → List Column
-column_at columns i = option_list (slice_get columns i)
+abbrev pub column_if_any : List Column → ℕ → List Column
+column_if_any columns i = option_list (slice_get columns i)
 
 -- the texts of a relation's rows, each with the sort of its column
 abbrev pub relation_texts : Relation → List (Sort × Text)

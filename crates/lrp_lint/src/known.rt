@@ -6,7 +6,7 @@ ghost use Rattle.lrp_model.specs.Rows.{relation_named};
 ghost use Rattle.lrp_model.specs.Sorts.{same_sort};
 ghost use Rattle.lrp_model.specs.Texts.{Text};
 ghost use Rattle.lrp_model.specs.declared.relations.Sort.{Sort as SortOf};
-ghost use Rattle.lrp_lint.specs.Known.{column_at, has, names, relation_texts, says};
+ghost use Rattle.lrp_lint.specs.Known.{column_if_any, has, names, relation_texts, says};
 ghost use Rattle.lrp_lint.specs.Mentions.{is_entry, is_known};
 
 use lrp_database::Database;
@@ -161,7 +161,7 @@ fn add_at<'a>(
 ) -> Result<(), Memory>
     ensures { OnOk result ((s : SortOf) (t : Text)
         → has texts.new s t ≡ (has texts.old s t || list_any (is_entry s t)
-        (row_texts (column_at columns.now i) (value.now ∷ [])))) }
+        (row_texts (column_if_any columns.now i) (value.now ∷ [])))) }
 {
     if i < columns.len() {
         return add_value(texts, &columns[i], value);

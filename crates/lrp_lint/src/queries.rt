@@ -4,7 +4,7 @@ ghost use Rattle.std.specs.List.{flat_map};
 ghost use Rattle.lrp_model.specs.RawQueries.{raw_atom, raw_form_of, raw_forms_of, raw_question_of};
 ghost use Rattle.lrp_model.specs.Sorting.{binder_sort};
 ghost use Rattle.lrp_model.specs.Rows.{columns_in, rows_in};
-ghost use Rattle.lrp_lint.specs.Known.{binders_in, column_at};
+ghost use Rattle.lrp_lint.specs.Known.{binders_in, column_if_any};
 ghost use Rattle.lrp_lint.specs.Mentions.{compare_mentions, empty_findings, found_at, mention_findings, mention_of, mentions, mentions_each, query_findings, sort_opposite, term_mentions};
 
 use crate::flaws::{QueryFinding, QueryFlaw};
@@ -197,7 +197,7 @@ fn add_term_at(
 ) -> Result<(), Memory>
     ensures { OnOk result (found.new.items
         ≡ found.old.items ++ flat_map (mention_findings catalog.now)
-        (term_mentions (column_at columns.now i) (term.now ∷ []))) }
+        (term_mentions (column_if_any columns.now i) (term.now ∷ []))) }
 {
     if i < columns.len() {
         return add_term(catalog, found, term, &columns[i].sort);

@@ -35,7 +35,7 @@ same_tuple cs t u h k e =
     ∙ ap₂ (in_head_order cs) (slice_cmp-IsAntisymmetric int_cmp-IsAntisymmetric (times_of t) (times_of u) both.0) (slice_cmp-IsAntisymmetric (slice_cmp-IsAntisymmetric nat_cmp-IsAntisymmetric) (texts_of t) (texts_of u) both.1)
     ∙ in_head_order_is cs u k
 
--- ---- what is left behind a tuple was left before
+-- ---- what is left after a tuple was left before
 
 back : (w : WindowView) (p : Option Tuple) (t u : Tuple) → IsLeft w p t → IsLeft w (Some t) u → IsLeft w p u
 back w p t u l m = record { is = m.is; inside = m.inside; later = by p l.later }

@@ -6,7 +6,7 @@ use Rattle.std.specs.Cmp.Lexicographic.{slice_cmp}
 use Rattle.lrp_model.specs.Texts.{Text, text_cmp}
 use Rattle.lrp_model.specs.Tuples.{text_at, texts_at}
 
--- some texts come behind none
+-- some texts come after none
 pub no_numbers : (domain : List Text) (ts : List Text) (ns : List ℕ) → 1 ≤ length ts → length ns ≡ 0 → Greater ≡ slice_cmp text_cmp ts (texts_at domain ns)
 no_numbers domain [] ns l e = absurd (omega arith)
 no_numbers domain (t ∷ ts) [] l e = refl

@@ -10,8 +10,8 @@ ghost use Rattle.lrp_list.specs.Giving.{GivesTuples};
 ghost use Rattle.lrp_list.specs.Listing.{AreCursors, IsLeft, WindowView};
 ghost use Rattle.lrp_list.specs.declared.cursor.Cursor.{Cursor};
 
-/// The answers that a lister gives one after the other, up to a limit, are the page behind its first position, with the
-/// flag that something is left behind them.
+/// The answers that a lister gives one after the other, up to a limit, are the page after its first position, with the
+/// flag that something is left after them.
 pub fn listings_are_pages()
     ensures { (w : WindowView) (after end : Option Tuple) (limit : ℕ) (page : List Tuple)
         (more : Bool)

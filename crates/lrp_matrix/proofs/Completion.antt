@@ -1,4 +1,4 @@
--- The integers that a column may have behind a prefix: closed bounds with zero on the diagonal are closed under triangles, so a prefix that meets the bounds before column i can be completed.
+-- The integers that a column may have after a prefix: closed bounds with zero on the diagonal are closed under triangles, so a prefix that meets the bounds before column i can be completed.
 use Rattle.std.proofs.Common.{◌≡◌, ℕ, ◌+◌, ◌<◌, ◌≤◌, ◌≢◌, Option, Some, None, true, false, cond, eqb, ltb, List, arith, refl, sym, ap, subst, ◌∙◌, inl, inr, ◌⊎◌}
 use Rattle.std.specs.Prelude.{ℤ, pos, ◌-ℤ◌, ◌≤ℤ◌}
 use Rattle.std.proofs.lemmas.Int.{ints, by_lt_z}

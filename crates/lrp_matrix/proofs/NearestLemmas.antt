@@ -93,7 +93,7 @@ rank_nearer (pos (suc n)) (pos m) h side le = absurd (omega (arith, ints))
 rank_nearer (pos (suc n)) (negsuc m) h side le = let l : suc n ≤ suc m = le in omega arith
 rank_nearer (negsuc n) y h side le = absurd (omega (arith, ints))
 
--- and behind one of a lesser magnitude
+-- and after one of a lesser magnitude
 rank_farther : (x y : ℤ) → pos 0 ≤ℤ x → y <ℤ pos 0 → unsigned_abs y < unsigned_abs x → rank y ≤ rank x
 rank_farther (pos zero) (negsuc m) h side le = let l : suc m < 0 = le in absurd (omega arith)
 rank_farther (pos (suc n)) (negsuc m) h side le = let l : suc m < suc n = le in omega arith

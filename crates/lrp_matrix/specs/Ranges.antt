@@ -1,4 +1,4 @@
--- What one column may have behind integers for the columns before it.
+-- What one column may have after integers for the columns before it.
 use Rattle.std.specs.Prelude.{◌≡◌, ℕ, ℤ, ◌<◌, ◌≤◌, Option, Some, None, List, length, ◌-ℤ◌, ◌≤ℤ◌, neg_ℤ}
 use Rattle.lrp_theory.specs.Bounds.{Within}
 use Rattle.lrp_theory.specs.Entries.{entry, node, AtMost}

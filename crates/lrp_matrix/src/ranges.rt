@@ -28,7 +28,7 @@ fn negated(a: Option<i128>) -> Option<i128>
     }
 }
 
-/// The low and the high end of column i behind the integers of the columns before it: the greatest `x_p` less the bound
+/// The low and the high end of column i after the integers of the columns before it: the greatest `x_p` less the bound
 /// of p minus i, and the least `x_p` plus the bound of i minus p.
 pub fn ends(cells: &[Option<i128>; 81], i: usize, prefix: &[i64]) -> (Option<i128>, Option<i128>)
     requires column { i < 9 }

@@ -51,7 +51,7 @@ noughts = record { size = refl; zeros = λ i h. nought 8 i }
     nought (suc n) (suc i) = nought n i
 
 module _ (s : StoreView) (is : IsStore s) where
-  -- the period as it is passed, and a residue behind another
+  -- the period as it is passed, and a residue after another
   pub period_word : (k : ℤ) → k ≡ pos s.period → to_z w64 (of_z w64 k) ≡ pos s.period
   period_word k e = let h : s.period ≤ 2 ^ 62 = is.period_high in word_is k (omega (arith, ints)) (omega (arith, ints)) ∙ e
 

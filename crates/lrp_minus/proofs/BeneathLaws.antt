@@ -26,7 +26,7 @@ all_noughts nought = record { size = refl; zeros = λ i h. zeros 8 i }
     zeros (suc n) zero = refl
     zeros (suc n) (suc i) = zeros n i
 
--- one more value is put behind the others
+-- one more value is put after the others
 module _ {X : Type 0} (nought : X) (i : ℕ) (own : List X) (p : IsPadded nought i own) (x : X) where
   pub padded_more : IsPadded nought (i + 1) (set own i x)
   padded_more = record {

@@ -24,7 +24,7 @@ pub record IsAbsentAt (s : StoreView) (column : ℕ) (cell : Cell) (times : List
   pub named : take s.shape.texts cell.texts ≡ texts
   pub none : InStore s times texts → ⊥
 
--- the cell has a text for each column of the store, residues before a column, and zeros behind them
+-- the cell has a text for each column of the store, residues before a column, and zeros after them
 pub record IsChosenTo (s : StoreView) (column : ℕ) (cell : Cell) : Type 0 where
   pub texts : IsPadded 0 s.shape.texts cell.texts
   pub residues : IsPadded (pos 0) column cell.residues
@@ -35,7 +35,7 @@ pub record CanBeTurned (s : StoreView) : Type 0 where
   pub period : 2 * s.period ≤ 2 ^ 62
   pub reach : HasReach s (2 ^ 62 - 2 * s.period)
 
--- the cell has a text and a residue for each column of the store, and zeros behind them
+-- the cell has a text and a residue for each column of the store, and zeros after them
 abbrev pub IsChosenWhole : StoreView → Cell → Type 0
 IsChosenWhole s cell = IsChosenTo s s.shape.times cell
 

@@ -12,12 +12,12 @@ use Rattle.lrp_tables.specs.Calls.{number_at}
 abbrev pub HasBeneath : Places → StoreView → List ℤ → List ℕ → Type 0
 HasBeneath places s times texts = InStore s (map (node times) places.times) (map (number_at texts) places.texts)
 
--- own has the residues at the places, in order, and zeros behind them
+-- own has the residues at the places, in order, and zeros after them
 pub record AreResiduesAt (places : List ℕ) (residues own : List ℤ) : Type 0 where
   pub padded : IsPadded (pos 0) (length places) own
   pub each : (p : ℕ) → p ≤ length places → node own p ≡ node residues (target places p)
 
--- own has the numbers at the places, in order, and zeros behind them
+-- own has the numbers at the places, in order, and zeros after them
 pub record ArePickedNumbers (places numbers own : List ℕ) : Type 0 where
   pub padded : IsPadded 0 (length places) own
   pub each : (i : ℕ) → i < length places → slice_index_or own i 0 ≡ number_at numbers (slice_index_or places i 0)

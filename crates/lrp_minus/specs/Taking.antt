@@ -46,7 +46,7 @@ pub record IsLeftIn (t : Taking) (shape : Shape) (k : ℕ) (cell : Cell) (p : �
   pub branch : IsBranch t.parts.now shape k t.frame.now.order cell p times texts
   pub none : HasBeneath t.places.now t.right.now times texts → ⊥
 
--- the frame is that of the parts, with the columns in order, no place is behind the last one, and bounds of both sides can be turned in cells of the store s
+-- the frame is that of the parts, with the columns in order, no place is after the last one, and bounds of both sides can be turned in cells of the store s
 pub record IsSubtraction (t : Taking) (s : StoreView) : Type 0 where
   pub store : IsStore s
   pub fits : All (Fits s.shape.times s.period) t.parts.now

@@ -62,7 +62,7 @@ pub first_of_both : {F : Type 0} (stands : F → List ℕ) (xs ys : List F) → 
 first_of_both stands [] ys = refl
 first_of_both stands (x ∷ xs) ys = ap (earlier stands x) (first_of_both stands xs ys) ∙ sooner_of_three stands x (earliest stands xs) (earliest stands ys)
 
--- nothing is behind
+-- nothing is after
 pub sooner_than_none : {F : Type 0} (stands : F → List ℕ) (f : Option F) → sooner stands f None ≡ f
 sooner_than_none stands None = refl
 sooner_than_none stands (Some f) = refl

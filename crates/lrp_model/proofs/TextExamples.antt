@@ -117,7 +117,7 @@ end_at_9 = record { token = end_token; place = place 9 }
 abbrev here_token : Token → Placed
 here_token t = record { token = t; place = place 1 }
 
--- no text has the end behind the word `relation`
+-- no text has the end after the word `relation`
 no_end : (lawful : Bool) (other : Tokens) → TextOf database_text FitsDatabase lawful (relation_token ∷ end_at_9 ∷ other) → ⊥
 no_end lawful other t = none_of t.0 t.2
   where

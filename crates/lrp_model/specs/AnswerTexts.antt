@@ -42,7 +42,7 @@ row_cell_cmp r s = ordering_then (slice_cmp text_cmp (value_texts r.values) (val
 abbrev pub OfOneCell : Row → Row → Type 0
 OfOneCell r s = row_cell_cmp r s ≡ Equal
 
--- the cell of the first row is not behind that of the second
+-- the cell of the first row is not after that of the second
 abbrev pub InOrder : Row → Row → Type 0
 InOrder r s = row_cell_cmp r s ≢ Greater
 

@@ -31,7 +31,7 @@ suits (Constant t) c = not (is_time c.sort)
 suits (Instant i) c = is_time c.sort
 suits (Point i k) c = is_time c.sort
 
--- Sort: a text in a time column, or another value in a column of a data sort; at the value. Values behind the last column have none: their number is the fault of the row
+-- Sort: a text in a time column, or another value in a column of a data sort; at the value. Values after the last column have none: their number is the fault of the row
 abbrev pub wrong_sorts : List RawColumn → List (Located WrittenValue) → List DbFault
 wrong_sorts (c ∷ cs) (v ∷ vs) = fault_if (not (suits v.item c)) (database_fault Sort v.place) ++ wrong_sorts cs vs
 wrong_sorts _ _ = []

@@ -35,7 +35,7 @@ integer_of i = signed i.negative i.size
 abbrev pub column_of : RawColumn → Column
 column_of c = record { name = c.name; sort = c.sort }
 
--- the number of the time column of this name, from 1 on, behind so many; 0 where there is none, which is a fault of the database
+-- the number of the time column of this name, from 1 on, after so many; 0 where there is none, which is a fault of the database
 abbrev pub time_number : ℕ → List RawColumn → Identifier → ℕ
 time_number before [] n = 0
 time_number before (c ∷ cs) n = if is_time c.sort then (if bytes_eq c.name n then before + 1 else time_number (before + 1) cs n) else time_number before cs n
@@ -62,7 +62,7 @@ value_bounds (Constant t) before further = further before
 value_bounds (Instant i) before further = kept Equal (before + 1) 0 (integer_of i) ++ further (before + 1)
 value_bounds (Point i k) before further = further (before + 1)
 
--- the bounds of the instants among the values, behind so many time columns
+-- the bounds of the instants among the values, after so many time columns
 abbrev pub instant_bounds : List (Located WrittenValue) → ℕ → List Bound
 instant_bounds [] before = []
 instant_bounds (v ∷ vs) before = value_bounds v.item before (instant_bounds vs)

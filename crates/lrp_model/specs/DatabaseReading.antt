@@ -27,7 +27,7 @@ pub record IsDatabase (bytes : List ℕ) (db : List Relation) : Type 0 where
   pub sound : database_faults tree ≡ []
   pub meant : db ≡ database_of tree
 
--- the bytes are no UTF-8; the place is behind their longest front that is
+-- the bytes are no UTF-8; the place is after their longest front that is
 pub record IsNoUtf8 (bytes : List ℕ) (place : Place) : Type 0 where
   pub valid : ℕ
   pub longest : IsValidUpTo bytes valid

@@ -82,7 +82,7 @@ relation_text r =
     any (word_token Relation) ∷ name_part r.name ∷ any (symbol_token Open) ∷ (separated comma column_text r.columns ++
     any (symbol_token Close) ∷ any (symbol_token OpenBrace) ∷ (flat_map (located_text row_text) r.rows ++ any (symbol_token CloseBrace) ∷ []))
 
--- database = { relation }, and behind it the end
+-- database = { relation }, and after it the end
 abbrev pub database_text : List RawRelation → List Part
 database_text rs = flat_map relation_text rs ++ any end_token ∷ []
 

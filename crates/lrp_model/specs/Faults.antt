@@ -40,7 +40,7 @@ abbrev pub repeated : {F : Type 0} → (Place → F) → List Identifier → Lis
 repeated fault before [] = []
 repeated fault before (n ∷ ns) = fault_if (is_named_in before n.item) (fault n.place) ++ repeated fault (n.item ∷ before) ns
 
--- a fault at a ninth time column, and at a ninth column among those of all data sorts, behind so many of each
+-- a fault at a ninth time column, and at a ninth column among those of all data sorts, after so many of each
 abbrev pub ninth : {F : Type 0} → (Place → F) → ℕ → ℕ → List RawColumn → List F
 ninth fault times texts [] = []
 ninth fault times texts (c ∷ cs) =

@@ -26,11 +26,11 @@ is_blank b = (b == 32) || (b == 9) || (b == 13) || (b == 10)
 abbrev pub is_forbidden : ℕ → Bool
 is_forbidden b = nat_le b 31 || (b == 127)
 
--- the place behind a byte: a line feed begins the next line
+-- the place after a byte: a line feed begins the next line
 abbrev pub moved : Place → ℕ → Place
 moved p b = if b == 10 then record { line = p.line + 1; column = 1 } else record { line = p.line; column = p.column + 1 }
 
--- the place behind some bytes
+-- the place after some bytes
 unfoldable pub after : Place → List ℕ → Place
 after p [] = p
 after p (b ∷ bs) = after (moved p b) bs
@@ -40,7 +40,7 @@ pub record At : Type 0 where
   pub place : Place
   pub bytes : List ℕ
 
--- behind blanks and comments; the flag says that a comment has begun
+-- after blanks and comments; the flag says that a comment has begun
 unfoldable pub skip : Bool → Place → List ℕ → At
 skip comment p [] = record { place = p; bytes = [] }
 skip true p (b ∷ bs) = if b == 10 then skip false (moved p b) bs else skip true (moved p b) bs
@@ -51,12 +51,12 @@ unfoldable pub run : (ℕ → Bool) → List ℕ → List ℕ
 run test [] = []
 run test (b ∷ bs) = if test b then b ∷ run test bs else []
 
--- the bytes behind that run
+-- the bytes after that run
 unfoldable pub behind_run : (ℕ → Bool) → List ℕ → List ℕ
 behind_run test [] = []
 behind_run test (b ∷ bs) = if test b then behind_run test bs else b ∷ bs
 
--- a token, the bytes that it takes, and those behind it; at a bad byte, the bytes before it
+-- a token, the bytes that it takes, and those after it; at a bad byte, the bytes before it
 pub record Scanned : Type 0 where
   pub token : Token
   pub taken : List ℕ
@@ -79,7 +79,7 @@ word_or_name n =
     if bytes_eq n (codes "in") then word_token In else
     name_token n
 
--- the text behind an opening quote, the bytes up to and with the closing one, and those behind
+-- the text after an opening quote, the bytes up to and with the closing one, and those after
 pub record QuotedText : Type 0 where
   pub meant : List ℕ
   pub taken : List ℕ
@@ -106,7 +106,7 @@ text_from true (b ∷ bs) = if (b == 34) || (b == 92) then more_taken 92 (longer
 text_from false [] = bad_at []
 text_from false (b ∷ bs) = if b == 34 then Ok (record { meant = []; taken = b ∷ []; left = bs }) else if b == 92 then text_from true bs else if is_forbidden b then bad_at (b ∷ bs) else longer b b (text_from false bs)
 
--- the token of a text behind its opening quote, or the bad byte in it
+-- the token of a text after its opening quote, or the bad byte in it
 abbrev pub text_scanned : Result QuotedText Scanned → Scanned
 text_scanned (Ok t) = record { token = text_token t.meant; taken = 34 ∷ t.taken; left = t.left }
 text_scanned (Err s) = record { token = bad_token; taken = 34 ∷ s.taken; left = s.left }
@@ -129,7 +129,7 @@ abbrev pub further_symbol : ℕ → List ℕ → Scanned
 further_symbol b [] = if b == 42 then one Star b [] else no_symbol b []
 further_symbol b (c ∷ bs) = if b == 42 then one Star b (c ∷ bs) else if (b == 33) && (c == 61) then record { token = symbol_token Differs; taken = b ∷ c ∷ []; left = bs } else no_symbol b (c ∷ bs)
 
--- the symbol that a byte and those behind it begin with; the flag says that those of the wide language are among them
+-- the symbol that a byte and those after it begin with; the flag says that those of the wide language are among them
 unfoldable pub symbol_in : Bool → ℕ → List ℕ → Scanned
 symbol_in wide b bs =
     if b == 40 then one Open b bs else

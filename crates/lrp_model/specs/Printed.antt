@@ -51,7 +51,7 @@ abbrev pub time_name : List Column → ℕ → Identifier
 time_name [] i = []
 time_name (c ∷ cs) i = if is_time c.sort then (if i == 1 then c.name else time_name cs (i - 1)) else time_name cs i
 
--- an offset behind a name: nothing, ` + a` or ` - b`
+-- an offset after a name: nothing, ` + a` or ` - b`
 abbrev pub offset_bytes : ℤ → List ℕ
 offset_bytes (pos zero) = []
 offset_bytes (pos (suc a)) = codes " + " ++ decimal (suc a)
@@ -64,7 +64,7 @@ bound_bytes cs b =
     if b.right == 0 then time_name cs b.left ++ (codes " <= " ++ signed_decimal b.most) else
     time_name cs b.left ++ (codes " <= " ++ (time_name cs b.right ++ offset_bytes b.most))
 
--- the bounds behind `where`, if there are any
+-- the bounds after `where`, if there are any
 abbrev pub bounds_bytes : List Column → List Bound → List ℕ
 bounds_bytes cs [] = []
 bounds_bytes cs (b ∷ bs) = codes " where " ++ joined_by (codes ", ") (bound_bytes cs) (b ∷ bs)

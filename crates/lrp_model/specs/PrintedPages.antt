@@ -78,7 +78,7 @@ pub record IsToken (token : List ℕ) (digest : Option (List ℕ)) (times : List
 abbrev pub token_of : List ℕ → Tuple → List ℕ
 token_of digest tuple = token_text (Some digest) (times_of tuple) (texts_of tuple)
 
--- the line behind a page: with the token of its last tuple where more is to come
+-- the line after a page: with the token of its last tuple where more is to come
 abbrev pub end_line : Bool → Option (List ℕ) → List ℕ
 end_line false None = codes "end\n"
 end_line false (Some token) = codes "more " ++ (token ++ codes "\n")

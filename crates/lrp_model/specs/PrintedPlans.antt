@@ -55,7 +55,7 @@ leaf_word (Equal left right) = codes "equal "
 abbrev pub two_steps : List ℕ → ℕ → ℕ → List ℕ
 two_steps word left right = word ++ (decimal left ++ (codes " " ++ decimal right))
 
--- the tests that a join carries, behind `where`, if there are any
+-- the tests that a join carries, after `where`, if there are any
 abbrev pub carried_bytes : List Test → List ℕ
 carried_bytes [] = []
 carried_bytes (t ∷ ts) = codes " where " ++ joined_by (codes ", ") test_bytes (t ∷ ts)

@@ -1,5 +1,5 @@
 -- The grammar of queries: written trees, what spells them, and which are lawful.
--- Behind 64 `not` only a formula of depth 65 can stand, so these 64 words begin no query that is shallow enough, and yet the fault belongs to the token behind them. So a lawful tree may be cut off at depth 65 by a hole, which no bytes spell: then the 64 words begin a lawful text, and the token behind them is the first with which it does not go on.
+-- After 64 `not` only a formula of depth 65 can stand, so these 64 words begin no query that is shallow enough, and yet the fault belongs to the token after them. So a lawful tree may be cut off at depth 65 by a hole, which no bytes spell: then the 64 words begin a lawful text, and the token after them is the first with which it does not go on.
 use Rattle.std.specs.Prelude.{◌≤◌, ℕ, zero, suc, ◌-◌, Bool, true, false, IsTrue, List, [], ◌∷◌, ◌++◌, length, flat_map, codes}
 use Rattle.std.specs.List.{AllByRecursion}
 use Rattle.lrp_model.specs.Texts.{Text, Identifier}
@@ -88,7 +88,7 @@ mutual
     -- a `!=`, and a quantifier of several names
     differing : TakesWide l → Located WrittenTerm → Located WrittenTerm → WrittenFormula l
     several : TakesWide l → Quantifier → Place → EarlierNames → RawColumn → WrittenFormula l → WrittenFormula l
-    -- `and`, `or` and `implies` without parentheses, and in parentheses an `implies` behind another
+    -- `and`, `or` and `implies` without parentheses, and in parentheses an `implies` after another
     bare_all : TakesWide l → WrittenFormula l → FurtherMembers l → WrittenFormula l
     bare_any : TakesWide l → WrittenFormula l → FurtherMembers l → WrittenFormula l
     bare_chain : TakesWide l → WrittenFormula l → FurtherMembers l → WrittenFormula l
@@ -109,7 +109,7 @@ looseness (bare_any t f fs) = 2
 looseness (bare_chain t f fs) = 3
 looseness _ = 0
 
--- each part binds as tightly as its place asks: alone behind `not`, a quantifier, `once` and `always` and between `and`, below `or` between `or`, and below `implies` between `implies`
+-- each part binds as tightly as its place asks: alone after `not`, a quantifier, `once` and `always` and between `and`, below `or` between `or`, and below `implies` between `implies`
 abbrev mutual
   pub IsOrdered : {l : Language} → WrittenFormula l → Type 0
   IsOrdered (atom_formula p n ts) = Unit {0}
@@ -255,7 +255,7 @@ as_word = codes "as"
 abbrev pub definition_text : {l : Language} → WrittenDefinition l → List Part
 definition_text d = any (name_token define_word) ∷ at d.name.place (name_token d.name.item) ∷ any (symbol_token Open) ∷ (separated comma column_text d.columns ++ any (symbol_token Close) ∷ any (name_token as_word) ∷ (formula_text d.body ++ any (symbol_token Semicolon) ∷ []))
 
--- query = "{" [ column { "," column } ] "|" formula "}", and behind it the end
+-- query = "{" [ column { "," column } ] "|" formula "}", and after it the end
 abbrev pub query_text : {l : Language} → WrittenQuery l → List Part
 query_text q = any (symbol_token OpenBrace) ∷ (separated comma column_text q.head ++ any (symbol_token Bar) ∷ (formula_text q.body ++ any (symbol_token CloseBrace) ∷ any end_token ∷ []))
 
@@ -297,7 +297,7 @@ abbrev mutual
   FitsDepth (chain t p f g fs) d = Deeper d (λ m. FitsDepth f m × FitsDepth g m × Deeper m (FitsChain fs))
   FitsDepth (hole p) d = IsZero d
 
-  -- behind the first `implies` of a chain; behind each further one the depth is one more
+  -- after the first `implies` of a chain; after each further one the depth is one more
   pub FitsChain : {l : Language} → FurtherMembers l → ℕ → Type 0
   FitsChain (last f) d = FitsDepth f d
   FitsChain (more f fs) d = FitsDepth f d × Deeper d (FitsChain fs)

@@ -103,7 +103,7 @@ kind_faults bs (Shifted n plus) p = variable_faults (binder_sort bs n) true p
 abbrev pub term_faults : Binders → RawTerm → List QueryFault
 term_faults bs t = kind_faults bs t.kind t.place
 
--- Sort: a term whose sort is not that of its column. Terms behind the last column have none: their number is the fault of the atom
+-- Sort: a term whose sort is not that of its column. Terms after the last column have none: their number is the fault of the atom
 abbrev pub column_faults : Binders → List RawTerm → List Column → List QueryFault
 column_faults bs (t ∷ ts) (c ∷ cs) = fault_if (differs (term_sort bs t) c.sort) (query_fault WrongSort t.place) ++ column_faults bs ts cs
 column_faults bs _ _ = []

@@ -15,7 +15,7 @@ use Rattle.lrp_model.specs.DatabaseReading.{IsNoUtf8}
 abbrev pub Grammatical : Type 1
 Grammatical = Bool → Tokens → Type 0
 
--- a formula that begins behind these tokens is of depth 65
+-- a formula that begins after these tokens is of depth 65
 abbrev pub IsTooDeepIn : Grammatical → Tokens → Type 0
 IsTooDeepIn Texts front = (hole : Placed) × (other : Tokens) × (hole.token ≡ hole_token) × Texts true (front ++ hole ∷ other)
 

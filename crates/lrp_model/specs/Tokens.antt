@@ -33,7 +33,7 @@ abbrev pub IsPart : Part → Placed → Type 0
 IsPart (at p k) t = (t.token ≡ k) × (t.place ≡ p)
 IsPart (any k) t = t.token ≡ k
 
--- the tokens begin with these parts, and others are left behind them
+-- the tokens begin with these parts, and others are left after them
 abbrev pub Takes : List Part → Tokens → Tokens → Type 0
 Takes [] ts left = ts ≡ left
 Takes (p ∷ ps) [] left = ⊥

@@ -37,6 +37,6 @@ there [] i d l = absurd (omega arith)
 there (x ∷ xs) zero d l = refl
 there (x ∷ xs) (suc i) d l = there xs i d (omega arith)
 
--- a front of a piece behind those before it is a front of all pieces
+-- a front of a piece after those before it is a front of all pieces
 pub piece_front : (xs : List (Bor (List ℕ))) (i : ℕ) (d : Bor (List ℕ)) (old now new : Option (List ℕ)) → i < length xs → now ≡ appended old (flat_map (λ piece. piece.now) (take i xs)) → AppendsFront now new (get_or xs i d).now → AppendsFront old new (flat_map (λ piece. piece.now) xs)
 piece_front xs i d old now new l so_far front = item_front (λ piece. piece.now) xs i (get_or xs i d) old now new l (there xs i d l) so_far front

@@ -39,11 +39,11 @@ least_of w = option_map (answer_tuple w.answer) w.least
 abbrev pub sample_text : Report → List ℕ
 sample_text report = sample_lines report.rows report.cells (least_of report.first) report.window
 
--- the lines of the page's spots, and the line behind them
+-- the lines of the page's spots, and the line after them
 abbrev pub page_text : Page → List ℕ
 page_text page = listed_bytes page.civil (is_json page.form) page.files (map (answer_tuple page.answer) page.spots) page.more
 
--- the lines of the ranges, and the line behind them
+-- the lines of the ranges, and the line after them
 abbrev pub ranges_text : RangeLines → List ℕ
 ranges_text lines = ranges_bytes lines.civil lines.json lines.found.ranges lines.found.more
 

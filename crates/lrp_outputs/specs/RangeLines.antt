@@ -1,4 +1,4 @@
--- The line of the number of answers in a window; and the lines of its ranges, and the line behind them.
+-- The line of the number of answers in a window; and the lines of its ranges, and the line after them.
 use Rattle.std.specs.Prelude.{ℕ, ℤ, Bool, true, false, List, [], ◌∷◌, ◌++◌, flat_map, codes}
 use Rattle.std.specs.Fmt.{decimal, signed_decimal}
 use Rattle.std.specs.List.{AllByRecursion}
@@ -20,14 +20,14 @@ range_ends range = range.from ∷ range.to ∷ []
 abbrev pub range_line : Bool → Bool → Range → List ℕ
 range_line civil json range = line_as civil json (time range.from ∷ time range.to ∷ [])
 
--- the line behind those of the ranges, in JSON where the first flag is set: whether a further range is left
+-- the line after those of the ranges, in JSON where the first flag is set: whether a further range is left
 abbrev pub last_line : Bool → Bool → List ℕ
 last_line false false = codes "end\n"
 last_line false true = codes "more\n"
 last_line true false = codes "{\"more\":false}\n"
 last_line true true = codes "{\"more\":true}\n"
 
--- the lines of ranges, and the line behind them
+-- the lines of ranges, and the line after them
 abbrev pub ranges_bytes : Bool → Bool → List Range → Bool → List ℕ
 ranges_bytes civil json ranges more = flat_map (range_line civil json) ranges ++ last_line json more
 

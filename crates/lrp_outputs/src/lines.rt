@@ -1,4 +1,4 @@
-// The text of a page: its lines, and the line behind them.
+// The text of a page: its lines, and the line after them.
 ghost use Rattle.std.specs.Prelude.{[], ◌∷◌, ◌++◌, map, None, Some};
 ghost use Rattle.std.specs.List.{flat_map};
 ghost use Rattle.lrp_io.specs.Causes.{HasCause};
@@ -19,7 +19,7 @@ use lrp_model::Spot;
 use lrp_print::write_bytes;
 use lrp_token::write_token;
 
-/// The lines of a page, and the line behind them.
+/// The lines of a page, and the line after them.
 pub fn write_page<S: Sink>(out: &mut S, page: &Page) -> Result<(), Failed>
     ensures text { IsWritten (S.written out.old) (S.written out.new) (page_text page.now) result }
     ensures cause { HasCause (S.faults out.old) (S.faults out.new) result }
@@ -58,7 +58,7 @@ fn write_spot<S: Sink>(out: &mut S, page: &Page, spot: &Spot) -> Result<(), Fail
     }
 }
 
-/// The line behind those of the spots: whether more come, with a token.
+/// The line after those of the spots: whether more come, with a token.
 fn write_end<S: Sink>(out: &mut S, page: &Page) -> Result<(), Failed>
     ensures text { IsWritten (S.written out.old) (S.written out.new)
         (end_line (is_json page.now.form)
@@ -88,7 +88,7 @@ fn write_no_more<S: Sink>(out: &mut S, form: &Form) -> Result<(), Failed>
     }
 }
 
-/// The line with the token of a spot, behind which the next page begins.
+/// The line with the token of a spot, after which the next page begins.
 fn write_more<S: Sink>(out: &mut S, page: &Page, last: &Spot) -> Result<(), Failed>
     requires { IsKnownSpot page.now.answer last.now }
     ensures text { IsWritten (S.written out.old) (S.written out.new)

@@ -10,7 +10,7 @@ use lrp_answers::Answer;
 use lrp_io::{Failed, Sink, Text};
 use lrp_model::{List, Spot};
 
-/// Some answers one after the other, whether more come behind them, and the digest of the files that they are of. With
+/// Some answers one after the other, whether more come after them, and the digest of the files that they are of. With
 /// `civil` their times are shown as dates.
 ///
 /// All of it stands before the first byte is written.

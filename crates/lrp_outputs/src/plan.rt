@@ -9,7 +9,7 @@ use lrp_print::write_plan;
 
 /// A plan whose text can be written: the points of its `in` tests have periods.
 ///
-/// The query that it is of is let go with it, behind the text: that of a file of 16 MB takes most of a second.
+/// The query that it is of is let go with it, after the text: that of a file of 16 MB takes most of a second.
 #[derive(Drop)]
 pub struct WritablePlan {
     pub plan: Plan,

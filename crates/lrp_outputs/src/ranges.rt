@@ -36,7 +36,7 @@ impl Text for RangeLines {
     }
 }
 
-/// The line behind those of the ranges: whether a further one is left.
+/// The line after those of the ranges: whether a further one is left.
 fn write_last<S: Sink>(out: &mut S, json: bool, more: bool) -> Result<(), Failed>
     ensures text { IsWritten (S.written out.old) (S.written out.new) (last_line json more) result }
     ensures cause { HasCause (S.faults out.old) (S.faults out.new) result }

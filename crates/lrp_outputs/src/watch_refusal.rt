@@ -1,4 +1,4 @@
-// Why a watch is refused behind its query.
+// Why a watch is refused after its query.
 ghost use Rattle.std.specs.Prelude.{◌≡◌};
 ghost use Rattle.lrp_outputs.specs.Outcomes.{watch_refused_with};
 

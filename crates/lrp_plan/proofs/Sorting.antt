@@ -42,7 +42,7 @@ zip_join R [] us (y ∷ ys) vs h k = absurd h
 zip_join R (x ∷ xs) us [] vs h k = absurd h
 zip_join R (x ∷ xs) us (y ∷ ys) vs h k = (h.0, zip_join R xs us ys vs h.1 k)
 
--- ---- each kind, behind those before
+-- ---- each kind, after those before
 
 positives_push : (gs : Forms) (f : Form) → positives_in (joined gs (form f no_forms)) ≡ positives_in gs ++ positives_in (form f no_forms)
 positives_push no_forms f = refl
@@ -78,7 +78,7 @@ negations_push (form (forall v s g) gs) f = negations_push gs f
 
 -- ---- an element more
 
--- the parts with those of one formula behind them
+-- the parts with those of one formula after them
 parts_push : (M : Structure) (fs : List Core) (gs : Forms) (core : Core) (f : Form) (old new : Parts) (ps ns : List Element) → core_of core ≡ f → IsParts M fs gs old → new.positives.items ≡ old.positives.items ++ ps → AllZip (IsRanked M fs) ps (positives_in (form f no_forms))
     → new.tests ≡ old.tests ++ tests_in (form f no_forms) → new.negations.items ≡ old.negations.items ++ ns → AllZip (IsDenied fs) ns (negations_in (form f no_forms)) → IsParts M fs (joined gs (form (core_of core) no_forms)) new
 parts_push M fs gs core f old new ps ns e h p pz t n nz =

@@ -155,7 +155,7 @@ negation_idle M K fs draft ps qs ns taking s at e f =
     let n : slice_get s.negations (next_negation s) ≡ None = none_got s.negations (next_negation s) (zip_none (IsDenied fs) ns s.negations at.negations e) in
     subst (λ o. IsMakingAt M K fs draft ps qs taking (take_negation M (next_negation s) o s)) (sym n) (subst (λ q. IsMakingAt M K fs draft ps q taking s) (e ∙ sym f) at)
 
--- ---- turns, one more behind the others
+-- ---- turns, one more after the others
 
 more_positives : (turns : ℕ) (M : Structure) (s : State) → take_positives (suc turns) M s ≡ take_positive M (next_positive (take_positives turns M s)) (slice_get (take_positives turns M s).positives (next_positive (take_positives turns M s))) (take_positives turns M s)
 more_positives zero M s = refl

@@ -33,7 +33,7 @@ module _ {X : Type 0} (p : X → Bool) where
   longer [] ys x = omega arith
   longer (z ∷ xs) ys x = let h : length xs < length (xs ++ x ∷ ys) = longer xs ys x in omega arith
 
-  -- one that passes, behind those that do not
+  -- one that passes, after those that do not
   pub first_behind : (xs ys : List X) (x : X) → AllByRecursion (λ y. p y ≡ false) xs → p x ≡ true → first_or_0 p (xs ++ x ∷ ys) ≡ length xs
   first_behind xs ys x h e =
       ap (λ n. unwrap_or (cond (nat_lt n (length (xs ++ x ∷ ys))) (Some n) None) 0) (behind xs ys x h e)
@@ -54,7 +54,7 @@ module _ {X : Type 0} where
   remove_behind [] ys x = refl
   remove_behind (z ∷ xs) ys x = ap (λ zs. z ∷ zs) (remove_behind xs ys x)
 
--- one that goes before the others is taken from behind those that do not
+-- one that goes before the others is taken from after those that do not
 pub takes_behind : (p : Element → Bool) (all xs ys : List Element) (e : Element) → all ≡ xs ++ e ∷ ys → AllByRecursion (λ y. p y ≡ false) xs → p e ≡ true → TakesAt (first_or_0 p all) all (xs ++ ys) (Some e)
 takes_behind p all xs ys e is h t =
     subst (λ zs. TakesAt (first_or_0 p zs) zs (xs ++ ys) (Some e)) (sym is)
@@ -129,7 +129,7 @@ left_behind turn vs es xs r is h = ((all_append (λ x. goes_first turn vs x ≡ 
 pub none_behind : (turn : Turn) (vs : List ProgramVariable) (es : List Element) → es ≡ [] → FallBehind turn vs es
 none_behind turn vs es is = subst (FallBehind turn vs) (sym is) tt
 
--- those that were passed over in a turn are behind in the same turn
+-- those that were passed over in a turn are after in the same turn
 pub still_behind : (before turn : Turn) (seen vs : List ProgramVariable) (es : List Element) → before ≡ turn → seen ≡ vs → FallBehind before seen es → FallBehind turn vs es
 still_behind before turn seen vs es t s h = subst (λ ws. FallBehind turn ws es) s (subst (λ u. FallBehind u seen es) t h)
 

@@ -75,7 +75,7 @@ pub record CanPlan (M : Structure) (K : ℕ) (f : Form) : Type 0 where
   pub core : IsCore f
   pub divides : IsCommon (periods f M.relations) K
 
--- the steps of a formula with no part, behind those before
+-- the steps of a formula with no part, after those before
 abbrev pub MakesSteps : Structure → ℕ → Form → Draft → Draft → Type 0
 MakesSteps M K f old new = CanPlan M K f → Extends M K (plan_of f) old new
 
@@ -108,7 +108,7 @@ pub record TakesEach (kind : Kind) (M : Structure) (turns : ℕ) (fs : List Core
   pub left : List Element
   pub takes : TakesTurns kind M turns fs es left before after old new
 
--- one turn behind those that were made
+-- one turn after those that were made
 pub record TakesNext (kind : Kind) (M : Structure) (fs : List Core) (qs rs : List Element) (mid after : Draft) (now new : Taking) : Type 0 where
   pub next : (turns : ℕ) (es : List Element) (before : Draft) (old : Taking) → TakesTurns kind M turns fs es qs before mid old now → TakesTurns kind M (turns + 1) fs es rs before after old new
 

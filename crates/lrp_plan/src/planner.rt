@@ -1,4 +1,4 @@
-// The steps of core forms, each behind those that it reads.
+// The steps of core forms, each after those that it reads.
 ghost use Rattle.std.specs.Prelude.{◌≡◌, ℕ, [], length, map, slice_get, Some, IfOk, OnOk};
 ghost use Rattle.lrp_core.specs.Cores.{core_of, cores_of};
 ghost use Rattle.lrp_core.specs.declared.core_forms.Core.{Core as CoreForm};
@@ -30,7 +30,7 @@ struct Turns<'a, 'b> {
     kind: Kind,
 }
 
-/// The steps of a core form behind those that were made. The trees are of the elements in it.
+/// The steps of a core form after those that were made. The trees are of the elements in it.
 #[cycle(planning)]
 pub(crate) fn plan_core(
     sources: &Sources<'_>,

@@ -139,7 +139,7 @@ impl Taking {
     }
 }
 
-// All of the variables, each behind the others where it is none of them yet; and whether all of them were there before.
+// All of the variables, each after the others where it is none of them yet; and whether all of them were there before.
 fn add_further(alloc: Global, all: &mut List<Variable>, more: &[Variable]) -> Result<bool, Memory>
     ensures known { IfOk result (λ known. known
         ≡ are_members (map variable_of more.now) (map variable_of all.old)) }

@@ -14,7 +14,7 @@ use Rattle.lrp_model.specs.declared.relations.Relation.{Relation}
 use Rattle.lrp_model.specs.declared.plans.StepKind.{StepKind}
 use Rattle.lrp_model.specs.declared.plans.StepKind.TheVariants.{Scan, Leaf, Sort as SortStep, Join, Select, Union, Minus, Complement, DropTime, DropData, Extend}
 use Rattle.lrp_model.proofs.Logic.{then_iff, all_append}
-use Rattle.lrp_plan_laws.specs.Made.{HeadStep, IsEarlier, operands, IsFormula, AreWithout, AreAmong, HasVariables, IsMade}
+use Rattle.lrp_plan_laws.specs.Made.{HeadStep, IsEarlier, operands, IsStepFormula, AreWithout, AreAmong, HasVariables, IsMade}
 use Rattle.lrp_plan_laws.proofs.Elements.{length_made, formula_made, formula_front, reach_made, reach_front, step_one_more}
 use Rattle.lrp_plan_laws.proofs.Names.{Names}
 use Rattle.lrp_plan_laws.proofs.Dropping.{Rules, IsDrop, moved_drop}
@@ -29,7 +29,7 @@ Saying = List Variable → List Mark → Type 0
 
 module _ (M : Structure) (head : HeadStep) (at other : ℕ → Form) (s : ℕ) (same : (l : ℕ) → IsEarlier s l → other l ≡ at l) where
   -- the formula is made in the same way of formulas that are the same
-  moved_formula : (kind : StepKind) (f : Form) → AllByRecursion (IsEarlier s) (operands kind) → IsFormula M head at kind f → IsFormula M head other kind f
+  moved_formula : (kind : StepKind) (f : Form) → AllByRecursion (IsEarlier s) (operands kind) → IsStepFormula M head at kind f → IsStepFormula M head other kind f
   moved_formula (Scan name terms) f o h = h
   moved_formula (Leaf t) f o h = h
   moved_formula (SortStep v s texts) f o h = h
@@ -95,10 +95,10 @@ moved M head rules steps more s step le r =
 abbrev pub AreMade : Structure → HeadStep → Rules → Steps → Type 0
 AreMade M head rules steps = (s : ℕ) (step : PlanStep) → step_at steps s ≡ Some step → IsRuled M head rules steps s step
 
--- a step of this kind and with this formula can be made behind these
+-- a step of this kind and with this formula can be made after these
 pub record CanMake (M : Structure) (head : HeadStep) (rules : Rules) (steps : Steps) (kind : StepKind) (f : Form) : Type 0 where
   pub operands : AllByRecursion (IsEarlier (suc (length steps))) (operands kind)
-  pub formula : IsFormula M head (formula_at steps) kind f
+  pub formula : IsStepFormula M head (formula_at steps) kind f
   pub drop : IsDrop rules (formula_at steps) kind f
   pub variables : HasVariables (formula_at steps) kind
 
@@ -147,7 +147,7 @@ pub record Builds (M : Structure) (head : HeadStep) (rules : Rules) (fits : List
   pub fitting : AreFitting fits guard before → AreFitting fits guard after
 
 module _ (M : Structure) (head : HeadStep) (rules : Rules) (fits : List Variable → Type 0) (guard : Identifier → Sort → Form → Type 0) where
-  -- one step behind steps that were built before
+  -- one step after steps that were built before
   pub by_step : (before steps : Steps) (kind : StepKind) (f : Form) (p : Saying) (more : Steps) → steps ≡ before ++ more → length before ≤ length steps
       → (AreMade M head rules before → AreMade M head rules steps) → (AreFitting fits guard before → AreFitting fits guard steps)
       → ((b : ℕ) (ks : List Mark) → IsUnder M.relations b ks f (step_behind M kind f steps).reach → AreUnder M.relations b ks before → AreUnder M.relations b ks steps)

@@ -12,7 +12,7 @@ use Rattle.lrp_model.specs.declared.relations.Relation.{Relation}
 use Rattle.lrp_model.specs.declared.plans.StepKind.{StepKind}
 use Rattle.lrp_model.specs.declared.plans.StepKind.TheVariants.{Scan, Leaf, Sort as SortStep, Join, Select, Union, Minus, Complement, DropTime, DropData, Extend}
 use Rattle.lrp_model.proofs.Logic.{all_append}
-use Rattle.lrp_plan_laws.specs.Made.{HeadStep, IsEarlier, operands, IsFormula, IsMade, AreAmong}
+use Rattle.lrp_plan_laws.specs.Made.{HeadStep, IsEarlier, operands, IsStepFormula, IsMade, AreAmong}
 use Rattle.lrp_plan_laws.specs.Scopes.{IsNarrow, IsNarrowStep}
 use Rattle.lrp_plan_laws.proofs.Elements.{step_one_more, formula_made, formula_front}
 use Rattle.lrp_plan_laws.proofs.Names.{Names}
@@ -45,11 +45,11 @@ own_variables (DropTime of v) columns vs other = refl
 own_variables (DropData of v) columns vs other = refl
 own_variables (Extend of) columns vs other = absurd (other of refl)
 
--- `head` stands behind the core steps
-head_reads : (M : Structure) (head : HeadStep) (at : ℕ → Form) (s : ℕ) (kind : StepKind) (f : Form) → s ≤ head.of → AllByRecursion (IsEarlier s) (operands kind) → IsFormula M head at kind f → (of : ℕ) → kind ≡ Extend of → ⊥
+-- `head` stands after the core steps
+head_reads : (M : Structure) (head : HeadStep) (at : ℕ → Form) (s : ℕ) (kind : StepKind) (f : Form) → s ≤ head.of → AllByRecursion (IsEarlier s) (operands kind) → IsStepFormula M head at kind f → (of : ℕ) → kind ≡ Extend of → ⊥
 head_reads M head at s kind f le earlier h of e =
     let a : AllByRecursion (IsEarlier s) (operands (Extend of)) = subst (λ k. AllByRecursion (IsEarlier s) (operands k)) e earlier in
-    let b : IsFormula M head at (Extend of) f = subst (λ k. IsFormula M head at k f) e h in
+    let b : IsStepFormula M head at (Extend of) f = subst (λ k. IsStepFormula M head at k f) e h in
     let lt : of < s = a.0.1 in
     let same : of ≡ head.of = b.0 in
     omega arith
@@ -69,7 +69,7 @@ in_front vs ws us all e =
     ((all_append (Contains (vs ++ (ws ++ us))) vs (ws ++ [])).1 (a.0, (all_append (Contains (vs ++ (ws ++ us))) ws []).1 (b.0, tt)))
 
 -- what a step reads is narrow, where its own variables are, and those of each step that it reads
-read_narrow : (M : Structure) (head : HeadStep) (at : ℕ → Form) (kind : StepKind) (f : Form) → IsFormula M head at kind f → IsNarrow (free f) → AllByRecursion (λ l. IsNarrow (free (at l))) (operands kind) → IsNarrow (flat_map (λ l. free (at l)) (operands kind))
+read_narrow : (M : Structure) (head : HeadStep) (at : ℕ → Form) (kind : StepKind) (f : Form) → IsStepFormula M head at kind f → IsNarrow (free f) → AllByRecursion (λ l. IsNarrow (free (at l))) (operands kind) → IsNarrow (flat_map (λ l. free (at l)) (operands kind))
 read_narrow M head at (Scan name terms) f h n one = narrow_part [] (free f) tt n
 read_narrow M head at (Leaf t) f h n one = narrow_part [] (free f) tt n
 read_narrow M head at (SortStep v s texts) f h n one = narrow_part [] (free f) tt n

@@ -13,7 +13,7 @@ use Rattle.lrp_model.specs.declared.formulas.Test.{Test}
 use Rattle.lrp_model.specs.declared.plans.StepKind.{StepKind}
 use Rattle.lrp_model.specs.declared.plans.StepKind.TheVariants.{Scan, Leaf, Sort as SortStep, Join, Select, Union, Minus, Complement, DropTime, DropData, Extend}
 use Rattle.lrp_model.proofs.Logic.{all_append}
-use Rattle.lrp_plan_laws.specs.Made.{HeadStep, IsFormula, IsMade}
+use Rattle.lrp_plan_laws.specs.Made.{HeadStep, IsStepFormula, IsMade}
 use Rattle.lrp_model.specs.TestPoints.{test_points, points, points_each}
 use Rattle.lrp_plan_laws.specs.Points.{step_points}
 use Rattle.lrp_plan_laws.proofs.Marks.{marked_points}
@@ -42,7 +42,7 @@ in_middle all xs ys zs e =
     subst (λ ps. AllByRecursion (Contains ps) ys) (sym e) ((all_append (Contains three) ys zs).0 ((all_append (Contains three) xs (ys ++ zs)).0 (all_self three)).1).0
 
 -- the points of a step's tests are its formula's
-own_points : (M : Structure) (head : HeadStep) (at : ℕ → Form) (kind : StepKind) (f : Form) → IsFormula M head at kind f → AllByRecursion (Contains (points f)) (step_points kind)
+own_points : (M : Structure) (head : HeadStep) (at : ℕ → Form) (kind : StepKind) (f : Form) → IsStepFormula M head at kind f → AllByRecursion (Contains (points f)) (step_points kind)
 own_points M head at (Scan name terms) f h = tt
 own_points M head at (Leaf t) f h = subst (λ g. AllByRecursion (Contains (points g)) (test_points t)) (sym h) (all_self (test_points t))
 own_points M head at (SortStep v s texts) f h = tt

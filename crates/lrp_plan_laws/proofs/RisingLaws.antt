@@ -21,7 +21,7 @@ use Rattle.lrp_model.specs.declared.formulas.Test.TheVariants.{Compare, Member, 
 use Rattle.lrp_model.specs.declared.plans.StepKind.{StepKind}
 use Rattle.lrp_model.specs.declared.plans.StepKind.TheVariants.{Scan, Leaf, Sort as SortStep, Join, Select, Union, Minus, Complement, DropTime, DropData, Extend}
 use Rattle.lrp_model.proofs.Logic.{all_append}
-use Rattle.lrp_plan_laws.specs.Made.{HeadStep, IsEarlier, operands, IsFormula, IsMade}
+use Rattle.lrp_plan_laws.specs.Made.{HeadStep, IsEarlier, operands, IsStepFormula, IsMade}
 use Rattle.lrp_plan_laws.specs.Rising.{period_at, HasPeriods, named_periods, natural_test_period, KeepsPeriod, IsRising}
 use Rattle.lrp_plan_laws.proofs.Elements.{found, within, formula_front, step_made, reach_made, period_made}
 use Rattle.lrp_plan_laws.proofs.Names.{Names, names_self}
@@ -152,7 +152,7 @@ drop_period rules v f g d db low =
 
 -- a formula names the periods of the formulas that it is made of
 read_periods : (M : Structure) (head : HeadStep) (rules : Rules) (at : ℕ → Form) → AllByRecursion (Contains (periods head.formula M.relations)) (periods (at head.of) M.relations)
-    → (kind : StepKind) (f : Form) → IsFormula M head at kind f → IsDrop rules at kind f → AllByRecursion (λ l. AllByRecursion (Contains (periods f M.relations)) (periods (at l) M.relations)) (operands kind)
+    → (kind : StepKind) (f : Form) → IsStepFormula M head at kind f → IsDrop rules at kind f → AllByRecursion (λ l. AllByRecursion (Contains (periods f M.relations)) (periods (at l) M.relations)) (operands kind)
 read_periods M head rules at top (Scan name terms) f h d = tt
 read_periods M head rules at top (Leaf t) f h d = tt
 read_periods M head rules at top (SortStep v s texts) f h d = tt
@@ -179,7 +179,7 @@ in_last ks xs ys zs e =
     subst (λ ls. AllByRecursion (Contains ls) zs) (sym e) ((all_append (Contains all) ys zs).0 ((all_append (Contains all) xs (ys ++ zs)).0 (all_self all)).1).1
 
 -- the periods that a step itself names are named by its formula
-own_periods : (M : Structure) (head : HeadStep) (at : ℕ → Form) (kind : StepKind) (f : Form) → IsFormula M head at kind f → AllByRecursion (Contains (periods f M.relations)) (named_periods M.relations kind)
+own_periods : (M : Structure) (head : HeadStep) (at : ℕ → Form) (kind : StepKind) (f : Form) → IsStepFormula M head at kind f → AllByRecursion (Contains (periods f M.relations)) (named_periods M.relations kind)
 own_periods M head at (Scan name terms) f h = subst (λ g. AllByRecursion (Contains (periods g M.relations)) (periods (atom name terms) M.relations)) (sym h) (all_self (periods (atom name terms) M.relations))
 own_periods M head at (Leaf t) f h = subst (λ g. AllByRecursion (Contains (periods g M.relations)) (test_periods t)) (sym h) (all_self (test_periods t))
 own_periods M head at (SortStep v s texts) f h = tt
@@ -202,7 +202,7 @@ test_alone db (Equal left right) h = refl
 
 -- a step that meets no second one keeps the period
 period_kept : (M : Structure) (head : HeadStep) (rules : Rules) (at : ℕ → Form) (periods_at : ℕ → ℕ) → ((l : ℕ) → periods_at l ≡ period M.relations (at l)) → period M.relations head.formula ≡ period M.relations (at head.of)
-    → (kind : StepKind) (f : Form) → IsFormula M head at kind f → IsDrop rules at kind f → AllByRecursion (λ k. 1 ≤ k) (periods f M.relations) → KeepsPeriod periods_at (period M.relations f) kind
+    → (kind : StepKind) (f : Form) → IsStepFormula M head at kind f → IsDrop rules at kind f → AllByRecursion (λ k. 1 ≤ k) (periods f M.relations) → KeepsPeriod periods_at (period M.relations f) kind
 period_kept M head rules at periods_at same top (Scan name terms) f h d low = tt
 period_kept M head rules at periods_at same top (Leaf t) f h d low = ap (period M.relations) h ∙ test_alone M.relations t (subst (λ g. AllByRecursion (λ k. 1 ≤ k) (periods g M.relations)) h low)
 period_kept M head rules at periods_at same top (SortStep v s texts) f h d low = ap (period M.relations) h.0
@@ -263,7 +263,7 @@ test_wide db (Equal left right) h = omega arith
 
 -- the reach of a step, where those of the steps that it reads are at least their periods
 step_wide : (M : Structure) (head : HeadStep) (rules : Rules) (at : ℕ → Form) (reach : ℕ → ℕ) → period M.relations head.formula ≤ period M.relations (at head.of)
-    → (kind : StepKind) (f : Form) (r : ℕ) → IsFormula M head at kind f → IsDrop rules at kind f → AllByRecursion (λ k. 1 ≤ k) (periods f M.relations) → AllByRecursion (λ l. period M.relations (at l) ≤ reach l) (operands kind)
+    → (kind : StepKind) (f : Form) (r : ℕ) → IsStepFormula M head at kind f → IsDrop rules at kind f → AllByRecursion (λ k. 1 ≤ k) (periods f M.relations) → AllByRecursion (λ l. period M.relations (at l) ≤ reach l) (operands kind)
     → r ≡ step_reach M.relations reach (period M.relations f) kind → period M.relations f ≤ r
 step_wide M head rules at reach top (Scan name terms) f r h d low below e = let g : r ≡ step_reach M.relations reach (period M.relations f) (Scan name terms) = e in omega arith
 step_wide M head rules at reach top (Leaf t) f r h d low below e =

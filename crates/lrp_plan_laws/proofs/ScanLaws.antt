@@ -18,7 +18,7 @@ use Rattle.lrp_model.specs.declared.formulas.Term.TheVariants.{Time as time_term
 use Rattle.lrp_model.specs.declared.plans.StepKind.TheVariants.{Scan}
 use Rattle.lrp_model.proofs.Decided.{cons_cases, contains_first, contains_later, contains_none}
 use Rattle.lrp_model.proofs.DomainLaws.{contains_in_order}
-use Rattle.lrp_plan_laws.specs.Made.{IsFormula, IsMade}
+use Rattle.lrp_plan_laws.specs.Made.{IsStepFormula, IsMade}
 use Rattle.lrp_plan_laws.specs.Atoms.{Atom, atoms, atoms_each, FitsAtom, texts_of_terms, IsKnownScan}
 use Rattle.lrp_plan_laws.proofs.Members.{all_of, all_by, all_self, all_map, in_left, in_right, in_one}
 use Rattle.lrp_plan_laws.proofs.Marks.{marks, marked_atom}
@@ -33,11 +33,11 @@ use Rattle.lrp_model.specs.Sorts.{FitsColumn}
 abbrev atom_texts : List Relation → Atom → List (Sort × Text)
 atom_texts db a = term_texts (columns_in (relation_named db a.name)) a.terms
 
--- what is in one list is in that list before or behind another
+-- what is in one list is in that list before or after another
 all_before : (xs ys : List (Sort × Text)) (zs : List (Sort × Text)) → AllByRecursion (Contains xs) zs → AllByRecursion (Contains (xs ++ ys)) zs
 all_before xs ys zs h = all_map (Contains xs) (Contains (xs ++ ys)) zs (λ z c. in_left xs ys z c) h
 
--- and behind
+-- and after
 all_behind : (xs ys : List (Sort × Text)) (zs : List (Sort × Text)) → AllByRecursion (Contains ys) zs → AllByRecursion (Contains (xs ++ ys)) zs
 all_behind xs ys zs h = all_map (Contains ys) (Contains (xs ++ ys)) zs (λ z c. in_right xs ys z c) h
 
@@ -101,7 +101,7 @@ pub scan_known : (db : List Relation) (q : Question) (rules : Rules) (fits : Lis
 scan_known db q rules fits front w fit s step e name terms kind =
     let a : Atom = record { name = name; terms = terms } in
     let m : IsMade (structure db q) (head_after db q front) (closed db q front) s step = (plan_made db q rules fits front w s step e).made in
-    let f : step.formula ≡ atom name terms = subst (λ k. IsFormula (structure db q) (head_after db q front) (formula_at (closed db q front)) k step.formula) kind m.formula in
+    let f : step.formula ≡ atom name terms = subst (λ k. IsStepFormula (structure db q) (head_after db q front) (formula_at (closed db q front)) k step.formula) kind m.formula in
     let c : Contains (atoms q.body) a = marked_atom name terms q.body db (subst (λ g. AllByRecursion (Contains (marks q.body db)) (marks g db)) f (step_marks db q rules fits front w s step e)) in
     let r : FitsAtom db a = all_of (FitsAtom db) (atoms q.body) a fit c in
     record {

@@ -126,7 +126,7 @@ module _ (passes : Sort → Bool) (bs : Binders) where
       passes_of None = true
       passes_of (Some u) = passes u
 
-  -- a name behind a chosen one
+  -- a name after a chosen one
   past_chosen : (o : Option Sort) (m n : Identifier) (ms : List Identifier) → Contains ms n → Contains (chosen passes o m ms) n
   past_chosen None m n ms c = c
   past_chosen (Some t) m n ms c = by_pass (passes t)

@@ -57,7 +57,7 @@ name_of (data_variable n) = n
 abbrev pub Occurs : List Identifier → Binders → Variable → Type 0
 Occurs names bs v = Contains names (name_of v) × IsBound bs v
 
--- among more names, behind these
+-- among more names, after these
 pub all_left : (xs ys : List Identifier) (bs : Binders) (vs : List Variable) → AllByRecursion (Occurs xs bs) vs → AllByRecursion (Occurs (xs ++ ys) bs) vs
 all_left xs ys bs vs h = all_map (Occurs xs bs) (Occurs (xs ++ ys) bs) vs (λ v o. (in_left xs ys (name_of v) o.0, o.1)) h
 

@@ -136,7 +136,7 @@ module _ (db : List Relation) where
 
   -- ---- a head as binders, the last column first
 
-  -- the first column of a head is the binder behind the others
+  -- the first column of a head is the binder after the others
   pub turned_more : (c : RawColumn) (cs : List RawColumn) (bs : Binders) → reverse (c ∷ cs) ++ bs ≡ reverse cs ++ (c ∷ bs)
   turned_more c cs bs = ap (λ l. l ++ bs) (reverse-cons c cs) ∙ append_assoc (reverse cs) (c ∷ []) bs
 

@@ -49,18 +49,18 @@ abbrev pub AreWithout : Identifier → List Variable → List Variable → Type 
 AreWithout v vs ws = (w : Variable) → Contains ws w ↔ (Contains vs w × (w ≢ data_variable v))
 
 -- the formula of a step is what its kind makes of the formulas of the steps that it reads; that of `head` is given, a sort step has the texts of its sort, and of a drop of texts it is said apart what it says
-abbrev pub IsFormula : Structure → HeadStep → (ℕ → Form) → StepKind → Form → Type 0
-IsFormula M head at (Scan name terms) f = f ≡ atom name terms
-IsFormula M head at (Leaf t) f = f ≡ test t
-IsFormula M head at (SortStep v s texts) f = (f ≡ sorted s v) × (texts ≡ M.domain s)
-IsFormula M head at (Join left right tests) f = f ≡ conjunction (form (at left) (form (at right) (tests_as_forms tests)))
-IsFormula M head at (Select of t) f = f ≡ conjunction (form (at of) (form (test t) no_forms))
-IsFormula M head at (Union left right) f = f ≡ disjunction (form (at left) (form (at right) no_forms))
-IsFormula M head at (Minus left right) f = f ≡ conjunction (form (at left) (form (negation (at right)) no_forms))
-IsFormula M head at (Complement of) f = f ≡ negation (at of)
-IsFormula M head at (DropTime of v) f = f ≡ exists v Time (at of)
-IsFormula M head at (DropData of v) f = AreWithout v (free (at of)) (free f)
-IsFormula M head at (Extend of) f = (of ≡ head.of) × (f ≡ head.formula)
+abbrev pub IsStepFormula : Structure → HeadStep → (ℕ → Form) → StepKind → Form → Type 0
+IsStepFormula M head at (Scan name terms) f = f ≡ atom name terms
+IsStepFormula M head at (Leaf t) f = f ≡ test t
+IsStepFormula M head at (SortStep v s texts) f = (f ≡ sorted s v) × (texts ≡ M.domain s)
+IsStepFormula M head at (Join left right tests) f = f ≡ conjunction (form (at left) (form (at right) (tests_as_forms tests)))
+IsStepFormula M head at (Select of t) f = f ≡ conjunction (form (at of) (form (test t) no_forms))
+IsStepFormula M head at (Union left right) f = f ≡ disjunction (form (at left) (form (at right) no_forms))
+IsStepFormula M head at (Minus left right) f = f ≡ conjunction (form (at left) (form (negation (at right)) no_forms))
+IsStepFormula M head at (Complement of) f = f ≡ negation (at of)
+IsStepFormula M head at (DropTime of v) f = f ≡ exists v Time (at of)
+IsStepFormula M head at (DropData of v) f = AreWithout v (free (at of)) (free f)
+IsStepFormula M head at (Extend of) f = (of ≡ head.of) × (f ≡ head.formula)
 
 -- each variable of the first list is one of the second
 abbrev pub AreAmong : List Variable → List Variable → Type 0
@@ -76,7 +76,7 @@ HasVariables at kind = Unit {0}
 -- step s of these steps is made of earlier ones, and has the period of its formula and the reach of its kind
 pub record IsMade (M : Structure) (head : HeadStep) (steps : Steps) (s : ℕ) (step : PlanStep) : Type 0 where
   pub earlier : AllByRecursion (IsEarlier s) (operands step.kind)
-  pub formula : IsFormula M head (formula_at steps) step.kind step.formula
+  pub formula : IsStepFormula M head (formula_at steps) step.kind step.formula
   pub variables : HasVariables (formula_at steps) step.kind
   pub period : step.period ≡ period M.relations step.formula
   pub reach : step.reach ≡ step_reach M.relations (reach_at steps) step.period step.kind

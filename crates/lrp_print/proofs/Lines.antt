@@ -19,12 +19,12 @@ front_as old new a b e w = let P : List ℕ → Type 0 = λ x. AppendsFront old 
 pub written_as : {T E : Type 0} (old new : Option (List ℕ)) (a b : List ℕ) (r : Result T E) → a ≡ b → IsWritten old new a r → IsWritten old new b r
 written_as {T} {E} old new a b r e w = let P : List ℕ → Type 0 = λ x. IsWritten old new x r in subst P e w
 
--- the first text, and then each further one behind a separator
+-- the first text, and then each further one after a separator
 pub joined_first : {A : Type 0} (between : List ℕ) (text : A → List ℕ) (a : A) (all : List A) → text a ++ flat_map (λ x. between ++ text x) all ≡ joined_by between text (a ∷ all)
 joined_first between text a [] = append-nil (text a)
 joined_first between text a (b ∷ all) = ap (λ y. text a ++ y) (append_assoc between (text b) (flat_map (λ x. between ++ text x) all) ∙ ap (λ y. between ++ y) (joined_first between text b all))
 
--- the text of the first element, and then each further one behind a separator
+-- the text of the first element, and then each further one after a separator
 pub joined_rest : {A : Type 0} (between : List ℕ) (text : A → List ℕ) (xs : List A) (a : A) → 1 ≤ length xs → a ≡ get_or xs 0 a → text a ++ flat_map (λ x. between ++ text x) (take (length xs - 1) (drop 1 xs)) ≡ joined_by between text xs
 joined_rest between text [] a lt e = absurd (omega arith)
 joined_rest between text (x ∷ xs) a lt e =

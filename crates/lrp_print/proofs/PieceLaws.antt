@@ -190,11 +190,11 @@ abbrev pub trees : {A B : Type 0} → (Place → A → Place) → (Place → A �
 trees next tree p [] = []
 trees next tree p (a ∷ all) = tree p a ∷ trees next tree (next p a) all
 
--- behind an element and the separator
+-- after an element and the separator
 abbrev pub behind_comma : {A : Type 0} → (A → List ℕ) → Place → A → Place
 behind_comma bytes p a = after (after p (bytes a)) (codes ", ")
 
--- behind an element
+-- after an element
 abbrev pub behind : {A : Type 0} → (A → List ℕ) → Place → A → Place
 behind bytes p a = after p (bytes a)
 

@@ -15,7 +15,7 @@ pub carried_are : (ts : List Test) → behind_where test_bytes ts ≡ carried_by
 carried_are [] = refl
 carried_are (t ∷ ts) = refl
 
--- the lines of two lists of steps, one behind the other
+-- the lines of two lists of steps, one after the other
 step_lines-append : (n : ℕ) (ss ts : List Step) → step_lines n (ss ++ ts) ≡ step_lines n ss ++ step_lines (n + length ss) ts
 step_lines-append n [] ts = ap (λ k. step_lines k ts) (omega arith)
 step_lines-append n (s ∷ ss) ts =

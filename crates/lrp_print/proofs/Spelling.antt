@@ -13,11 +13,11 @@ use Rattle.lrp_text.proofs.Sound.{takes_join}
 abbrev pub tokens_at : Place → List ℕ → Tokens
 tokens_at p bs = tokens_left false (record { place = p; bytes = bs })
 
--- from a place on, the bytes spell the parts, and behind them stand the tokens of the rest
+-- from a place on, the bytes spell the parts, and after them stand the tokens of the rest
 pub record Spelled (parts : List Part) (place : Place) (bytes rest : List ℕ) : Type 0 where
   pub takes : Takes parts (tokens_at place (bytes ++ rest)) (tokens_at (after place bytes) rest)
 
--- the place behind bytes and others
+-- the place after bytes and others
 pub after_both : (p : Place) (v w : List ℕ) → after p (v ++ w) ≡ after (after p v) w
 unfolding after
 after_both p [] w = refl
@@ -28,7 +28,7 @@ pub nothing : (p : Place) (rest : List ℕ) → Spelled [] p [] rest
 unfolding after
 nothing p rest = record { takes = refl }
 
--- one piece and another behind it
+-- one piece and another after it
 pub both : {ps qs : List Part} {p : Place} {v w rest : List ℕ} → Spelled ps p v (w ++ rest) → Spelled qs (after p v) w rest → Spelled (ps ++ qs) p (v ++ w) rest
 both {ps} {qs} {p} {v} {w} {rest} f g =
     let P : List ℕ → Type 0 = λ x. Takes (ps ++ qs) (tokens_at p x) (tokens_at (after p (v ++ w)) rest) in
@@ -73,7 +73,7 @@ token_any k p b bs rest g s e =
     let P : Tokens → Type 0 = λ ts. Takes (any k ∷ []) ts (tokens_at (after p (b ∷ bs)) rest) in
     record { takes = subst P (sym (next_token p k b bs rest g s e)) (refl, refl) }
 
--- the tokens from a place on, by what stands there behind blanks
+-- the tokens from a place on, by what stands there after blanks
 abbrev tokens_from_next : At → Tokens
 tokens_from_next a = headed a.place (scan a.bytes) (scan a.bytes).token (tokens_left false (record { place = after a.place (scan a.bytes).taken; bytes = (scan a.bytes).left }))
 

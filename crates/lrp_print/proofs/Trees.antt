@@ -237,7 +237,7 @@ bound_spelled cs names b p rest h s = by (b.left == 0) (b.right == 0) refl refl
 abbrev pub bound_trees : List Column → Place → List Bound → List RawBound
 bound_trees cs = trees (behind_comma (bound_bytes cs)) (bound_tree cs)
 
--- behind the values of a row whose line begins here
+-- after the values of a row whose line begins here
 abbrev pub behind_values : Place → Row → Place
 behind_values p r = after (after (after p (codes "  (")) (joined_by (codes ", ") value_bytes r.values)) (codes ")")
 
@@ -252,7 +252,7 @@ row_tree cs p r = record {
 abbrev pub row_at : List Column → Place → Row → Located RawRow
 row_at cs p r = record { place = after (after p (32 ∷ [])) (32 ∷ []); item = row_tree cs p r }
 
--- the bounds behind `where`
+-- the bounds after `where`
 bounds_spelled : (cs : List Column) → AreNamed cs → (bs : List Bound) (p : Place) (rest : List ℕ) → AllByRecursion (IsBoundOf (time_count cs)) bs → Stops is_name_byte rest
     → Spelled (bounds_text (bound_trees cs (after p (codes " where ")) bs)) p (bounds_bytes cs bs) rest
 bounds_spelled cs names [] p rest h s = nothing p rest
@@ -290,7 +290,7 @@ row_spelled cs names r p rest h =
 
 -- ---- relations
 
--- behind the name of a relation whose text begins here, and behind the columns
+-- after the name of a relation whose text begins here, and after the columns
 abbrev pub behind_name : Place → Relation → Place
 behind_name p r = after (after (after p (codes "relation ")) r.name) (codes "(")
 

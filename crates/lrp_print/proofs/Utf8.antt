@@ -95,7 +95,7 @@ integer_utf8 (negsuc n) h = IsUtf8-append (codes "-") (decimal (suc n)) (plain_u
 
 -- ---- data texts
 
--- bytes before one of ASCII, and that byte and those behind it
+-- bytes before one of ASCII, and that byte and those after it
 cut_ascii : (front : List ℕ) (b : ℕ) (rest : List ℕ) → b < 128 → IsUtf8 (front ++ b ∷ rest) → IsUtf8 front × IsUtf8 (b ∷ rest)
 cut_ascii front b rest small u =
     let here : get_or (front ++ b ∷ rest) (length front) 0 ≡ b = get_or-append_seam front b rest 0 in
@@ -103,7 +103,7 @@ cut_ascii front b rest small u =
     let cut : IsCharBoundary (front ++ b ∷ rest) (length front) = IsCharBoundary-before_ascii (front ++ b ∷ rest) (length front) (omega arith) (omega (arith, here, small)) in
     (subst IsUtf8 (take-append_seam front (b ∷ rest)) (IsUtf8-take (front ++ b ∷ rest) (length front) u cut), subst IsUtf8 (drop-append_seam front (b ∷ rest)) (IsUtf8-drop (front ++ b ∷ rest) (length front) u cut))
 
--- a text with a backslash before each quote and backslash, behind other bytes
+-- a text with a backslash before each quote and backslash, after other bytes
 escaped_utf8 : (front t : List ℕ) → IsUtf8 (front ++ t) → IsUtf8 (front ++ flat_map escaped t)
 escaped_utf8 front [] u = u
 escaped_utf8 front (b ∷ t) u = by ((b == 34) || (b == 92)) refl (λ before. escaped_utf8 before t)

@@ -1,4 +1,4 @@
--- Conditions behind the word `where`.
+-- Conditions after the word `where`.
 use Rattle.std.specs.Prelude.{ℕ, List, [], ◌∷◌, ◌++◌, codes}
 use Rattle.lrp_model.specs.Printed.{joined_by}
 

@@ -89,7 +89,7 @@ pub(crate) fn write_behind_where<S: Sink, N: Notation>(
     }
 }
 
-// Each item behind a separator.
+// Each item after a separator.
 #[derive(Clone, Copy)]
 struct Behind<'a, N> {
     separator: &'a [u8],

@@ -44,7 +44,7 @@ pub fn write_integer<S: Sink>(out: &mut S, value: &i64) -> Result<(), Failed>
     put_all(out, Buffer::new().format(*value).as_bytes())
 }
 
-/// Nothing, ` + a` or ` - b`, behind the name of a variable.
+/// Nothing, ` + a` or ` - b`, after the name of a variable.
 pub fn write_offset<S: Sink>(out: &mut S, plus: &i64) -> Result<(), Failed>
     ensures text { IsWritten (S.written out.old) (S.written out.new)
         (offset_bytes plus.now) result }

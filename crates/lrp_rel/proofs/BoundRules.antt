@@ -153,7 +153,7 @@ bound_sound ts q e =
 abbrev Sides : Bool → Tokens → Type 0
 Sides = TextOf side_text FitsSide
 
--- a side behind its column
+-- a side after its column
 side_spelled : (n : Located Identifier) (o : Offset) (head x : Tokens) → Spells (name_part n ∷ []) head → Spells (offset_text o) x → Spells (side_text (side_of n o)) (head ++ (x ++ []))
 side_spelled n o head x one two =
     subst (λ ps. Spells ps (head ++ (x ++ []))) (sym (side_parts n o)) (spells_join (name_part n ∷ []) (offset_text o) head (x ++ []) one (subst (λ y. Spells (offset_text o) y) (sym (append-nil x)) two))

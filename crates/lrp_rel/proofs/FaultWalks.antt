@@ -27,7 +27,7 @@ use Rattle.lrp_model.proofs.FirstFault.{first_of_both, sooner_again}
 abbrev pub bound_faults : List RawColumn → RawBound → List DbFault
 bound_faults cs b = unknown cs b.left ++ side_faults cs b.side
 
--- the elements from an index on are the one there and those behind it
+-- the elements from an index on are the one there and those after it
 pub behind : {A : Type 0} (xs : List A) (i : ℕ) (x : A) → i < length xs → x ≡ get_or xs i x → drop i xs ≡ x ∷ drop (i + 1) xs
 behind xs i x lt e = drop-cons xs i x lt ∙ ap (λ y. y ∷ drop (suc i) xs) (sym e) ∙ ap (λ k. x ∷ drop k xs) (sym (add-one i))
 
@@ -91,11 +91,11 @@ sorts_walk cs vs i c v best more found all h lt less here there e is =
 
 -- ---- names of time columns
 
--- a number behind others is not 0
+-- a number after others is not 0
 not_zero : (k : ℕ) → (k + 1 == 0) ≡ false
 not_zero k = grind (arith, nat_tests)
 
--- a column with the name, or one of those behind it
+-- a column with the name, or one of those after it
 named_here : (before k : ℕ) (t : Bool) (cs : List RawColumn) (n : Identifier) → not (list_any (bytes_eq n) (time_names cs)) ≡ (time_number k cs n == 0) → not (t || list_any (bytes_eq n) (time_names cs)) ≡ ((if t then before + 1 else time_number k cs n) == 0)
 named_here before k true cs n h = sym (not_zero before)
 named_here before k false cs n h = h

@@ -24,7 +24,7 @@ use Rattle.lrp_model.specs.Columns.{column_text}
 use Rattle.lrp_model.specs.Databases.{sign, integer_text, value_text, comma, bounds_text, row_text, relation_text, database_text}
 use Rattle.lrp_model.specs.DatabaseMeaning.{column_of, value_of, row_of, database_of}
 
--- a token with those behind it
+-- a token with those after it
 headed_count : (p : Place) (s : Scanned) (k : Token) (rest : Tokens) (n : ℕ) → length rest ≤ n → length (headed p s k rest) ≤ suc n
 headed_count p s (name_token m) rest n h = omega (arith, h)
 headed_count p s (word_token w) rest n h = omega (arith, h)

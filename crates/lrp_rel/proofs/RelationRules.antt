@@ -47,7 +47,7 @@ all_columns : (cs : List RawColumn) → AllByRecursion (λ c. Unit {0}) cs
 all_columns [] = tt
 all_columns (c ∷ cs) = (tt, all_columns cs)
 
--- behind the columns stands a parenthesis, and they are few
+-- after the columns stands a parenthesis, and they are few
 pub record EndsColumns (n : ℕ) (cs : List RawColumn) (ts : Tokens) : Type 0 where
   pub closes : Sees false (is_symbol Close) true ts
   pub list : FollowsList Anything (is_symbol Comma) ts
@@ -80,7 +80,7 @@ rows_member n = record {
   begins = λ a ts left h. (first_sees_any false (is_symbol_token CloseBrace) (symbol_token Open) _ ts left (takes_from a.place (row_text a.item) ts left tt h).0, tt);
 }
 
--- behind the rows stands a brace, and there is room for them
+-- after the rows stands a brace, and there is room for them
 pub record EndsRows (n : ℕ) (rows : List (Located RawRow)) (ts : Tokens) : Type 0 where
   pub closes : Sees false (is_symbol CloseBrace) true ts
   pub room : length ts + length (rows_text rows) < n

@@ -33,7 +33,7 @@ pub flat_of : {A : Type 0} (Of : DbKind → Type 0) (f : A → List DbFault) →
 flat_of Of f h [] = tt
 flat_of Of f h (x ∷ xs) = both_of Of (f x) (flat_map f xs) (h x) (flat_of Of f h xs)
 
--- a fault behind a test
+-- a fault after a test
 pub if_of : (Of : DbKind → Type 0) (b : Bool) (f : DbFault) → Of f.kind → AreOf Of (fault_if b f)
 if_of Of true f h = (h, tt)
 if_of Of false f h = tt

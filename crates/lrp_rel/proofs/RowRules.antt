@@ -203,7 +203,7 @@ bounds_viable n ts e lt h =
     (separated_viable bound bound_text FitsBound comma (is_symbol Comma) (symbol_told Comma) bound_sound bound_viable n [] vs e (omega arith) d))
     (λ d. absurd cc)
 
--- the tokens that end a row behind its values
+-- the tokens that end a row after its values
 abbrev close_tokens : Tokens
 close_tokens = record { token = symbol_token Close; place = start } ∷ record { token = symbol_token Semicolon; place = start } ∷ []
 
@@ -211,7 +211,7 @@ close_tokens = record { token = symbol_token Close; place = start } ∷ record {
 abbrev semicolon_tokens : Tokens
 semicolon_tokens = record { token = symbol_token Semicolon; place = start } ∷ []
 
--- the parts of a row behind its values
+-- the parts of a row after its values
 abbrev rest_of_row : List RawBound → List Part
 rest_of_row bs = bounds_text bs ++ any (symbol_token Semicolon) ∷ []
 

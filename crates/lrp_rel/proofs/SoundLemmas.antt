@@ -61,7 +61,7 @@ none_is (m ∷ names) n h =
 none_back : (n m : Identifier) → m ≢ n → n ≢ m
 none_back n m apart e = apart (sym e)
 
--- names behind others differ from these, and from one another
+-- names after others differ from these, and from one another
 differ_behind : (f : Place → DbFault) (before : List Identifier) (ns : List (Located Identifier)) → repeated f before ns ≡ [] → AllByRecursion (λ n. AllByRecursion (λ m. n.item ≢ m) before) ns × AreDistinct (map (λ n. n.item) ns)
 differ_behind f before [] e = (tt, tt)
 differ_behind f before (n ∷ ns) e =
@@ -141,7 +141,7 @@ numbers_of before (c ∷ cs) n = by (is_time c.sort) (numbers_of (before + 1) cs
     by true more same = ap (λ t. if t then before + 1 else place_from (before + 1) (time_names cs) n) (nat_list_eq_equiv.symm n c.name) ∙ ap (λ k. if bytes_eq c.name n then before + 1 else k) more
     by false more same = same
 
--- names that differ, and are none of those before, go behind these one by one
+-- names that differ, and are none of those before, go after these one by one
 once_behind : (before ns : List Identifier) → AllByRecursion (λ n. list_any (bytes_eq n) before ≡ false) ns → AreDistinct ns → fold put_once before ns ≡ before ++ ns
 once_behind before [] new d = sym (append-nil before)
 once_behind before (n ∷ ns) new d =

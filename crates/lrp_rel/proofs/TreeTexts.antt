@@ -41,7 +41,7 @@ scan_texted bs u = by (scan bs).token refl
     by bad_token e = tt
     by hole_token e = tt
 
--- a token with those behind it
+-- a token with those after it
 pub headed_texted : (p : Place) (s : Scanned) (k : Token) (rest : Tokens) → TextToken k → AllByRecursion (λ t. TextToken t.token) rest → AllByRecursion (λ t. TextToken t.token) (headed p s k rest)
 headed_texted p s (name_token n) rest h r = (h, r)
 headed_texted p s (word_token w) rest h r = (tt, r)

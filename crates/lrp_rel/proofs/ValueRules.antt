@@ -71,7 +71,7 @@ bare_value_leads (Point i k) = sign_leads i.negative i.size _
 pub value_back : (v : Located WrittenValue) → ReadsBack value ((located_text value_text) v) v (FitsValue v.item) NoPlus
 value_back v = located_back bare_value value_text v (FitsValue v.item) NoPlus (bare_value_leads v.item) (bare_value_back v.item)
 
--- behind an integer, with or without a period
+-- after an integer, with or without a period
 after_plus_sound : (i : Integer) (more : Bool) (ts us vs : Tokens) (q : WrittenValue × Tokens) → (if more then (period >>= (λ k. expect_word Letter >>= (λ u. pure (Point i k)))) else pure (Instant i)) vs ≡ Ok q → Takes (integer_text i) ts us → i.size ≤ greatest_number → Takes (eaten_parts (any (symbol_token Plus)) more) us vs → Takes (value_text q.0) ts q.1 × FitsValue q.0
 after_plus_sound i false ts us vs q e one fit eaten =
     let h : (Instant i, vs) ≡ q = cc in

@@ -29,7 +29,7 @@ label = do
   n ← name
   pure (record { place = n.1; item = n.0 })
 
--- an integer alone is an instant, with a period behind it a point
+-- an integer alone is an instant, with a period after it a point
 unfoldable pub numeric : Parser WrittenValue
 numeric = do
   i ← integer

@@ -99,7 +99,7 @@ struct Counts {
     texts: usize,
 }
 
-// The fault of a column behind so many, and how many there are with it.
+// The fault of a column after so many, and how many there are with it.
 fn counted(counts: Counts, column: &RawColumn) -> (Option<DbFault>, Counts)
     requires { counts.times + counts.texts < 2 ^ 63 }
     ensures found { (rest : ListOf ColumnOf) → earliest database_standing

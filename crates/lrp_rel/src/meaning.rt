@@ -61,7 +61,7 @@ fn meant_values(alloc: Global, values: List<Located<WrittenValue>>) -> Result<Li
     Ok(List::from_vec(made))
 }
 
-// The bounds that a comparison of two columns means, behind the others.
+// The bounds that a comparison of two columns means, after the others.
 fn keep_bound(
     bounds: &mut List<Bound>,
     op: BoundOp,
@@ -88,7 +88,7 @@ fn keep_bound(
     }
 }
 
-// The bounds of an instant, behind so many time columns, and how many there are with the value.
+// The bounds of an instant, after so many time columns, and how many there are with the value.
 fn keep_value(bounds: &mut List<Bound>, before: u8, value: &WrittenValue) -> Result<u8, Memory>
     requires few { before + point_count value.now ≤ 8 }
     requires fits { FitsValue value.now }
@@ -157,7 +157,7 @@ fn keep_side(
     }
 }
 
-// The bounds that written ones mean, behind the others.
+// The bounds that written ones mean, after the others.
 fn keep_bounds(
     bounds: &mut List<Bound>,
     times: &IndexSet<Name>,

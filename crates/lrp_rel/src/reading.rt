@@ -271,7 +271,7 @@ fn read_relations(alloc: Global, tokens: &mut TokenCursor<'_>) -> Result<Gathere
     }
 }
 
-// The relations, and the end behind them.
+// The relations, and the end after them.
 #[tactic(auto, unfolding(crate::specs::Rules::database))]
 pub fn read_relations_to_end(alloc: Global, tokens: &mut TokenCursor<'_>) -> Result<Gathered, Fault>
     ensures { (n : ℕ) → length tokens.old < n

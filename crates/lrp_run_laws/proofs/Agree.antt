@@ -61,7 +61,7 @@ Agree R (Err e) (Err f) = e ≡ f
 Agree R (Ok a) (Err f) = ⊥
 Agree R (Err e) (Ok b) = ⊥
 
--- a step behind steps that agree
+-- a step after steps that agree
 module _ {A B : Type 0} (First Other : Result A Refusal → Type 0) (Next Later : A → Result B Refusal → Type 0) (R : A → A → Type 0) (S : B → B → Type 0)
     (steps : (r s : Result A Refusal) → First r → Other s → Lasting r → Lasting s → Agree R r s)
     (next : (a b : A) → First (Ok a) → Other (Ok b) → R a b → (o p : Result B Refusal) → Next a o → Later b p → Lasting o → Lasting p → Agree S o p) where
@@ -313,7 +313,7 @@ fit_agree need q =
     (λ e a i j l. head_stands need q j e (head_refused need q e i))
     (λ e f i j l m. head_refused_alike need q e f (head_refused need q e i) (head_refused need q f j))
 
--- the plan stands behind the head
+-- the plan stands after the head
 pub planned_agree : (way : Planning) (need : Option HeadNeed) (db : List Relation) (q : Question) (r s : Result Plan Refusal) → IsPlannedAs way need db q r → IsPlannedAs way need db q s → Lasting r → Lasting s → Agree SameText r s
 planned_agree way need db q = then_agree (IsHeadFit need q) (IsHeadFit need q) (λ fit. IsPlanned way db q) (λ fit. IsPlanned way db q) Counted SameText (fit_agree need q) (λ a b i j done. plan_agree way db q)
 

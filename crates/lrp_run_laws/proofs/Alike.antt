@@ -48,7 +48,7 @@ WholeTuples = (columns : List Column) (tuple : List Datum) → HasShape columns 
 ranks_total : IsTotalOrder rank_cmp
 ranks_total = then_total (on_total times_of (lists_total (on_total rank nat_cmp_total))) (on_total texts_of (lists_total nat_list_cmp_total))
 
--- what is not behind and not before is beside
+-- what is not after and not before is beside
 beside : (o p : Ordering) → p ≡ ordering_reverse o → o ≢ Greater → p ≢ Greater → o ≡ Equal
 beside Less p e h k = absurd (k e)
 beside Equal p e h k = refl

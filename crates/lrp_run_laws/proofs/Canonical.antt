@@ -1,4 +1,4 @@
--- The bytes of a canonical answer hang on the head and the answers alone.
+-- The bytes of a canonical answer depend on the head and the answers alone.
 use Rattle.std.proofs.Common.{◌≡◌, ◌↔◌, ◌≤◌, ℕ, List, refl, sym, subst, arith}
 use Rattle.std.specs.Prelude.{ℤ}
 use Rattle.lrp_model.specs.AnswerTexts.{IsAnswerTextOf}

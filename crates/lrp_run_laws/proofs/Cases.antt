@@ -53,7 +53,7 @@ IsFew way (Some cap) db q = HasFewCells way cap db q
 abbrev pub Telling : Type 1
 Telling = List ℕ → Plan → Option Tuple → List Relation → Question → List ℕ → Type 0
 
--- ---- behind the plan
+-- ---- after the plan
 
 pub data Onward (digest : List ℕ) (a : Asked) (db : List Relation) (q : Question) (Tells : Option Tuple → List ℕ → Type 0) : Outcome → Type 0 where
   output : (tuple : Option Tuple) → IsResumed digest q.head a.after (Ok tuple) → IsFew a.of.way a.cap db q → (bytes : List ℕ) → Tells tuple bytes → Onward digest a db q Tells (Ok bytes)
@@ -125,11 +125,11 @@ resumed_as digest a db q Tells cap e outcome (Some text) is (Err TokenStale) tol
 resumed_as digest a db q Tells cap e outcome (Some text) is (Err Memory) told next = subst (Onward digest a db q Tells) (sym next) want
 resumed_as digest a db q Tells cap e outcome (Some text) is (Err _) told next = absurd told
 
--- what is due behind a plan
+-- what is due after a plan
 abbrev Next : Type 1
 Next = Source (List Relation) → Source Question → Plan → Outcome → Type 0
 
--- what is due behind a plan comes so
+-- what is due after a plan comes so
 abbrev pub GoesOn : Asked → Telling → Next → Type 0
 GoesOn a Tells Due = (files : Contents) (db : List Relation) (q : Question) (p : Plan) (outcome : Outcome)
     → Due (record { bytes = files.database; says = db }) (record { bytes = files.query; says = q }) p outcome → Onward (digest_of files) a db q (λ tuple. Tells (digest_of files) p tuple db q) outcome
@@ -152,11 +152,11 @@ module _ (seen : ShelfSeen) (a : Asked) (Tells : Telling) (Due : Next) (goes_on 
   planned_as files db d q s outcome (Err Memory) is next = subst (Case seen a files Tells) (sym next) wanted
   planned_as files db d q s outcome (Err _) is next = absurd is
 
-  -- what is due behind a head that fits
+  -- what is due after a head that fits
   abbrev AfterHead : Contents → List Relation → Question → Plan → Outcome → Type 0
   AfterHead files db q = Due (record { bytes = files.database; says = db }) (record { bytes = files.query; says = q })
 
-  -- a plan stands behind the head; where the head is refused, so is the plan
+  -- a plan stands after the head; where the head is refused, so is the plan
   behind_head : (db : List Relation) (q : Question) (plan : Result Plan Refusal) (fit : Result (Unit {0}) Refusal) → IsHeadFit a.need q fit → Behind fit (λ fit. IsPlanned a.of.way db q) plan → IsPlanned a.of.way db q plan ⊎ ((unmet : HeadNeed) × (a.need ≡ Some unmet) × (IsMetBy unmet q.head → ⊥) × (plan ≡ Err (Head unmet)))
   behind_head db q plan (Ok fit) is next = inl next
   behind_head db q plan (Err (Head unmet)) is next = inr (unmet, is.0, is.1, next)
@@ -170,7 +170,7 @@ module _ (seen : ShelfSeen) (a : Asked) (Tells : Telling) (Due : Next) (goes_on 
         | inr unfit ↦ subst (Case seen a files Tells) (sym (subst (λ p. Behind p (AfterHead files db q) outcome) unfit.3 next)) (no_head db d q s unfit.0 unfit.1 unfit.2)
       ]
 
-  -- what is due behind the query
+  -- what is due after the query
   abbrev AfterQuery : Source (List Relation) → Source Question → Outcome → Type 0
   AfterQuery d q = Then (IsPlannedAs a.of.way a.need d.says q.says) (Due d q)
 
@@ -192,7 +192,7 @@ module _ (seen : ShelfSeen) (a : Asked) (Tells : Telling) (Due : Next) (goes_on 
   queried_as files db d outcome (Err Memory) is next = subst (Case seen a files Tells) (sym next) wanted
   queried_as files db d outcome (Err _) is next = absurd is
 
-  -- what is due behind the database
+  -- what is due after the database
   abbrev AfterDatabase : Source (List Relation) → Outcome → Type 0
   AfterDatabase d = Then (IsQueryRead (language_by a.of) d.says seen a.of.query) (AfterQuery d)
 

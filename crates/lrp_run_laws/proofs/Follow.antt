@@ -1,4 +1,4 @@
--- The token behind a page resumes behind its last tuple.
+-- The token after a page resumes after its last tuple.
 use Rattle.std.proofs.Common.{◌≡◌, ◌≤◌, ◌<◌, ◌+◌, ◌^◌, ◌++◌, ◌∙◌, ℕ, ℤ, zero, suc, Bool, true, false, List, [], ◌∷◌, length, filter, get_or, map, Contains, refl, sym, ap, ap₂, subst, Option, Some, None, Ok, if◌then◌else◌, cond, arith}
 use Rattle.std.specs.Prelude.{pos, negsuc, neg_ℤ, ◌≤ℤ◌, ◌↔◌, nat_abs}
 use Rattle.std.proofs.lemmas.Int.{ints}
@@ -149,7 +149,7 @@ abbrev HasToken : List ℕ → Tuple → Type 0
 HasToken digest tuple = IsToken (token_of digest tuple) (Some digest) (times_of tuple) (texts_of tuple)
 
 module _ (whole : WholeTuples) (db : List Relation) (q : Question) (digest : List ℕ) (end : Tuple) (answer : IsAnswer db q end) (token : HasToken digest end) where
-  -- it resumes behind the tuple
+  -- it resumes after the tuple
   resumes : IsResumed digest q.head (Some (token_of digest end)) (Ok (Some end))
   resumes =
       let shape = shaped db q end answer in
@@ -163,14 +163,14 @@ module _ (whole : WholeTuples) (db : List Relation) (q : Question) (digest : Lis
         tuple_is = sym (whole q.head end shape);
       }
 
-  -- and behind no other
+  -- and after no other
   resumes_there : OneToken → (tuple : Option Tuple) → IsResumed digest q.head (Some (token_of digest end)) (Ok tuple) → tuple ≡ Some end
   resumes_there one None is = absurd is
   resumes_there one (Some tuple) is =
       let same = one (token_of digest end) is.digest (Some digest) is.times (times_of end) is.texts (texts_of end) is.token token in
       ap Some (is.tuple_is ∙ ap₂ (in_head_order q.head) same.1 same.2 ∙ whole q.head end (shaped db q end answer))
 
--- a page with more to come and the page behind its last entry are one page
+-- a page with more to come and the page after its last entry are one page
 abbrev pub PagesJoin : Type 0
 PagesJoin = (db : List Relation) (query : Question) (from to : ℤ) (after : Option Tuple) (a b : ℕ) (page next : List Tuple) (end : Tuple) (more : Bool)
     → IsPage (IsAnswer db query) from to after a page true → last_of page ≡ Some end → IsPage (IsAnswer db query) from to (Some end) b next more → IsPage (IsAnswer db query) from to after (a + b) (page ++ next) more

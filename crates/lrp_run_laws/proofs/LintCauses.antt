@@ -32,7 +32,7 @@ module _ (database : Identifier) (tense civil : Bool) (seen : ShelfSeen) where
   abbrev L : Option Identifier → Task
   L query = linting (Files query)
 
-  -- what is due behind the query
+  -- what is due after the query
   abbrev AfterQuery : List Relation → Option RawQuestion → Outcome → Type 0
   AfterQuery db asked = IsOutput (TellsFindings db asked)
 
@@ -68,7 +68,7 @@ module _ (database : Identifier) (tense civil : Bool) (seen : ShelfSeen) where
     unread None outcome is = explained_alone outcome (is [])
     unread (Some name) outcome is = let some = some_bytes seen.files name in explained_with name some.0 some.1 outcome (is some.0)
 
-    -- what is due behind the database
+    -- what is due after the database
     over_as : (query : Option Identifier) (db : List Relation) → length d ≤ 16777216 → IsDatabase (plain_by (usual_by civil) d) db → (outcome : Outcome) → IsLintedOver tense db seen query outcome → Explained (L query) seen outcome
     over_as None db short is outcome next =
         explained_alone outcome (told_as None (two_files d []) db (record { short = short; is = is }) None (λ Holds h. h) outcome (subst (λ (r : Result (Option RawQuestion) Refusal). Behind r (AfterQuery db) outcome) next.is next.next))

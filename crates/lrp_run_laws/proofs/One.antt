@@ -166,7 +166,7 @@ planned_within way need db q p h = within h.first h.next
 module _ (known : Known) (of : FilesAsked) (need : Option HeadNeed) (files : Contents) (seen further : ShelfSeen)
     (first : ReadsOnly seen of.database files.database) (second : ReadsOnly further of.database files.database) (third : ReadsOnly seen of.query files.query) (fourth : ReadsOnly further of.query files.query)
     (S : List ℕ → List ℕ → Type 0) (Next Later : Source (List Relation) → Source Question → Plan → Outcome → Type 0) where
-  -- what is due behind two plans agrees
+  -- what is due after two plans agrees
   abbrev Finish : Type 0
   Finish = (d : Source (List Relation)) (q : Source Question) → d.bytes ≡ files.database → q.bytes ≡ files.query → SaysRelations (civil_by of) files d.says → SaysQuestion (language_by of) files d.says q.says → IsWithinLimits (plan_by of.way d.says q.says) d.says q.says
       → (p r : Plan) → SameText p r → (o v : Outcome) → Next d q p o → Later d q r v → Lasting o → Lasting v → Agree S o v
@@ -207,7 +207,7 @@ module _ (known : Known) (of : FilesAsked) (need : Option HeadNeed) (files : Con
         (database_agree known.databases known.database_fault (civil_by of) files.database seen further of.database first second)
         (λ d e i j same. databased d e i same)
 
--- ---- what is due behind the plan
+-- ---- what is due after the plan
 
 -- the cells are counted, and then an output is told
 counted_agree : (way : Planning) (db : List Relation) (q : Question) (cap : ℕ) (Tells : List ℕ → Type 0) (S : List ℕ → List ℕ → Type 0) → ((a b : List ℕ) → Tells a → Tells b → S a b)
@@ -215,7 +215,7 @@ counted_agree : (way : Planning) (db : List Relation) (q : Question) (cap : ℕ)
 counted_agree way db q cap Tells S same = then_agree (IsCounted way db q cap) (IsCounted way db q cap) (λ done. IsOutput Tells) (λ done. IsOutput Tells) Counted S (cells_agree way db q cap)
     (λ a b i j done. output_agree Tells Tells S same)
 
--- the rows of the canonical answer are counted behind that, and then it is told
+-- the rows of the canonical answer are counted after that, and then it is told
 canonical_agree : (known : Known) (called : Identifier) (way : Planning) (db : List Relation) (q : Question) (cap : ℕ)
     → (o v : Outcome) → Then (IsCounted way db q cap) (λ done. Then (AreRowsCounted db q cap) (λ counted. IsOutput (IsCanonicalText called db q))) o → Then (IsCounted way db q cap) (λ done. Then (AreRowsCounted db q cap) (λ counted. IsOutput (IsCanonicalText called db q))) v → Lasting o → Lasting v → Agree (λ a b. a ≡ b) o v
 canonical_agree known called way db q cap =

@@ -15,12 +15,12 @@ pub record IsShortWindow (from to : ℤ) : Type 0 where
   pub low : neg_ℤ (pos greatest_number) ≤ℤ from
   pub high : to ≤ℤ pos greatest_number
 
--- a page of the query's answers behind which more is to come, and its last tuple
+-- a page of the query's answers after which more is to come, and its last tuple
 pub record IsUnfinished (db : List Relation) (q : Question) (from to : ℤ) (after : Option Tuple) (limit : ℕ) (page : List Tuple) (end : Tuple) : Type 0 where
   pub is : IsPage (IsAnswer db q) from to after limit page true
   pub last : last_of page ≡ Some end
 
--- the token of its last tuple is resumed just behind that tuple, and each page that is told for the token goes on with the page
+-- the token of its last tuple is resumed just after that tuple, and each page that is told for the token goes on with the page
 pub record IsFollowed (digest : List ℕ) (db : List Relation) (q : Question) (from to : ℤ) (after : Option Tuple) (limit : ℕ) (page : List Tuple) (end : Tuple) : Type 0 where
   pub resumed : IsResumed digest q.head (Some (token_of digest end)) (Ok (Some end))
   pub next : (further : ℕ) (civil json : Bool) (output : List ℕ) (told : TellsPageBehind from to further (Some (token_of digest end)) civil json digest output db q)

@@ -77,7 +77,7 @@ IsLawfulTask (sample seed size) files = Unit {0}
 
 -- ---- the output of a task
 
--- a page of the query's answers in the window, behind the tuple of the token where there is one
+-- a page of the query's answers in the window, after the tuple of the token where there is one
 pub record TellsPageBehind (from to : ℤ) (limit : ℕ) (after : Option Text) (civil json : Bool) (digest output : List ℕ) (db : List Relation) (q : Question) : Type 0 where
   pub tuple : Option Tuple
   pub resumed : IsResumed digest q.head after (Ok tuple)

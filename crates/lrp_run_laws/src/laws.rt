@@ -167,8 +167,8 @@ pub fn numbers_add_up()
     sizes_add();
 }
 
-/// Of a page of what two files ask, behind which more is to come, the token of the last tuple and of these files is resumed
-/// just behind that tuple, and a page that is told for it goes on with the page.
+/// Of a page of what two files ask, after which more is to come, the token of the last tuple and of these files is resumed
+/// just after that tuple, and a page that is told for it goes on with the page.
 pub fn pages_follow()
     ensures { (language : QueryLanguage) (civil : Option CivilText) (files : Contents)
         (db : List Relation) (q : Question) (from to : ℤ)

@@ -135,7 +135,7 @@ module _ {V : Type 0} (old new : Slab (Link V)) (chain : Chain) (value : V) (who
       last_count : chain.count + 1 - 1 ≡ suc n
       last_count = omega (arith, count_is)
 
-      -- where the key is behind the last one, the slots stay in line
+      -- where the key is after the last one, the slots stay in line
       follows : (line : Bool) → (if line then chain.last + 1 == key else false) ≡ true → (line ≡ true) × (chain.last + 1 ≡ key)
       follows true e = (refl, eqb-true (chain.last + 1) key e)
       follows false e = cc

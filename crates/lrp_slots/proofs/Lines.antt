@@ -80,7 +80,7 @@ between_all es k high e = record {
   behind = λ j f le p. absurd (no_entry es j f (omega arith) p);
 }
 
--- behind the one in the middle
+-- after the one in the middle
 pub goes_up : (es : List (Cell × Chain)) (k : Cell) (low high middle : ℕ) (m : Cell × Chain) → IsLine es → ComesBetween es k low high → low ≤ middle → middle < high → slice_get es middle ≡ Some m
     → cell_cmp k m.0 ≡ Greater → ComesBetween es k (middle + 1) high
 goes_up es k low high middle m line b le lt at gt = record {
@@ -209,7 +209,7 @@ pub taken_updates : (es : List (Cell × Chain)) (k q : Cell) → IsLine es → c
 taken_updates es k q line =
     lookup-remove_entry (eq_by_cmp_equiv cells_total) (is_at (cell_cmp k)) (λ x y t. ap (λ c. is_eq (cell_cmp c y)) (same_cell k x t)) q es (IsDistinct-from_sorted cell_cmp (keys_of es) line)
 
--- ---- a cell behind the line
+-- ---- a cell after the line
 
 -- it is not held
 pub behind_none : (es : List (Cell × Chain)) (k : Cell) → IsBehindAll k es → chain_at es k ≡ None
@@ -223,7 +223,7 @@ goes_behind (x ∷ es) k v behind =
     ap (λ l. x ∷ l) (goes_behind es k v behind.1)
     ∙ sym (ap (λ o. match_ordering o ((k, v) ∷ x ∷ es) ((x.0, v) ∷ es) (x ∷ insert_entry cell_cmp es k v)) behind.0)
 
--- what comes behind the last cell comes behind all
+-- what comes after the last cell comes after all
 pub behind_last : (es : List (Cell × Chain)) (k : Cell) (e : Cell × Chain) → IsLine es → slice_get es (length es - 1) ≡ Some e → cell_cmp k e.0 ≡ Greater → IsBehindAll k es
 behind_last [] k e line at gt = tt
 behind_last (x ∷ []) k e line at gt = (subst (λ (g : Cell × Chain). cell_cmp k g.0 ≡ Greater) (sym (same_some at)) gt, tt)
@@ -232,7 +232,7 @@ behind_last (x ∷ y ∷ es) k e line at gt =
     let rest : IsBehindAll k (y ∷ es) = behind_last (y ∷ es) k e (rest_of x (y ∷ es) line) (ap (slice_get (x ∷ y ∷ es)) (sym last) ∙ at) gt in
     (above k y.0 x.0 rest.0 (first_of x (y ∷ es) line).0, rest)
 
--- the cell at a place comes behind those before it
+-- the cell at a place comes after those before it
 behind_before : (es : List (Cell × Chain)) (i : ℕ) (e : Cell × Chain) → IsLine es → slice_get es i ≡ Some e → IsBehindAll e.0 (take i es)
 behind_before [] i e line at = cc
 behind_before (x ∷ es) zero e line at = tt

@@ -23,7 +23,7 @@ use Rattle.lrp_slots.proofs.Lines.{empty_of, goes_behind, turned, first_of, rest
 
 -- ---- the order of keys
 
--- what is equal behind does not decide
+-- what is equal after does not decide
 behind_two : (r s t : Ordering) → ordering_then r (ordering_then s t) ≡ ordering_then r (ordering_then s (ordering_then t Equal))
 behind_two Less s t = refl
 behind_two Greater s t = refl
@@ -259,7 +259,7 @@ of_one : (P : Cell → Type 0) (es : List (Cell × Chain)) (x : Cell × Chain) (
 of_one P [] x rest all = all.0
 of_one P (y ∷ es) x rest all = of_one P es x rest all.1
 
--- the next cell of a line comes behind those before it
+-- the next cell of a line comes after those before it
 next_behind : (es : List (Cell × Chain)) (x : Cell × Chain) (rest : List (Cell × Chain)) → IsLine (es ++ x ∷ rest) → IsBehindAll x.0 es
 next_behind [] x rest line = tt
 next_behind (y ∷ es) x rest line =
@@ -410,7 +410,7 @@ pub key_put_line : (es : List (Narrow × Chain)) (old : List (Cell × Chain)) (k
     → IsLine (wide_entries new)
 key_put_line es old k v i new line view gap e = line_of_put old (wide_entries new) (wide k) v (subst IsLine view line) (key_put_view es old k v i new view gap e)
 
--- a gap behind the last key, and one in an empty line
+-- a gap after the last key, and one in an empty line
 pub end_gap : (es : List (Narrow × Chain)) (k : Narrow) (last : ℕ) (d : Narrow × Chain) → IsLine (wide_entries es) → last + 1 ≡ length es → narrow_cmp k (slice_index_or es last d).0 ≡ Greater → IsGap (wide_entries es) (wide k) (length es)
 end_gap es k last d line e gt =
     subst (λ n. ComesBetween (wide_entries es) (wide k) n (length es)) e (key_greater es k 0 (length es) last d line (all_between es k) (omega arith) (omega (arith, e)) gt)

@@ -1,4 +1,4 @@
--- Cells with their chains in line, each cell behind the ones before it. No public clause cites this module.
+-- Cells with their chains in line, each cell after the ones before it. No public clause cites this module.
 use Rattle.std.specs.Prelude.{◌≡◌, ◌⊎◌, ℕ, ◌<◌, ◌≤◌, List, [], ◌++◌, Some, length, slice_get}
 use Rattle.std.specs.List.{AllByRecursion}
 use Rattle.std.specs.List.Sorted.{IsStrictlySortedBy}
@@ -12,7 +12,7 @@ use Rattle.lrp_slots.specs.Lists.{cell_cmp}
 abbrev pub IsLine : List (Cell × Chain) → Type 0
 IsLine line = IsStrictlySortedBy cell_cmp (keys_of line)
 
--- the cell comes behind each cell of the line
+-- the cell comes after each cell of the line
 abbrev pub IsBehindAll : Cell → List (Cell × Chain) → Type 0
 IsBehindAll cell line = AllByRecursion (λ e. cell_cmp cell e.0 ≡ Greater) line
 
@@ -23,7 +23,7 @@ pub record StandsInLine (line : List (Cell × Chain)) (cell : Cell) (place : ℕ
   pub read : slice_get line place ≡ Some entry
   pub same : cell_cmp cell entry.0 ≡ Equal
 
--- a cell comes behind all before the one place, and before all from the other one on
+-- a cell comes after all before the one place, and before all from the other one on
 pub record ComesBetween (line : List (Cell × Chain)) (cell : Cell) (low high : ℕ) : Type 0 where
   pub order : low ≤ high
   pub within : high ≤ length line

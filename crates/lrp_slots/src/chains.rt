@@ -83,7 +83,7 @@ pub(crate) fn vacant_key<V>(links: &mut Slab<Link<V>>) -> Result<usize, Memory>
     Ok(links.vacant_key())
 }
 
-// Whether a key is the one behind another.
+// Whether a key is the one after another.
 fn is_next(last: usize, key: usize) -> bool
     ensures { result ≡ (last + 1 == key) }
 {

@@ -158,7 +158,7 @@ impl Held {
         Ok(None)
     }
 
-    /// Takes a cell and its chain out. One in line costs as much as there are cells behind it.
+    /// Takes a cell and its chain out. One in line costs as much as there are cells after it.
     pub(crate) fn remove(&mut self, cell: &Cell)
         ensures { self.new ≡ remove_entry (is_at (cell_cmp cell.now)) self.old }
     {

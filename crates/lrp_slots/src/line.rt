@@ -23,7 +23,7 @@ const MOST_LATE: u32 = 8;
 
 /// The chains of cells that have short keys, seen as the list of them in order of the cells.
 ///
-/// A cell is found among them by halving. One that comes late moves those behind it, so a line takes few of them.
+/// A cell is found among them by halving. One that comes late moves those after it, so a line takes few of them.
 #[derive(Drop)]
 pub(crate) struct Line {
     entries: Vec<(Narrow, Chain)>,
@@ -130,7 +130,7 @@ impl Line {
         Ok(true)
     }
 
-    /// Takes a cell and its chain out. It costs as much as there are cells behind it.
+    /// Takes a cell and its chain out. It costs as much as there are cells after it.
     pub(crate) fn remove(&mut self, cell: &Cell)
         ensures { self.new ≡ remove_entry (is_at (cell_cmp cell.now)) self.old }
     {

@@ -32,7 +32,7 @@ bound_names (b ∷ bs) n =
     one_name (bytes_eq b.name n) b (find (λ c. bytes_eq c.name n) bs) _ (bound_names bs n)
     ∙ ap (λ t. t || is_named_in (map (λ b. b.name) bs) n) (nat_list_eq_equiv.symm b.name n)
 
--- a sort behind a reference is there where the sort is
+-- a sort after a reference is there where the sort is
 pub there_behind : (s : Option (Bor Sort)) → is_some s ≡ is_some (option_map (λ (s : Bor Sort). s.now) s)
 there_behind None = refl
 there_behind (Some s) = refl

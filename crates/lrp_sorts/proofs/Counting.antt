@@ -140,7 +140,7 @@ module _ (passes : Sort → Bool) (bs : Binders) where
   no_fewer : (x : Identifier) (xs : List Identifier) → count passes bs xs ≤ count passes bs (x ∷ xs)
   no_fewer x xs = most_cond (is_named_in xs x) (counted passes (binder_sort bs x)) (count passes bs xs)
 
-  -- the count of a list in which a name was taken out behind another
+  -- the count of a list in which a name was taken out after another
   behind : (n x : Identifier) (xs : List Identifier) → bytes_eq n x ≡ false
       → count passes bs (x ∷ without n xs) ≡ cond (is_named_in xs x) (count passes bs (without n xs)) (counted passes (binder_sort bs x) + count passes bs (without n xs))
   behind n x xs e = ap (λ b. cond b (count passes bs (without n xs)) (counted passes (binder_sort bs x) + count passes bs (without n xs))) (stays n x xs e)

@@ -33,7 +33,7 @@ pub position_is : {A : Type 0} (p : A → Bool) (xs : List A) → position p xs 
 position_is p [] = refl
 position_is p (x ∷ xs) = one_more (p x) (position_or_len p xs) (length xs) ∙ ap (λ o. cond (p x) (Some 0) (option_map suc o)) (position_is p xs)
 
--- behind others
+-- after others
 abbrev pub after : Option ℕ → Bool → ℕ → Option ℕ
 after (Some i) b n = Some i
 after None b n = cond b (Some n) None
@@ -55,7 +55,7 @@ in_more p (x ∷ xs) y = ap (λ o. cond (p x) (Some 0) (option_map suc o)) (in_m
     by true = refl
     by false = refl
 
--- one more behind the others
+-- one more after the others
 pub position_more : {A : Type 0} (p : A → Bool) (xs : List A) (y : A) → position p (xs ++ y ∷ []) ≡ after (position p xs) (p y) (length xs)
 position_more p xs y = position_is p (xs ++ y ∷ []) ∙ in_more p xs y ∙ ap (λ o. after o (p y) (length xs)) (sym (position_is p xs))
 
@@ -74,7 +74,7 @@ fresh (Some i) true n h = grind (arith, h refl)
 fresh (Some i) false n h = refl
 fresh None b n h = refl
 
--- a new name has the place behind the others
+-- a new name has the place after the others
 pub position_new : (ns : List (List ℕ)) (k : List ℕ) → is_some (position (bytes_eq k) ns) ≡ false → (n : List ℕ) → cond (bytes_eq k n) (Some (length ns)) (position (bytes_eq n) ns) ≡ position (bytes_eq n) (ns ++ k ∷ [])
 position_new ns k new n =
     ap (λ b. cond b (Some (length ns)) (position (bytes_eq n) ns)) (nat_list_eq_equiv.symm k n)
@@ -181,7 +181,7 @@ pub found_alone : {A : Type 0} (p : A → Bool) (xs ys : List A) (o : Option A) 
 found_alone p xs [] o e h = e ∙ ap (find p) (sym (append-nil xs))
 found_alone p xs (y ∷ ys) o e h = absurd (omega (arith, h))
 
--- ---- behind references
+-- ---- after references
 
 -- whether there is a value does not depend on the reference
 pub copied_some : {A : Type 0} (o : Option (Bor A)) → is_some (option_copied o) ≡ is_some o
@@ -197,6 +197,6 @@ none_there (Some x) e = absurd (grind (arith, e))
 pub place_within : {A : Type 0} (name : A → List ℕ) (xs : List A) (n : List ℕ) (i : ℕ) → position (bytes_eq n) (map name xs) ≡ Some i → i < length xs
 place_within name xs n i e = omega (arith, (position-Some (bytes_eq n) (map name xs) i [] e).0, length-map xs name)
 
--- the element behind a reference at a place
+-- the element after a reference at a place
 pub behind_at : {A : Type 0} (xs : List (Bor A)) (i : ℕ) (x : Bor A) → i < length xs → x ≡ get_or xs i x → slice_get (map (λ r. r.now) xs) i ≡ Some x.now
 behind_at xs i x lt is = slice_get-map (λ r. r.now) xs i ∙ ap (option_map (λ r. r.now)) (slice_get_read xs (length xs) i x refl lt is)

@@ -14,9 +14,9 @@ use Rattle.lrp_sorts.specs.declared.width.Tally.{Tally}
 use Rattle.lrp_sorts.proofs.Counting.{own_name, or_true}
 use Rattle.lrp_sorts.proofs.Kept.{none_kept, same_kept, not_kept, wide_kept, kept_outside}
 
--- ---- names behind references
+-- ---- names after references
 
--- a test of names behind references is that of the names
+-- a test of names after references is that of the names
 pub among_behind : (ns : List (Bor Identifier)) (m : Identifier) → list_any (λ (n : Bor Identifier). bytes_eq m n.now) ns ≡ is_named_in (names_behind ns) m
 among_behind [] m = refl
 among_behind (n ∷ ns) m = ap (λ b. bytes_eq m n.now || b) (among_behind ns m)
@@ -26,7 +26,7 @@ passed : (b : Bool) (n : Bor Identifier) (l : List (Bor Identifier)) (m : List I
 passed true n l m e = ap (λ m. n.now ∷ m) e
 passed false n l m e = e
 
--- the names that pass, behind references or not
+-- the names that pass, after references or not
 pub filter_behind : (p : Identifier → Bool) (ns : List (Bor Identifier)) → names_behind (filter (λ (n : Bor Identifier). p n.now) ns) ≡ filter p (names_behind ns)
 filter_behind p [] = refl
 filter_behind p (n ∷ ns) = passed (p n.now) n (filter (λ (n : Bor Identifier). p n.now) ns) (filter p (names_behind ns)) (filter_behind p ns)
@@ -93,7 +93,7 @@ module _ (bs : Binders) (q : ℕ) (names : List Identifier) (old : Tally) (n : I
         texts = f b t.texts;
       }
 
--- a name in front, or behind
+-- a name in front, or after
 turned_or : (a b : Bool) → (a || (b || false)) ≡ (b || a)
 turned_or true true = refl
 turned_or true false = refl
@@ -107,7 +107,7 @@ first_counted bs q names n t k = record {
   texts = same_kept is_data bs q (names ++ n ∷ []) (n ∷ names) (names_behind t.texts.items) (λ m. list_any-append (bytes_eq m) names (n ∷ []) ∙ turned_or (is_named_in names m) (bytes_eq m n)) k.texts;
 }
 
--- the first names behind the others, or before them
+-- the first names after the others, or before them
 or_turned : (a b : Bool) → (a || b) ≡ (b || a)
 or_turned true true = refl
 or_turned true false = refl

@@ -13,8 +13,8 @@ pub record Defined : Type 0 where
   pub definitions : List Relation
 
 -- each name has the number of the first of these that is that name
-abbrev pub AreNumbered : {S : Type 0} → HashMap Identifier ℕ S → List Identifier → Type 0
-AreNumbered m names = (n : Identifier) → get_by (bytes_eq n) m ≡ position (bytes_eq n) names
+abbrev pub AreNamesNumbered : {S : Type 0} → HashMap Identifier ℕ S → List Identifier → Type 0
+AreNamesNumbered m names = (n : Identifier) → get_by (bytes_eq n) m ≡ position (bytes_eq n) names
 
 -- a relation without rows
 abbrev pub rowless : Identifier → List RawColumn → Relation

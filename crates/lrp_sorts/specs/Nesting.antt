@@ -8,7 +8,7 @@ use Rattle.lrp_model.specs.declared.relations.Sort.{Sort}
 use Rattle.lrp_sorts.specs.Scopes.{kept_at}
 use Rattle.lrp_sorts.specs.declared.scope.QuantifierBinder.{QuantifierBinder}
 
--- the binders of quantifiers, the innermost first, and those of a head behind them
+-- the binders of quantifiers, the innermost first, and those of a head after them
 abbrev pub binders_with : List QuantifierBinder → Binders → Binders
 binders_with qs bs = map (λ (q : QuantifierBinder). q.binder.now) qs ++ bs
 

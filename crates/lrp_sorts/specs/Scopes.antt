@@ -11,7 +11,7 @@ use Rattle.lrp_model.specs.declared.relations.Sort.TheVariants.{Named}
 use Rattle.lrp_model.specs.declared.raw.RawColumn.{RawColumn}
 use Rattle.lrp_model.specs.declared.relations.Sort.{Sort}
 
--- quantifiers, the innermost first, and behind them the head's columns in order
+-- quantifiers, the innermost first, and after them the head's columns in order
 pub record Around : Type 0 where
   pub quantifiers : List RawColumn
   pub head : List RawColumn
@@ -31,12 +31,12 @@ holds s n = contains_by (λ k. bytes_eq n k.now) s
 -- ---- what the checker keeps of relations
 
 -- the number that a map from names has at a name
-abbrev pub number_at : {S : Type 0} → HashMap (Bor (List ℕ)) ℕ S → Identifier → Option ℕ
-number_at m n = get_by (λ k. bytes_eq n k.now) m
+abbrev pub scope_number : {S : Type 0} → HashMap (Bor (List ℕ)) ℕ S → Identifier → Option ℕ
+scope_number m n = get_by (λ k. bytes_eq n k.now) m
 
 -- each name has the number of the first of these that is that name
-abbrev pub AreNumbers : {S : Type 0} → HashMap (Bor (List ℕ)) ℕ S → List Identifier → Type 0
-AreNumbers m names = (n : Identifier) → number_at m n ≡ position (bytes_eq n) names
+abbrev pub AreScopeNumbers : {S : Type 0} → HashMap (Bor (List ℕ)) ℕ S → List Identifier → Type 0
+AreScopeNumbers m names = (n : Identifier) → scope_number m n ≡ position (bytes_eq n) names
 
 -- relations that were added to those of a database
 abbrev pub added_of : List (Bor Relation) → List Relation
@@ -44,5 +44,5 @@ added_of = map (λ r. r.now)
 
 -- the number of a name among those added is that of the first that has it, and the named sorts are those of all columns
 pub record IsCatalog {S T : Type 0} (db added : List Relation) (numbers : HashMap (Bor (List ℕ)) ℕ S) (sorts : HashSet (Bor (List ℕ)) T) : Type 0 where
-  pub first : AreNumbers numbers (map (λ r. r.name) added)
+  pub first : AreScopeNumbers numbers (map (λ r. r.name) added)
   pub named : (n : Identifier) → holds sorts n ≡ has_sort (db ++ added) (Named n)

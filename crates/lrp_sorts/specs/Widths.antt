@@ -20,7 +20,7 @@ pub record AreKeptNames (passes : Sort → Bool) (bs : Binders) (quantifiers : �
   pub among : (n : Identifier) → is_named_in kept n ≡ true → (is_named_in names n && passing passes (binder_sort bs n)) ≡ true
   pub every : length kept ≤ 8 + quantifiers → (n : Identifier) → is_named_in names n ≡ true → passing passes (binder_sort bs n) ≡ true → is_named_in kept n ≡ true
 
--- what names stand behind references
+-- what names stand after references
 abbrev pub names_behind : List (Bor Identifier) → List Identifier
 names_behind = map (λ n. n.now)
 

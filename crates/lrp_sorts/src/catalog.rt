@@ -7,7 +7,7 @@ ghost use Rattle.lrp_model.specs.Rows.{relation_named};
 ghost use Rattle.lrp_model.specs.Sorting.{query_standing, has_sort, sort_faults};
 ghost use Rattle.lrp_model.specs.declared.relations.Sort.TheVariants.{Named};
 ghost use Rattle.lrp_model.specs.Texts.{Identifier};
-ghost use Rattle.lrp_sorts.specs.Scopes.{AreNumbers, holds};
+ghost use Rattle.lrp_sorts.specs.Scopes.{AreScopeNumbers, holds};
 
 use crate::earliest::fault_where;
 use lrp_database::Database;
@@ -62,7 +62,7 @@ impl<'a> Catalog<'a> {
         })
     }
 
-    /// The catalog with one relation more, behind the others. Of two relations of one name the first is found.
+    /// The catalog with one relation more, after the others. Of two relations of one name the first is found.
     pub fn with(self, relation: &'a Relation) -> Result<Self, Memory>
         ensures { IfOk result (λ made. made ≡ self.entry ++ relation.now ∷ []) }
     {
@@ -122,7 +122,7 @@ fn add_number<'a>(
     number: usize,
 ) -> Result<(), Memory>
     ensures { OnOk result ((names : List Identifier) → number ≡ length names
-        → AreNumbers numbers.old names → AreNumbers numbers.new (names ++ name.now ∷ [])) }
+        → AreScopeNumbers numbers.old names → AreScopeNumbers numbers.new (names ++ name.now ∷ [])) }
 {
     if !numbers.contains_key(&name) {
         numbers.insert(name, number)?;

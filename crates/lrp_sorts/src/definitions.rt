@@ -2,7 +2,7 @@
 ghost use Rattle.std.specs.Prelude.{◌≡◌, ◌<◌, ◌++◌, ◌&&◌, List as ListOf, [], ◌∷◌, Some, map, not, length, slice_get, IfOk, IfSome, OnOk};
 ghost use Rattle.lrp_model.specs.Faults.{is_named_in};
 ghost use Rattle.lrp_model.specs.Texts.{Identifier};
-ghost use Rattle.lrp_sorts.specs.Definitions.{AreNumbered, definition_number, is_taken, rowless as rowless_of};
+ghost use Rattle.lrp_sorts.specs.Definitions.{AreNamesNumbered, definition_number, is_taken, rowless as rowless_of};
 
 use crate::resolving::plain_columns;
 use lrp_database::Database;
@@ -31,14 +31,14 @@ impl<'a> Drop for Definitions<'a> {
 
 impl<'a> Model for Definitions<'a> {
     ghost use Rattle.std.specs.Prelude.{map};
-    ghost use Rattle.lrp_sorts.specs.Definitions.{AreNumbered, Defined};
+    ghost use Rattle.lrp_sorts.specs.Definitions.{AreNamesNumbered, Defined};
 
     ghost Value = { Defined };
 
     ghost view = { λ d. record { relations = d.db.now; definitions = d.all.items } };
 
     // The number of a name is that of the first definition which has it.
-    ghost invariant = { λ d. AreNumbered d.numbers (map (λ r. r.name) d.all.items) };
+    ghost invariant = { λ d. AreNamesNumbered d.numbers (map (λ r. r.name) d.all.items) };
 }
 
 impl<'a> Definitions<'a> {
@@ -92,7 +92,7 @@ impl<'a> Definitions<'a> {
         &self.all[number]
     }
 
-    /// The same with a definition more, behind the others, and whether its name is new.
+    /// The same with a definition more, after the others, and whether its name is new.
     pub fn with(
         self,
         alloc: Global,
@@ -135,9 +135,9 @@ fn add_number(
     number: usize,
 ) -> Result<bool, Memory>
     ensures new { IfOk result (λ is_new. (names : ListOf Identifier)
-        → AreNumbered numbers.old names → is_new ≡ not (is_named_in names name.now)) }
+        → AreNamesNumbered numbers.old names → is_new ≡ not (is_named_in names name.now)) }
     ensures numbers { OnOk result ((names : ListOf Identifier) → number ≡ length names
-        → AreNumbered numbers.old names → AreNumbered numbers.new (names ++ name.now ∷ [])) }
+        → AreNamesNumbered numbers.old names → AreNamesNumbered numbers.new (names ++ name.now ∷ [])) }
 {
     let is_new = !numbers.contains_key(name);
     if is_new {

@@ -117,7 +117,7 @@ fn keep<'a>(kept: &mut Vec<&'a Name>, quantifiers: usize, name: &'a Name) -> Res
     Ok(())
 }
 
-// The names of two lists. Those of the shorter one go behind the others, so that a long list is neither copied nor gone
+// The names of two lists. Those of the shorter one go after the others, so that a long list is neither copied nor gone
 // through for each of its names.
 fn merged<'a>(
     quantifiers: usize,
@@ -137,7 +137,7 @@ fn merged<'a>(
     }
 }
 
-// The names of a list, and those of another one behind them.
+// The names of a list, and those of another one after them.
 fn appended<'a>(
     quantifiers: usize,
     names: Vec<&'a Name>,

@@ -69,7 +69,7 @@ pub apart_turns : (p q : Span) (r : ℕ) (n : ℤ) → SpanComesBefore p q → H
 apart_turns p q r n (inl l) a b = let e : p.residue ≡ r = a.residue in let f : q.residue ≡ r = b.residue in omega arith
 apart_turns p q r n (inr c) a b = let k : n <ℤ n = ends_below p q c.1 n n (record { residue = refl; low = a.low; high = a.high }) (record { residue = refl; low = b.low; high = b.high }) in omega (arith, ints)
 
--- what comes before a span comes before what comes behind it
+-- what comes before a span comes before what comes after it
 pub before_trans : (high : ℕ) (p q s : Span) → IsSpan high p → IsSpan high q → IsSpan high s → SpanComesBefore p q → SpanComesBefore q s → SpanComesBefore p s
 before_trans high p q s vp vq vs (inl a) (inl b) = inl (omega arith)
 before_trans high p q s vp vq vs (inl a) (inr b) = inl (let e : q.residue ≡ s.residue = b.0 in omega arith)
@@ -174,7 +174,7 @@ module _ (high : ℕ) (span : Span) (done : List Span) (hole : Span) (others pie
   hole_in : Contains (hole ∷ others) hole
   hole_in = head_in hole others
 
-  -- a hole that is left is the first one or comes behind it
+  -- a hole that is left is the first one or comes after it
   left_holes : (p : Span) → IsSpan (high + 1) p → SpanComesBefore p hole → (h : Span) → Contains (hole ∷ others) h → SpanComesBefore p h
   left_holes p v b h l = elim (Contains-append_cases (hole ∷ []) others h l) [
     | inl a ↦ subst (SpanComesBefore p) (in_one hole h a) b
@@ -252,7 +252,7 @@ module _ (high : ℕ) (span : Span) (done : List Span) (hole : Span) (others pie
         not_done (inl a) x = (c.to_pieces r n a).1 x
         not_done (inr a) x = (c.to_rest r n (f.to r n a).0).1 x
 
-    -- a turn of the span that is in no hole so far is in a piece, in a front or in the rest behind the hole
+    -- a turn of the span that is in no hole so far is in a piece, in a front or in the rest after the hole
     pub pieces_from : (r : ℕ) (n : ℤ) → HasTurn span r n → (InSpans done r n → ⊥) → (HasTurn hole r n → ⊥) → InSpans (pieces ++ fronts) r n ⊎ (HasTurn rest r n × (Within n hole.last → ⊥))
     pieces_from r n t out away = elim (c.from r n t out) [
       | inl a ↦ inl (in_left pieces fronts r n a)
@@ -262,7 +262,7 @@ module _ (high : ℕ) (span : Span) (done : List Span) (hole : Span) (others pie
       ]
     ]
 
-    -- where nothing is behind the hole
+    -- where nothing is after the hole
     pub cut_stop : ((n : ℤ) → Within n rest.last → Within n hole.last) → IsSpanDifference high (span ∷ []) (done ++ hole ∷ others) (pieces ++ fronts)
     cut_stop none = record {
       to = λ r n h. (let t = pieces_to r n h in (in_this span r n t.0, t.1));
@@ -327,7 +327,7 @@ module _ (high : ℕ) (span : Span) (done : List Span) (hole : Span) (others pie
           | inr x ↦ in_right done (hole ∷ others) r n (record { span = hole; listed = hole_in; is = this_has hole r n x })
         ]
 
-        -- no hole behind comes before what is left
+        -- no hole after comes before what is left
         behind_next : (h : Span) → Contains others h → SpanComesBefore h next → ⊥
         behind_next h l (inl less) = of (order h l)
           where

@@ -69,7 +69,7 @@ module _ (high : ℕ) (span : Span) (holes : List Span) (ordered : AreOrdered hi
       same : rest.residue ≡ (get_or holes i d).residue
       same = same_residues rest (get_or holes i d) ahead hole_behind
 
-      -- nothing is left behind the hole
+      -- nothing is left after the hole
       pub stop_cut : (old made new : List Span) → made ≡ old ++ pieces → AppendsFronts high rest (get_or holes i d) made new → ((n : ℤ) → Within n rest.last → Within n (get_or holes i d).last) → AppendsLeftSpans high span holes old new
       stop_cut old made new is f none = record {
         left = pieces ++ f.fronts;

@@ -15,7 +15,7 @@ use Rattle.lrp_spans.proofs.MergeLaws.{in_left, in_right, in_either, this_has}
 split_at : (xs : List Span) (i : ℕ) (d : Span) → i < length xs → take i xs ++ get_or xs i d ∷ drop (i + 1) xs ≡ xs
 split_at xs i d l = ap (λ x. take i xs ++ x) (sym (drop_more xs i d l)) ∙ take-append-drop i xs
 
--- what is before a place comes before what stands there, and that before what stands behind it
+-- what is before a place comes before what stands there, and that before what stands after it
 pub before_place : (xs : List Span) (i : ℕ) (d : Span) → i < length xs → AllPairs SpanComesBefore xs → AreBefore (take i xs) (get_or xs i d)
 before_place xs i d l all v h = before SpanComesBefore xs i (get_or xs i d) all l (get_or_default xs i d (get_or xs i d) l) v h
 

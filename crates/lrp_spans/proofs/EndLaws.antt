@@ -25,7 +25,7 @@ no_more : (k m n : ℕ) → m ≤ n → k * m ≤ k * n
 no_more zero m n l = omega arith
 no_more (suc k) m n l = let p : k * m ≤ k * n = no_more k m n l in omega (arith, p, l)
 
--- a turn that is far enough is behind each first end, and before no last one
+-- a turn that is far enough is after each first end, and before no last one
 pub behind_first : (h : ℕ) (n : ℤ) (e : Option ℤ) → AtMost h e → pos h ≤ℤ n → Above n e
 behind_first h n None a l = tt
 behind_first h n (Some f) a l = let m : f ≤ℤ pos h = a.1 in omega (arith, ints)
@@ -34,7 +34,7 @@ no_last : (h : ℕ) (n : ℤ) (e : Option ℤ) → AtMost h e → pos h <ℤ n �
 no_last h n None a l w = refl
 no_last h n (Some f) a l w = let m : f ≤ℤ pos h = a.1 in absurd (omega (arith, ints))
 
--- and one far down is before each last end, and behind no first one
+-- and one far down is before each last end, and after no first one
 pub before_last : (h : ℕ) (n : ℤ) (e : Option ℤ) → AtMost h e → n ≤ℤ neg_ℤ (pos h) → Within n e
 before_last h n None a l = tt
 before_last h n (Some f) a l = let m : neg_ℤ (pos h) ≤ℤ f = a.0 in omega (arith, ints)
@@ -111,7 +111,7 @@ module _ (k high : ℕ) (spans : List Span) (residues : List ℕ) (low : 0 < k) 
         is = record { times = h.turn; is = (let e : y ≡ pos h.residue +ℤ (pos k *ℤ h.turn) = h.is in omega (arith, ints)) };
       }
 
-  -- how many periods are enough for a number, so that it comes behind the bound and all ends
+  -- how many periods are enough for a number, so that it comes after the bound and all ends
   enough : (bound : ℕ) (x : ℤ) (t : ℤ) → (c : ℕ) × (high + nat_abs t ≤ c) × (pos bound ≤ℤ (x +ℤ pos (k * c))) × (pos (k * (high + 1)) ≤ℤ (x +ℤ pos (k * c)))
   enough bound x t =
       let rest : ℕ = nat_abs t + bound + nat_abs x in

@@ -9,12 +9,12 @@ pub use Rattle.lrp_theory.proofs.Members.{before, below_or, from_map, in_map, fr
 pub pairs_left : {X : Type 0} (R : X → X → Type 0) (xs ys : List X) → AllPairs R (xs ++ ys) → AllPairs R xs
 pairs_left R xs ys all i j d il jl = rw (← get_or_append_left xs ys d i (omega (arith, il, jl)), ← get_or_append_left xs ys d j jl) (all i j d il (omega (arith, jl, length-append xs ys)))
 
--- each two of what stands behind a front
+-- each two of what stands after a front
 pub pairs_right : {X : Type 0} (R : X → X → Type 0) (xs ys : List X) → AllPairs R (xs ++ ys) → AllPairs R ys
 pairs_right R [] ys all = all
 pairs_right R (x ∷ xs) ys all = pairs_right R xs ys (λ i j d il jl. all (suc i) (suc j) d (omega (arith, il)) (omega (arith, jl)))
 
--- the head of a list and what stands behind it
+-- the head of a list and what stands after it
 pub pairs_head : {X : Type 0} (R : X → X → Type 0) (x : X) (xs : List X) → AllPairs R (x ∷ xs) → (y : X) → Contains xs y → R x y
 pairs_head R x xs all y h =
     let l : h.0 < length xs = h.1 in
@@ -27,7 +27,7 @@ pairs_map R S f (x ∷ xs) all each = pairs_append R (f x ∷ []) (map f xs) (pa
     (pairs_map R S f xs (pairs_right S (x ∷ []) xs all) (λ u v l m s. each u v (later x xs u l) (later x xs v m) s))
     (λ a b l m. (let r = from_map f xs b m in subst (λ c. R c b) (in_one (f x) a l) (subst (R (f x)) r.2 (each x r.0 (head_in x xs) (later x xs r.0 r.1) (pairs_head S x xs all r.0 r.1)))))
 
--- the first of what is behind a place
+-- the first of what is after a place
 pub slice_get_drop : {X : Type 0} (xs : List X) (i : ℕ) (x : X) → slice_get (drop i xs) 0 ≡ Some x → slice_get xs i ≡ Some x
 slice_get_drop [] zero x e = e
 slice_get_drop [] (suc i) x e = e

@@ -57,7 +57,7 @@ merging_start v = record {
   each = λ high all. all;
 }
 
--- what comes before a span comes before each that is behind it in order
+-- what comes before a span comes before each that is after it in order
 before_later : (u v w : Span) → SpanComesBefore u v → SpanComesNoLater v w → SpanComesBefore u w
 before_later u v w (inl a) (inl b) = inl (omega arith)
 before_later u v w (inl a) (inr b) = inl (let e : v.residue ≡ w.residue = b.0 in omega arith)

@@ -163,7 +163,7 @@ module _ (high K step : ℕ) (left right : List Span) (ordered : AreOrdered high
     ];
   }
 
--- behind a place whose residue is not below the end none is
+-- after a place whose residue is not below the end none is
 pub none_below : (high : ℕ) (spans : List Span) (place end : ℕ) → AreOrdered high spans → ((s : Span) → slice_get spans place ≡ Some s → end ≤ s.residue) → (s : Span) → Contains (drop place spans) s → end ≤ s.residue
 none_below high spans place end ordered stop s l = at (drop place spans) (pairs_drop spans place ordered.apart) (λ t e. stop t (head_drop spans place t e)) s l
   where

@@ -54,7 +54,7 @@ module _ (K : ℕ) (R : List ℕ) (h : AreAscendingResidues K R) (some : 0 < len
     back = λ x o. by_period K R h some (x +ℤ pos K) o x (Divides-is (pos K) (neg_ℤ (pos K)) _ (omega (arith, ints)) (Divides-neg (pos K) (pos K) (Divides-self (pos K))));
   }
 
-  -- a number of the set behind one of them is at least the next one
+  -- a number of the set after one of them is at least the next one
   next : (x i : ℕ) → HasOneOf K R (pos x) → nth K R i < x → nth K R (i + 1) ≤ x
   next x i o l =
       let f = found K R h some (pos x) o (omega (arith, ints)) in
@@ -192,7 +192,7 @@ module _ (K : ℕ) (R : List ℕ) (h : AreAscendingResidues K R) (some : 0 < len
         | inr m ↦ (let q : p ≡ w.0 = omega (arith, l, m) in let a : nth K R p ≡ nth K R w.0 = ap (nth K R) q in omega (arith, a, e, f))
       ]))
 
-  -- the number behind all residues is a period more than the first
+  -- the number after all residues is a period more than the first
   around : nth K R (length R) ≡ nth K R 0 + K
   around =
       let b : nth K R (0 + 1 * length R) ≡ nth K R 0 + K * 1 = nth_turn K R h some 0 1 in

@@ -1,4 +1,4 @@
--- Spans: what is before, behind and in two of them.
+-- Spans: what is before, after and in two of them.
 use Rattle.std.proofs.Common.{◌≡◌, ℕ, ◌+◌, ◌⊎◌, inl, inr, Option, Some, None, arith, refl, sym, subst, ◌∙◌}
 use Rattle.std.specs.Prelude.{ℤ, pos, ◌+ℤ◌, ◌-ℤ◌, ◌≤ℤ◌, ◌<ℤ◌, neg_ℤ}
 use Rattle.std.proofs.lemmas.Int.{ints, by_lt_z}
@@ -9,7 +9,7 @@ use Rattle.lrp_matrix.specs.Ranges.{Above}
 use Rattle.lrp_spans.specs.declared.spans.Span.{Span}
 use Rattle.lrp_spans.specs.Spans.{SpanBeginsBy, EndsBefore, HasTurn, IsSpanFront, IsJoinedSpan, IsLater, IsRest}
 
--- what lies behind an end of the first span, which has not ended before the second begins, is behind the beginning of the second
+-- what lies after an end of the first span, which has not ended before the second begins, is after the beginning of the second
 pub behind : (v w : Span) (n : ℤ) (e f : Option ℤ) → v.last ≡ e → w.first ≡ f → (EndsBefore v w → ⊥) → (Within n e → ⊥) → Above n f
 behind v w n None f p q meets out = absurd (out tt)
 behind v w n (Some a) None p q meets out = tt
@@ -77,7 +77,7 @@ front_is s hole front f g is ge same first last meets own = record {
         let l : a <ℤ f = own a p in
         (a, record { residue = same; low = subst (Above a) (sym (first ∙ p)) (let l : a ≤ℤ a = omega (arith, ints) in l); high = subst (Within a) (sym last) (let m : a ≤ℤ g = omega (arith, ints) in m) })
 
--- the rest from the turn behind the hole on
+-- the rest from the turn after the hole on
 pub rest_is : (s hole rest : Span) (f g : ℤ) → hole.last ≡ Some f → g ≡ f +ℤ pos 1 → rest.residue ≡ s.residue → rest.last ≡ s.last → rest.first ≡ Some g
     → (EndsBefore hole s → ⊥) → ((a : ℤ) → s.last ≡ Some a → f <ℤ a) → IsRest s hole rest
 rest_is s hole rest f g is ge same last first meets own = record {

@@ -32,7 +32,7 @@ pub record AreAscendingResidues (period : ℕ) (residues : List ℕ) : Type 0 wh
   pub ascending : AllPairs ◌<◌ residues
   pub below : (i : ℕ) → i < length residues → slice_index_or residues i 0 < period
 
--- the numbers of the residues from the first on, ascending: behind the last residue comes the first one, a period further on; asked for where there are residues
+-- the numbers of the residues from the first on, ascending: after the last residue comes the first one, a period further on; asked for where there are residues
 abbrev pub nth : ℕ → List ℕ → ℕ → ℕ
 nth period residues i = slice_index_or residues (i % length residues) 0 + period * (i / length residues)
 

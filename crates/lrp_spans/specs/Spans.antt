@@ -116,13 +116,13 @@ pub record AreFronts (high : ℕ) (s hole : Span) (fronts : List Span) : Type 0 
   pub each : (p : Span) → Contains fronts p → IsSpan (high + 1) p
   pub apart : AllPairs SpanComesBefore fronts
 
--- the new spans are the old ones and behind them fronts
+-- the new spans are the old ones and after them fronts
 pub record AppendsFronts (high : ℕ) (s hole : Span) (old new : List Span) : Type 0 where
   pub fronts : List Span
   pub is : new ≡ old ++ fronts
   pub fit : AreFronts high s hole fronts
 
--- the new spans are the old ones and behind them what the holes leave of s
+-- the new spans are the old ones and after them what the holes leave of s
 pub record AppendsLeftSpans (high : ℕ) (s : Span) (holes old new : List Span) : Type 0 where
   pub left : List Span
   pub is : new ≡ old ++ left

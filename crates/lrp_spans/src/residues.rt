@@ -61,7 +61,7 @@ fn all_move(residues: &[u64], period: u64, places: usize) -> bool
     true
 }
 
-// The number at a place, where the residues stand again behind the last, a period greater.
+// The number at a place, where the residues stand again after the last, a period greater.
 fn number_at(residues: &[u64], period: u64, i: usize) -> u64
     requires residues { AreAscendingResidues period residues.now }
     requires high { period ≤ 2 ^ 62 }

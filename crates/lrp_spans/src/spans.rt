@@ -60,7 +60,7 @@ impl Span {
         })
     }
 
-    /// The turns that come behind those of a hole, or `None` where there are none.
+    /// The turns that come after those of a hole, or `None` where there are none.
     pub fn rest(&self, hole: &Span) -> Option<Span>
         requires small { AtMost (2 ^ 62 + 1) hole.now.last }
         requires some { (n : ℤ) × HasTurn self.now self.now.residue n }
@@ -89,7 +89,7 @@ fn later(one: Option<i64>, other: Option<i64>) -> Option<i64>
     }
 }
 
-// Whether what begins there begins at the turn or behind it.
+// Whether what begins there begins at the turn or after it.
 fn starts_from(first: Option<i64>, turn: i64) -> bool
     ensures yes { IsTrue result → (n : ℤ) → Above n first → turn ≤ℤ n }
     ensures no { result ≡ false → (own : ℤ) → first ≡ Some own → own <ℤ turn }

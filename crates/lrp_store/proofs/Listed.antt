@@ -141,7 +141,7 @@ pub tight_is_small : (k w : ℤ) (e f : Option ℤ) → f ≡ e → IsTight k w 
 tight_is_small k w None f same h = subst (λ y. AtMost (2 ^ 62) y) (sym same) tt
 tight_is_small k w (Some a) f same h = subst (λ y. AtMost (2 ^ 62) y) (sym same) h.1
 
--- behind some place no bound stands
+-- after some place no bound stands
 rest_empty : (table : List (Option ℤ)) → length table ≡ 81 → (m n : ℕ) (bs : List Bound) → n + m ≡ 81 → ((p : ℕ) → n ≤ p → p < 81 → get_or table p None ≡ None) → AreOf table n bs → AreOf table 81 bs
 rest_empty table size zero n bs e none of = subst (λ k. AreOf table k bs) (omega arith) of
 rest_empty table size (suc m) n bs e none of = rest_empty table size m (n + 1) bs (omega arith) (λ p low high. none p (omega arith) high) (none_more table size n bs (none n (omega arith) (omega arith)) (omega arith) of)

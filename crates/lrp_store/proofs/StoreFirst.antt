@@ -59,7 +59,7 @@ not_nearer_cmp (suc n) (x ∷ xs) (y ∷ ys) l e h g = by h.place h.low h.same h
         rest (record { place = p; low = omega arith; same = λ i il. same (suc i) (omega arith); farther = λ f. farther (omega arith) })
         (sym (ap (λ o. ordering_then o (times_cmp (take n xs) ys)) (same_of (rank x) (rank y) (sym (ap rank s)))) ∙ g)
 
--- ---- zeros behind the values of two spots change nothing
+-- ---- zeros after the values of two spots change nothing
 
 -- values that are at a number from some place on compare like those before
 pub front_cmp : {X : Type 0} (R : X → X → Ordering) (d : X) → R d d ≡ Equal → (n : ℕ) (xs ys : List X) → length xs ≡ length ys → ((i : ℕ) → n ≤ i → get_or xs i d ≡ d) → ((i : ℕ) → n ≤ i → get_or ys i d ≡ d) → slice_cmp R xs ys ≡ slice_cmp R (take n xs) (take n ys)
@@ -75,7 +75,7 @@ front_cmp R d e (suc n) [] (y ∷ ys) l f g = absurd (omega arith)
 front_cmp R d e (suc n) (x ∷ xs) [] l f g = absurd (omega arith)
 front_cmp R d e (suc n) (x ∷ xs) (y ∷ ys) l f g = ap (ordering_then (R x y)) (front_cmp R d e n xs ys (omega arith) (λ i l. f (suc i) (omega arith)) (λ i l. g (suc i) (omega arith)))
 
--- so two spots with zeros behind their values compare like these
+-- so two spots with zeros after their values compare like these
 padded_cmp : (s : StoreView) (a b : Spot) → IsPadded (pos 0) s.shape.times a.times → IsPadded (pos 0) s.shape.times b.times → IsPadded 0 s.shape.texts a.texts → IsPadded 0 s.shape.texts b.texts
     → held_cmp a.times a.texts b.times b.texts ≡ held_cmp (take s.shape.times a.times) (take s.shape.texts a.texts) (take s.shape.times b.times) (take s.shape.texts b.texts)
 padded_cmp s a b times others texts names =

@@ -19,7 +19,7 @@ use Rattle.lrp_store.proofs.Aligning.{zone_read}
 abbrev pub skip : ℕ → ℕ → ℕ
 skip i k = cond (ltb k i) k (suc k)
 
--- an element before i keeps its number, and one behind it has the next
+-- an element before i keeps its number, and one after it has the next
 skip_or : (i k : ℕ) → ((k < i) × (skip i k ≡ k)) ⊎ ((i ≤ k) × (skip i k ≡ suc k))
 skip_or i k = elim (cases_lt k i) [
   | inl less ↦ inl (less, ap (λ b. cond b k (suc k)) (lt-ltb k i less))
@@ -218,7 +218,7 @@ module _ (s now new : StoreView) (cell : Cell) (i : ℕ) (low : i < length (tabl
     pub length_then : length (tables_at new cell) + 1 ≡ length (tables_at now cell)
     length_then = ap (λ l. length l + 1) list_then ∙ length-remove (tables_at now cell) i low
 
--- the table that is read next, and those behind it
+-- the table that is read next, and those after it
 pub read_next : (ts left new : List Table) (j : ℕ) (t : Table) → left ≡ drop j ts → j < length ts → left ≡ t ∷ new → (t ≡ get_or ts j []) × (new ≡ drop (j + 1) ts)
 read_next ts left new j t e low s = both t (get_or ts j []) new (drop (j + 1) ts) (sym s ∙ e ∙ drop_more ts j [] low)
   where

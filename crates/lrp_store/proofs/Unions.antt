@@ -26,7 +26,7 @@ one_number [] h = absurd (omega arith)
 one_number (x ∷ []) h = (x, refl)
 one_number (x ∷ y ∷ xs) h = absurd (omega arith)
 
--- a number of the cell behind another one is a period behind it
+-- a number of the cell after another one is a period after it
 pub next_number : (k r a x : ℤ) → pos 1 ≤ℤ k → Divides k (a -ℤ r) → Divides k (x -ℤ r) → a <ℤ x → (a +ℤ k) ≤ℤ x
 next_number k r a x one da dx l = by_lt_z x (a +ℤ k)
     (λ lt. let d : Divides k (x -ℤ a) = Divides-is k ((x -ℤ r) -ℤ (a -ℤ r)) _ (omega (arith, ints)) (Divides-- k _ _ dx da) in
@@ -95,7 +95,7 @@ module _ (z : ZoneView) (valid : IsZone z) (one : columns_of z ≡ 1) (t : Table
     high_met : Within (x -ℤ pos 0) high
     high_met = subst (λ e. Within (x -ℤ pos 0) e) (table_high low high) (line_high both x one m)
 
-    -- behind the end of the first
+    -- after the end of the first
     behind : (a : ℤ) → entry t 1 0 ≡ Some a → a <ℤ x → (f : Option ℤ) → entry z.bounds 0 1 ≡ f → IsMember z (x ∷ [])
     behind a e lt None f = in_line z x valid one residue high_met (subst (λ o. Within (pos 0 -ℤ x) o) (sym f) tt)
     behind a e lt (Some b) f =

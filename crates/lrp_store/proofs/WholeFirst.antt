@@ -85,7 +85,7 @@ module _ (k : ℕ) (r : ℤ) (low : pos 0 ≤ℤ r) (high : r <ℤ pos k) where
     small = (omega (arith, ints), omega (arith, ints));
   })
 
--- the first n values are the nearest of their residues, and zeros are behind them
+-- the first n values are the nearest of their residues, and zeros are after them
 pub record AreNearest (k : ℕ) (rs : List ℤ) (n : ℕ) (xs : List ℤ) : Type 0 where
   pub padded : IsPadded (pos 0) n xs
   pub each : (i : ℕ) → i < n → IsNearestOf k (at rs i) (at xs i)

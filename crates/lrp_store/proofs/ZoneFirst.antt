@@ -248,7 +248,7 @@ module _ (z : ZoneView) (is : IsZone z) (m : MatrixView) (closed : IsClosed m) (
 
         -- ---- so it is the value of one more column
 
-        -- the values with the choice behind them
+        -- the values with the choice after them
         pub next_is : (out : List ℤ) → out ≡ set xs i x → IsNearestTo z (suc i) out
         next_is out e = subst (IsNearestTo z (suc i)) (sym e) (record {
           padded = record {

@@ -47,7 +47,7 @@ pub record IsNotNearer (n : ℕ) (xs ys : List ℤ) : Type 0 where
   pub same : (i : ℕ) → i < place → at ys i ≡ at xs i
   pub farther : place < n → rank (at xs place) < rank (at ys place)
 
--- the first n values of xs, behind which are zeros, are those of some tuple of z, and of no tuple that is nearer
+-- the first n values of xs, after which are zeros, are those of some tuple of z, and of no tuple that is nearer
 pub record IsNearestTo (z : ZoneView) (n : ℕ) (xs : List ℤ) : Type 0 where
   pub padded : IsPadded (pos 0) n xs
   pub member : List ℤ
@@ -60,7 +60,7 @@ pub record IsNearestTo (z : ZoneView) (n : ℕ) (xs : List ℤ) : Type 0 where
 abbrev pub held_cmp : List ℤ → List ℕ → List ℤ → List ℕ → Ordering
 held_cmp xs ns ys ms = ordering_then (slice_cmp (λ x y. nat_cmp (rank x) (rank y)) xs ys) (slice_cmp nat_cmp ns ms)
 
--- the first values of a spot are times and numbers of texts that the store holds, and behind them are zeros
+-- the first values of a spot are times and numbers of texts that the store holds, and after them are zeros
 pub record IsSpotOf (s : StoreView) (spot : Spot) : Type 0 where
   pub times : IsPadded (pos 0) s.shape.times spot.times
   pub texts : IsPadded 0 s.shape.texts spot.texts
@@ -76,7 +76,7 @@ abbrev pub IsNotAfter : StoreView → Option Spot → List ℤ → List ℕ → 
 IsNotAfter s None times texts = ⊥
 IsNotAfter s (Some spot) times texts = held_cmp (take s.shape.times spot.times) (take s.shape.texts spot.texts) times texts ≢ Greater
 
--- the first values of a spot are the times of the tuple and the numbers of its texts, and behind them are zeros
+-- the first values of a spot are the times of the tuple and the numbers of its texts, and after them are zeros
 pub record StandsFor (shape : Shape) (domain : List Text) (spot : Spot) (tuple : List Datum) : Type 0 where
   pub times : take shape.times spot.times ≡ times_of tuple
   pub texts : AreTexts domain (take shape.texts spot.texts) (texts_of tuple)

@@ -111,7 +111,7 @@ pub record HoldsJust (set : List ℤ → List ℕ → Type 0) (s : StoreView) : 
   pub sound : (times : List ℤ) (texts : List ℕ) → InStore s times texts → set times texts
   pub whole : (times : List ℤ) (texts : List ℕ) → set times texts → InStore s times texts
 
--- the numbers before a column are below the size; behind them are zeros
+-- the numbers before a column are below the size; after them are zeros
 pub record AreChosenTexts (size column : ℕ) (texts : List ℕ) : Type 0 where
   pub padded : IsPadded 0 column texts
   pub low : (i : ℕ) → i < column → slice_index texts i < size

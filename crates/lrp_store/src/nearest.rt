@@ -7,7 +7,7 @@ ghost use Rattle.lrp_store.specs.Least.{matrix_of, IsRoom, IsNearestOf, IsNeares
 use lrp_matrix::{Matrix, nearest_zero};
 use lrp_zone::Zone;
 
-/// The values of one more column. Behind those before it, a column may have what lies within two ends and has its residue.
+/// The values of one more column. After those before it, a column may have what lies within two ends and has its residue.
 fn with_next(zone: &Zone, least: &Matrix, xs: &[i64; 8], i: usize) -> [i64; 8]
     requires valid { IsZone zone.now }
     requires column { i < columns_of zone.now }
@@ -28,7 +28,7 @@ fn with_next(zone: &Zone, least: &Matrix, xs: &[i64; 8], i: usize) -> [i64; 8]
     }
 }
 
-/// The first tuple of a zone by the ranks of its values, with zeros behind it.
+/// The first tuple of a zone by the ranks of its values, with zeros after it.
 pub fn nearest(zone: &Zone) -> [i64; 8]
     requires room { (h : ℕ) × IsRoom zone.now h }
     ensures { IsNearestTo zone.now (columns_of zone.now) result }
@@ -41,7 +41,7 @@ pub fn nearest(zone: &Zone) -> [i64; 8]
     xs
 }
 
-/// The first tuple of the zone of a cell that has no bound, by the ranks of its values, with zeros behind it.
+/// The first tuple of the zone of a cell that has no bound, by the ranks of its values, with zeros after it.
 pub fn nearest_of_cell(period: u64, residues: &[i64; 8], times: usize) -> [i64; 8]
     requires zone { IsZone (record {
       period = period;

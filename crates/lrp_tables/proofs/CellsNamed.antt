@@ -52,7 +52,7 @@ mapped_at f z (v ∷ vs) (suc i) low = mapped_at f z vs i (omega arith)
 
 -- ---- padded values
 
--- a list with noughts behind it up to eight
+-- a list with noughts after it up to eight
 abbrev pub padded : {A : Type 0} → A → List A → List A
 padded z values = values ++ replicate (8 - length values) z
 

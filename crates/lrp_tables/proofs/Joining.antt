@@ -54,7 +54,7 @@ name_in v (w ∷ names) = by_first (bytes_eq v w) refl (name_in v names)
 pub joint_known : (names : List Identifier) (name : Identifier) (more : List Identifier) → Contains names name → joint names (name ∷ more) ≡ joint names more
 joint_known names name more c = ap (λ b. joint (cond b names (names ++ name ∷ [])) more) (found_in name names c)
 
--- and a new one is, behind the others
+-- and a new one is, after the others
 pub joint_new : (names : List Identifier) (name : Identifier) (more : List Identifier) → (Contains names name → ⊥) → joint names (name ∷ more) ≡ joint (names ++ name ∷ []) more
 joint_new names name more c = ap (λ b. joint (cond b names (names ++ name ∷ [])) more) (not_found_in name names c)
 

@@ -101,7 +101,7 @@ others_fewer name (w ∷ names) (suc place) pairs e =
 head_apart : {X : Type 0} (R : X → X → Type 0) (x : X) (xs : List X) → AllPairs R (x ∷ xs) → All (R x) xs
 head_apart R x xs pairs = λ k d h. pairs 0 (suc k) d (omega arith) (omega arith)
 
--- without one name the others still differ from each other, and from those behind them
+-- without one name the others still differ from each other, and from those after them
 pub others_differ : (name : Identifier) (names more : List Identifier) → AllPairs ◌≢◌ (names ++ more) → AllPairs ◌≢◌ (without name names ++ more)
 others_differ name [] more pairs = pairs
 others_differ name (w ∷ names) more pairs =
@@ -116,7 +116,7 @@ others_differ name (w ∷ names) more pairs =
         (All-append (◌≢◌ w) (without name names) more (All-filter (λ other. not (bytes_eq name other)) (◌≢◌ w) names (All-append_left (◌≢◌ w) names more apart)) (All-append_right (◌≢◌ w) names more apart)) rest
     by false rest = rest
 
--- without one name behind them as well
+-- without one name after them as well
 pub others_differ_behind : (name : Identifier) (more names : List Identifier) → AllPairs ◌≢◌ (more ++ names) → AllPairs ◌≢◌ (more ++ without name names)
 others_differ_behind name [] names pairs = AllPairs-filter ◌≢◌ (λ other. not (bytes_eq name other)) names pairs
 others_differ_behind name (w ∷ more) names pairs =

@@ -63,7 +63,7 @@ module _ (makes : Makes) (reach : ℕ → ℕ) (cap : ℕ) (s start : StoreView)
       grown_more g high r = grown_on cap (reach high) _ _ start out new (made_more n texts piece next_is) (p.grown high r)
           (grown_within cap (reach (reach_of piece.zone)) (reach high) _ out new (more (reach_of piece.zone) high (piece_reach s piece next_is high r)) g)
 
-      -- one zone more is behind
+      -- one zone more is after
       pub passing_more : IsAdded (IsMadeFrom makes (InPiece n piece)) cap (reach (reach_of piece.zone)) out new → IsPassing makes reach cap s start new rest
       passing_more a = record {
         each = λ q h. p.each q (tail_in piece rest list el q h);

@@ -88,7 +88,7 @@ module _ (s : StoreView) where
   in_cells [] = refl
   in_cells (c ∷ cells) = ap (λ l. l ++ flat_map (λ (e : Cell × List ZoneView). pieces_in e.0 e.1) (map (λ cell. (cell, zones_at s cell)) cells)) (in_cell c) ∙ ap (λ l. pieces_at s c ++ l) (in_cells cells)
 
-  -- the zones of all cells, behind those of a cell that may be listed twice, are the zones of the store
+  -- the zones of all cells, after those of a cell that may be listed twice, are the zones of the store
   pub entries_are : IsStore s → (cell : Cell) (zones : List ZoneView) (entries : List (Cell × List ZoneView)) → zones ≡ zones_at s cell → entries ≡ entries_of s → ArePieces s (pieces_from cell zones entries)
   entries_are is cell zones entries ez ee =
       subst (ArePieces s)

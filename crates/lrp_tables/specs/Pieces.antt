@@ -16,7 +16,7 @@ piece_of s cell table = record { cell = cell; zone = zone_of s cell table }
 abbrev pub pieces_at : StoreView → Cell → List Piece
 pieces_at s cell = map (piece_of s cell) (tables_at s cell)
 
--- those of a cell from the number `next` on, and behind them those of other cells
+-- those of a cell from the number `next` on, and after them those of other cells
 abbrev pub pieces_left : StoreView → Cell → ℕ → List Cell → List Piece
 pieces_left s cell next cells = drop next (pieces_at s cell) ++ flat_map (pieces_at s) cells
 
@@ -24,7 +24,7 @@ pieces_left s cell next cells = drop next (pieces_at s cell) ++ flat_map (pieces
 abbrev pub pieces_in : Cell → List ZoneView → List Piece
 pieces_in cell zones = map (λ zone. record { cell = cell; zone = zone }) zones
 
--- zones of a cell, and behind them those of other cells
+-- zones of a cell, and after them those of other cells
 abbrev pub pieces_from : Cell → List ZoneView → List (Cell × List ZoneView) → List Piece
 pieces_from cell zones entries = pieces_in cell zones ++ flat_map (λ e. pieces_in e.0 e.1) entries
 

@@ -49,7 +49,7 @@ pub fn without(alloc: Global, names: &List<Name>, name: &Name) -> Result<List<Na
     Ok(kept)
 }
 
-/// The names, and behind them those of the second list that are new, each once.
+/// The names, and after them those of the second list that are new, each once.
 pub fn joint(alloc: Global, names: &List<Name>, more: &List<Name>) -> Result<List<Name>, Memory>
     ensures { IfOk result (λ made. made ≡ joint names.now more.now) }
 {

@@ -10,7 +10,7 @@ use Rattle.lrp_model.specs.Lexing.{is_letter, is_name_byte, is_forbidden, run, b
 use Rattle.std.specs.Char.{is_ascii_digit}
 use Rattle.lrp_text.proofs.Scans.{chosen}
 
--- the same text with nothing behind it
+-- the same text with nothing after it
 abbrev whole : TextRead → Result TextRead Scanned
 whole t = Ok (record { meant = t.meant; taken = t.taken; left = [] })
 
@@ -43,7 +43,7 @@ alone_quote : (b : ℕ) → (b == 34) ≡ true → text_from false (b ∷ []) �
 unfolding text_from
 alone_quote b e = rw e refl
 
--- what the bytes behind an opening quote take is a text by itself
+-- what the bytes after an opening quote take is a text by itself
 text_alone : (slash : Bool) (bs : List ℕ) → IsAlone slash (text_from slash bs)
 unfolding text_from
 text_alone true [] = tt
@@ -128,7 +128,7 @@ quoted_ends : (bs : List ℕ) (r : Result TextRead Scanned) → EndsHere bs (tex
 quoted_ends bs (Ok t) e = absurd cc
 quoted_ends bs (Err s) e = absurd cc
 
--- the end stands behind the last byte
+-- the end stands after the last byte
 pub scan_end : (wide : Bool) (bs : List ℕ) → EndsHere bs (scan_in wide bs)
 unfolding scan_in
 scan_end wide [] = λ e. refl

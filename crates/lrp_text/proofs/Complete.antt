@@ -163,7 +163,7 @@ pub record MemberUntil {A : Type 0} (p : Parser A) (text : A → List Part) (Fit
   pub one : (a : A) (ts left : Tokens) → length ts < size → Takes (text a) ts left → follow left → Answers (p ts) a left (Fits a)
   pub begins : (a : A) (ts left : Tokens) → Takes (text a) ts left → Sees false stop false ts × follow ts
 
--- what may follow a member comes next, before the members that are left and behind the last one
+-- what may follow a member comes next, before the members that are left and after the last one
 follows_all : {A : Type 0} {p : Parser A} {text : A → List Part} {Fits : A → Type 0} {follow : Tokens → Type 0} {stop : Placed → Bool} {size : ℕ} (m : MemberUntil p text Fits follow stop size) (all : List A) (ts left : Tokens) → Takes (flat_map text all) ts left → follow left → follow ts
 follows_all {A} {p} {text} {Fits} {follow} m [] ts left h g = subst follow (sym h) g
 follows_all {A} {p} {text} m (a ∷ all) ts left h g = let k = takes_split (text a) (flat_map text all) ts left h in (m.begins a ts k.0 k.1).1

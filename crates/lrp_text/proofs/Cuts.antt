@@ -1,4 +1,4 @@
--- Where a source is cut, behind blanks and comments and behind a token.
+-- Where a source is cut, after blanks and comments and after a token.
 use Rattle.std.proofs.Common.{◌≡◌, ◌<◌, ◌≤◌, ◌+◌, ◌-◌, ◌⊎◌, inl, inr, ℕ, Bool, true, false, ◌==◌, List, [], ◌∷◌, ◌++◌, refl, ap, ◌∙◌, sym, subst, length, take, drop, arith, append-nil}
 use Rattle.std.proofs.lemmas.Bool.{eqb-true}
 use Rattle.std.proofs.lemmas.Bool.Decides.{nat_tests}
@@ -41,12 +41,12 @@ comment_more true b front rest (inr k) = inr (ends_more b front k)
 comment_more false b front rest (inl n) = inr (inl n)
 comment_more false b front rest (inr k) = inr (inr (ends_more b front k))
 
--- behind a byte of ASCII
+-- after a byte of ASCII
 behind_plain : (comment : Bool) (p : Place) (b : ℕ) (bs : List ℕ) (a : At) → b < 128 → IsSkipped false (moved p b) bs a → IsSkipped comment p (b ∷ bs) a
 unfolding after
 behind_plain comment p b bs a small k = record { front = b ∷ k.front; whole = ap (λ x. b ∷ x) k.whole; place = k.place; ends = plain_more comment b k.front a.bytes small k.ends }
 
--- behind a byte of a comment, or one that begins it
+-- after a byte of a comment, or one that begins it
 behind_comment : (comment : Bool) (p : Place) (b : ℕ) (bs : List ℕ) (a : At) → IsSkipped true (moved p b) bs a → IsSkipped comment p (b ∷ bs) a
 unfolding after
 behind_comment comment p b bs a k = record { front = b ∷ k.front; whole = ap (λ x. b ∷ x) k.whole; place = k.place; ends = comment_more comment b k.front a.bytes k.ends }
@@ -85,11 +85,11 @@ front_length front rest bs e =
     let size : length bs ≡ length front + length rest = ap length (sym e) ∙ length-append front rest in
     omega arith
 
--- the bytes behind those in front
+-- the bytes after those in front
 behind_front : (front rest bs : List ℕ) → front ++ rest ≡ bs → drop (length bs - length rest) bs ≡ rest
 behind_front front rest bs e = ap (λ n. drop n bs) (sym (front_length front rest bs e)) ∙ ap (drop (length front)) (sym e) ∙ drop-append_seam front rest
 
--- a text may be cut behind blanks and comments
+-- a text may be cut after blanks and comments
 pub skip_cut : (p : Place) (bs : List ℕ) → IsUtf8 bs → IsCharBoundary bs (length bs - length (skip false p bs).bytes)
 skip_cut p bs u =
     let k = skipped false p bs in
@@ -97,7 +97,7 @@ skip_cut p bs u =
     let cut : IsCharBoundary (k.front ++ rest) (length k.front) = ends_cut k.front rest (subst IsUtf8 (sym k.whole) u) k.ends in
     subst (IsCharBoundary bs) (front_length k.front rest bs k.whole) (subst (λ x. IsCharBoundary x (length k.front)) k.whole cut)
 
--- what is left behind blanks and comments
+-- what is left after blanks and comments
 pub skip_rest : (p : Place) (bs : List ℕ) → drop (length bs - length (skip false p bs).bytes) bs ≡ (skip false p bs).bytes
 skip_rest p bs = let k = skipped false p bs in behind_front k.front (skip false p bs).bytes bs k.whole
 
@@ -123,15 +123,15 @@ scan_size wide bs = sym (length-append (scan_in wide bs).taken (scan_in wide bs)
 pub scan_slice : (wide : Bool) (bs : List ℕ) → take (length bs - length (scan_in wide bs).left) bs ≡ (scan_in wide bs).taken
 scan_slice wide bs = subst (λ x. take (length x - length (scan_in wide bs).left) x ≡ (scan_in wide bs).taken) (scan_taken_in wide bs).whole (front_of (scan_in wide bs).taken (scan_in wide bs).left)
 
--- what is left behind a token
+-- what is left after a token
 pub scan_rest_in : (wide : Bool) (bs : List ℕ) → drop (length bs - length (scan_in wide bs).left) bs ≡ (scan_in wide bs).left
 scan_rest_in wide bs = behind_front (scan_in wide bs).taken (scan_in wide bs).left bs (scan_taken_in wide bs).whole
 
--- the place behind what a token takes
+-- the place after what a token takes
 pub scan_place : (wide : Bool) (p : Place) (bs : List ℕ) → after p (scan_in wide bs).taken ≡ record { line = p.line; column = p.column + length (scan_in wide bs).taken }
 scan_place wide p bs = after_line p (scan_in wide bs).taken (scan_taken_in wide bs).line
 
--- a text may be cut behind a token, and before a bad byte
+-- a text may be cut after a token, and before a bad byte
 cut_behind : (xs ys : List ℕ) (k : Token) → IsUtf8 (xs ++ ys) → ((k ≡ bad_token) × StopsPlain xs ys) ⊎ (((k ≡ end_token) × (xs ≡ [])) ⊎ EndsPlain xs) → IsCharBoundary (xs ++ ys) (length xs)
 cut_behind xs ys k u (inl (e, inl n)) = subst (λ x. IsCharBoundary (xs ++ ys) (length x)) (sym n) (IsCharBoundary-start (xs ++ ys) u)
 cut_behind xs ys k u (inl (e, inr g)) = goes_boundary xs ys g

@@ -1,4 +1,4 @@
--- The tokens of a source are the one that stands next and those of what is left behind it.
+-- The tokens of a source are the one that stands next and those of what is left after it.
 use Rattle.std.proofs.Common.{◌≡◌, ◌<◌, ◌+◌, ◌⊎◌, inl, inr, ℕ, zero, suc, false, List, [], refl, ap, ◌∙◌, sym, subst, length, arith, Bool}
 use Rattle.std.proofs.lemmas.List.{length-append}
 use Rattle.lrp_model.specs.declared.tokens.Place.{Place}
@@ -9,7 +9,7 @@ use Rattle.lrp_text.specs.Sources.{next_at, next_of, behind_next, tokens_left}
 use Rattle.lrp_text.proofs.Scans.{StopsPlain, EndsPlain, ends_some, scan_taken_in}
 use Rattle.lrp_text.proofs.Cuts.{skip_shorter}
 
--- behind a bad byte or the end none follow, so the others may differ there
+-- after a bad byte or the end none follow, so the others may differ there
 headed_same : (p : Place) (s : Scanned) (k : Token) (xs ys : Tokens) → (k ≡ bad_token) ⊎ ((k ≡ end_token) ⊎ (xs ≡ ys)) → headed p s k xs ≡ headed p s k ys
 headed_same p s k xs ys (inl e) = subst (λ t. headed p s t xs ≡ headed p s t ys) (sym e) refl
 headed_same p s k xs ys (inr (inl e)) = subst (λ t. headed p s t xs ≡ headed p s t ys) (sym e) refl

@@ -8,7 +8,7 @@ use Rattle.lrp_text.specs.Lexemes.{IsSaid, IsLexeme}
 use Rattle.lrp_text.specs.Sources.{next_at, next_of, behind_next, IsFoundLexeme}
 use Rattle.lrp_text.proofs.Cuts.{scan_place}
 
--- the place behind a slice of what stands next
+-- the place after a slice of what stands next
 behind_slice : (wide : Bool) (old : At) (at : Place) (slice : List ℕ) → at ≡ (next_at old).place → slice ≡ (next_of wide old).taken → record { line = at.line; column = at.column + length slice } ≡ after (next_at old).place (next_of wide old).taken
 behind_slice wide old at slice e d =
     let f : Place → List ℕ → Place = λ p s. record { line = p.line; column = p.column + length s } in
@@ -27,7 +27,7 @@ found_bad wide old text l at slice t e d said is =
     subst (λ x. IsFoundLexeme wide old x slice (record { line = at.line; column = at.column + length slice }) old) (sym is)
     (bad, same, behind_slice wide old at slice e same, refl)
 
--- elsewhere it goes on behind the slice
+-- elsewhere it goes on after the slice
 pub found_other : (wide : Bool) (old : At) (text : List ℕ) (l : Lexeme) (at : Place) (slice rest : List ℕ) → text ≡ (next_at old).bytes → at ≡ (next_at old).place → slice ≡ (scan_in wide text).taken → rest ≡ (scan_in wide text).left → IsLexeme l (scan_in wide text) → (l ≡ Bad → ⊥) → IsFoundLexeme wide old l slice at (record { place = record { line = at.line; column = at.column + length slice }; bytes = rest })
 found_other wide old text l at slice rest t e d r said not_bad =
     let same : slice ≡ (next_of wide old).taken = d ∙ ap (λ x. (scan_in wide x).taken) t in

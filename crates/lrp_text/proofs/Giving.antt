@@ -26,7 +26,7 @@ FirstKind (Err kind) place ts us = FaultFirst kind place ts us
 first_go : (old new : At) (place : Place) (k : Token) → (next_of false old).token ≡ k → HasTokensBehind k → place ≡ (next_at old).place → new ≡ behind_next false old → tokens_left false old ≡ record { token = k; place = place } ∷ tokens_left false new
 first_go old new place k e g p n = tokens_go false old place k e g p ∙ ap (λ s. record { token = k; place = place } ∷ tokens_left false s) (sym n)
 
--- behind the end stands the end
+-- after the end stands the end
 end_again : (old : At) → (next_of false old).token ≡ end_token → tokens_left false (behind_next false old) ≡ record { token = end_token; place = (next_at old).place } ∷ []
 unfolding tokens_in_from scan_in skip after
 end_again old e =

@@ -74,7 +74,7 @@ integer_sound ts q e =
     let sized = number_sound a.0.1 n.0 n.1 in
     subst (λ y. Takes (integer_text y.0) ts y.1 × (y.0.size ≤ greatest_number)) h (takes_join (sign a.0.0) (any (number_token n.0.0) ∷ []) ts a.0.1 n.0.1 signed sized.0, sized.1)
 
--- behind a sign stands a number
+-- after a sign stands a number
 after_sign : (negative : Bool) (head vs : Tokens) (e : Fault × Tokens) → Spells (sign negative) head → (number >>= (λ n. let i : Integer = record { negative = negative; size = n } in pure i)) vs ≡ Err e → Stops (λ c x. TextOf integer_text (λ i. i.size ≤ greatest_number) c (head ++ x)) vs e
 after_sign negative head vs e signed h =
     sub_step number _ (One number_part) (λ n. n ≤ greatest_number) (λ c x. TextOf integer_text (λ i. i.size ≤ greatest_number) c (head ++ x)) vs e number_sound number_viable h
@@ -91,7 +91,7 @@ integer_viable ts e h =
 
 -- ---- how an integer begins
 
--- an integer begins with no text, whatever stands behind it
+-- an integer begins with no text, whatever stands after it
 pub no_quote_before : (negative : Bool) (n : ℕ) (ps : List Part) (ts left : Tokens) → Takes ((sign negative ++ any (number_token n) ∷ []) ++ ps) ts left → Sees false is_text false ts
 no_quote_before true n ps ts left h = first_sees_any false is_text_token (symbol_token Minus) (any (number_token n) ∷ ps) ts left h
 no_quote_before false n ps ts left h = first_sees_any false is_text_token (number_token n) ps ts left h
@@ -105,7 +105,7 @@ pub no_name : (negative : Bool) (n : ℕ) (ts left : Tokens) → Takes (sign neg
 no_name true n ts left h = first_sees_any false is_name_token (symbol_token Minus) (any (number_token n) ∷ []) ts left h
 no_name false n ts left h = first_sees_any false is_name_token (number_token n) [] ts left h
 
--- an integer begins with a token at any place, whatever stands behind it
+-- an integer begins with a token at any place, whatever stands after it
 pub sign_leads : (negative : Bool) (n : ℕ) (ps : List Part) → Leads ((sign negative ++ any (number_token n) ∷ []) ++ ps)
 sign_leads true n ps = tt
 sign_leads false n ps = tt

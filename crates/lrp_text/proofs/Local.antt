@@ -117,7 +117,7 @@ second p f ts a rest front r (c ∷ cs) is whole same is2 whole2 same2 = record 
       ap (λ x. and_then (p x) f) (append_assoc front (c ∷ cs) (b ∷ other)) ∙ ap (λ x. and_then x f) (same c (cs ++ left_of r) (cs ++ b ∷ other) whole2) ∙ same2 b tail other e;
 }
 
--- a parser that has failed, or another behind it
+-- a parser that has failed, or another after it
 first : {A B : Type 0} (p : Parser A) (f : A → Parser B) (ts : Tokens) (r : ParseOutcome A) (front : Tokens) → p ts ≡ r → ts ≡ front ++ left_of r → ((b : Placed) (tail other : Tokens) → left_of r ≡ b ∷ tail → p (front ++ b ∷ other) ≡ onto r (b ∷ other)) → ((a : A) → Local (f a)) → IsLocal (p >>= f) ts
 first p f ts (Err e) front is whole same lf = record {
   outcome = Err e;

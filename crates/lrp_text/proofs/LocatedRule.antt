@@ -45,7 +45,7 @@ located_local p lp =
     bind_local here _ (look_local start (λ t. t.place)) (λ place.
     bind_local p _ lp (λ item. pure_local (record { place = place; item = item })))
 
--- what is read behind a place is read with it
+-- what is read after a place is read with it
 pub located_answers : {A : Type 0} (p : Parser A) (spell : A → List Part) (l : Located A) (L : Type 0) (ts left : Tokens) → Leads (spell l.item) → Takes (located_text spell l) ts left → (Takes (spell l.item) ts left → Answers (p ts) l.item left L) → Answers (located p ts) l left L
 located_answers {A} p spell l L ts left leads h reads =
     let k = takes_from l.place (spell l.item) ts left leads h in

@@ -1,4 +1,4 @@
--- The longest front of bytes that is UTF-8: bytes that are UTF-8 have no place behind it, and others have one.
+-- The longest front of bytes that is UTF-8: bytes that are UTF-8 have no place after it, and others have one.
 use Rattle.std.proofs.Common.{◌≡◌, ℕ, List, ap, ◌∙◌, sym, subst, length, take, take_all, arith}
 use Rattle.std.proofs.lemmas.Str.{utf8_valid_len-IsValidUpTo}
 use Rattle.std.specs.Str.{IsUtf8}

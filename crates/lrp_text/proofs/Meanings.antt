@@ -40,7 +40,7 @@ plain_longer : (b : ℕ) (r : Result TextRead Scanned) → IsPlain b → MeansPl
 plain_longer b (Ok t) p k = (p, k)
 plain_longer b (Err s) p k = tt
 
--- one more of them behind a backslash
+-- one more of them after a backslash
 plain_more : (r : Result TextRead Scanned) → MeansPlain r → MeansPlain (more_taken 92 r)
 plain_more (Ok t) k = k
 plain_more (Err s) k = tt
@@ -70,7 +70,7 @@ front_utf8 front b rest small u =
     let cut : IsCharBoundary (front ++ b ∷ rest) (length front) = IsCharBoundary-before_ascii (front ++ b ∷ rest) (length front) (omega arith) (omega (arith, here, small)) in
     (subst IsUtf8 (take-append_seam front (b ∷ rest)) (IsUtf8-take (front ++ b ∷ rest) (length front) u cut), subst IsUtf8 (drop-append_seam front (b ∷ rest)) (IsUtf8-drop (front ++ b ∷ rest) (length front) u cut))
 
--- what a text means is UTF-8 behind these bytes
+-- what a text means is UTF-8 after these bytes
 abbrev MeansUtf8 : List ℕ → Result TextRead Scanned → Type 0
 MeansUtf8 front (Ok t) = IsUtf8 (front ++ t.meant)
 MeansUtf8 front (Err s) = Unit {0}
@@ -80,7 +80,7 @@ utf8_longer : (front : List ℕ) (b : ℕ) (r : Result TextRead Scanned) → Mea
 utf8_longer front b (Ok t) k = subst IsUtf8 (append_assoc front (b ∷ []) t.meant) k
 utf8_longer front b (Err s) k = tt
 
--- one more byte behind a backslash
+-- one more byte after a backslash
 utf8_more : (front : List ℕ) (r : Result TextRead Scanned) → MeansUtf8 front r → MeansUtf8 front (more_taken 92 r)
 utf8_more front (Ok t) k = k
 utf8_more front (Err s) k = tt
@@ -125,7 +125,7 @@ read_utf8 : (r : Result TextRead Scanned) (t : List ℕ) → (read_of r).0 ≡ S
 read_utf8 (Ok u) t e k = let same : u.meant ≡ t = cc in subst IsUtf8 same k
 read_utf8 (Err s) t e k = absurd cc
 
--- the text that bytes behind an opening quote mean is a data text
+-- the text that bytes after an opening quote mean is a data text
 pub text_fits_data : (bs t : List ℕ) → (text_read bs).0 ≡ Some t → length t ≤ 255 → FitsText t
 text_fits_data bs t e short = read_fits (text_from false bs) t e (meant_plain false bs) short
 
@@ -133,7 +133,7 @@ text_fits_data bs t e short = read_fits (text_from false bs) t e (meant_plain fa
 pub text_is_utf8 : (bs t : List ℕ) → (text_read bs).0 ≡ Some t → IsUtf8 bs → IsUtf8 t
 text_is_utf8 bs t e u = read_utf8 (text_from false bs) t e (meant_utf8 false [] bs u)
 
--- a slice whose token is a text, behind its opening quote
+-- a slice whose token is a text, after its opening quote
 pub record IsQuoted (slice t : List ℕ) : Type 0 where
   pub rest : List ℕ
   pub whole : slice ≡ 34 ∷ rest
@@ -143,7 +143,7 @@ pub record IsQuoted (slice t : List ℕ) : Type 0 where
 none_quoted : (slice t : List ℕ) (s : Scanned) → NoText s.token → s.token ≡ text_token t → IsQuoted slice t
 none_quoted slice t s n e = absurd (subst NoText e n)
 
--- a text that was read behind its quote
+-- a text that was read after its quote
 quoted_of : (bs t : List ℕ) (r : Result TextRead Scanned) → text_from false bs ≡ r → (text_scanned r).token ≡ text_token t → IsQuoted (34 ∷ bs) t
 quoted_of bs t (Ok u) is e = let same : u.meant ≡ t = cc in record { rest = bs; whole = refl; read = ap (λ r. (read_of r).0) is ∙ ap Some same }
 quoted_of bs t (Err s) is e = absurd cc
@@ -170,7 +170,7 @@ pub ended_means : (made rest t : List ℕ) → option_map (λ x. made ++ x) (end
 ended_means made [] t e = absurd cc
 ended_means made (b ∷ bs) t e = ended_at made b bs t (b == 34) e
 
--- the bytes behind the opening quote, of the whole slice
+-- the bytes after the opening quote, of the whole slice
 read_behind : (slice t : List ℕ) → IsQuoted slice t → (text_read (drop 1 slice)).0 ≡ Some t
 read_behind slice t q = ap (λ x. (text_read (drop 1 x)).0) q.whole ∙ q.read
 

@@ -20,7 +20,7 @@ use Rattle.lrp_model.specs.DatabaseMeaning.{column_of}
 use Rattle.lrp_model.specs.Names.{IsName, IsNamedSort, AreNamed}
 use Rattle.lrp_text.proofs.Scans.{chosen}
 
--- a run of a run is the run, and nothing is behind it
+-- a run of a run is the run, and nothing is after it
 run_again : (test : ℕ → Bool) (bs : List ℕ) → (run test (run test bs) ≡ run test bs) × (behind_run test (run test bs) ≡ [])
 unfolding run behind_run
 run_again test [] = (refl, refl)
@@ -125,7 +125,7 @@ scan_named wide (b ∷ bs) =
     let P : Scanned → Type 0 = λ s. NamedToken s.token in
     chosen P (is_letter b) _ _ (λ e. first_word b bs e) (λ n. chosen P (is_ascii_digit b) _ _ (λ e. tt) (λ m. chosen P (b == 34) (text_scanned (text_from false bs)) (symbol_in wide b bs) (λ e. text_named (text_from false bs)) (λ o. symbol_named wide b bs)))
 
--- a token with those behind it
+-- a token with those after it
 headed_named : (p : Place) (s : Scanned) (k : Token) (rest : Tokens) → NamedToken k → AllByRecursion (λ t. NamedToken t.token) rest → AllByRecursion (λ t. NamedToken t.token) (headed p s k rest)
 headed_named p s (name_token n) rest h r = (h, r)
 headed_named p s (word_token w) rest h r = (tt, r)

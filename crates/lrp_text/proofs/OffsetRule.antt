@@ -48,7 +48,7 @@ offset_back (moved_by true k) =
     (then_back _ (number_back k (k ≤ greatest_number) (λ l. l)) (pure_back _ _ NoShift)))
     (λ ts left h g. first_is_not (is_symbol_token Plus) (symbol_token Minus) (number_part k ∷ []) ts left refl h)
 
--- a number behind a sign
+-- a number after a sign
 shift_sound : (is_down : Bool) (us vs : Tokens) (q : Offset × Tokens) → (number >>= (λ k. pure (moved_by is_down k))) vs ≡ Ok q → Takes (any (symbol_token (shift is_down)) ∷ []) us vs → Takes (offset_text q.0) us q.1 × FitsOffset q.0
 shift_sound is_down us vs q e taken =
     let k = bind_ok (number vs) _ q e in
@@ -78,7 +78,7 @@ offset_sound ts q e =
     let u = bind_ok (eat (is_symbol Plus) ts) _ q e in
     plus_sound u.0.0 ts u.0.1 q u.2 (eat_sound (is_symbol Plus) (any (symbol_token Plus)) (symbol_told Plus) ts u.0 u.1)
 
--- behind a sign stands a number
+-- after a sign stands a number
 shift_viable : (is_down : Bool) (t : Placed) (vs : Tokens) (e : Fault × Tokens) → IsPart (any (symbol_token (shift is_down))) t → (number >>= (λ k. pure (moved_by is_down k))) vs ≡ Err e → Stops (λ c x. TextOf offset_text FitsOffset c (t ∷ x)) vs e
 shift_viable is_down t vs e is d =
     sub_step number _ (One number_part) (λ k. k ≤ greatest_number) (λ c x. TextOf offset_text FitsOffset c (t ∷ x)) vs e number_sound number_viable d

@@ -37,7 +37,7 @@ module _ (T : Bool → Tokens → Type 0) (ts : Tokens) (k l : Fault) (a b : Pla
   pub same_token : a ≡ b
   same_token = heads a b xs ys same_rest
 
-  -- behind the same tokens
+  -- after the same tokens
   pub same_front : r.front ≡ s.front
   same_front = append_cancel_right r.front s.front (b ∷ ys) (sym (r.whole ∙ ap (λ x. r.front ++ x) same_rest) ∙ s.whole)
 

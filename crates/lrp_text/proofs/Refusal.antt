@@ -31,7 +31,7 @@ cause_of spell Fits front Period bad tail g = let h : g.token ≡ bad = cc in su
 cause_of spell Fits front Deep bad tail g = tt
 cause_of spell Fits front Memory bad tail g = let h : g.token ≡ bad = cc in subst (λ x. IsCause Memory x.token) h g.cause
 
--- the outcome for these tokens with others behind the bad one
+-- the outcome for these tokens with others after the bad one
 again : {A : Type 0} (p : Parser A) (ts front : Tokens) (k : Fault) (bad : Placed) (tail other : Tokens) → IsLocal p ts → p ts ≡ Err (k, bad ∷ tail) → ts ≡ front ++ bad ∷ tail → p (front ++ bad ∷ other) ≡ Err (k, bad ∷ other)
 again p ts front k bad tail other l e whole =
     let o : l.outcome ≡ Err (k, bad ∷ tail) = sym l.is ∙ e in

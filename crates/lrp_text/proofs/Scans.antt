@@ -26,7 +26,7 @@ abbrev pub OneLine : List ℕ → Type 0
 OneLine [] = Unit {0}
 OneLine (b ∷ bs) = ((b == 10) ≡ false) × OneLine bs
 
--- the place behind bytes of one line
+-- the place after bytes of one line
 pub after_line : (p : Place) (bs : List ℕ) → OneLine bs → after p bs ≡ record { line = p.line; column = p.column + length bs }
 unfolding after
 after_line p [] l = let e : p.column + 0 ≡ p.column = omega arith in ap (λ c. record { line = p.line; column = c }) (sym e)
@@ -52,7 +52,7 @@ EndsPlain bs = (front : List ℕ) × (b : ℕ) × (bs ≡ front ++ b ∷ []) × 
 pub ends_more : (b : ℕ) (bs : List ℕ) → EndsPlain bs → EndsPlain (b ∷ bs)
 ends_more b bs k = (b ∷ k.0, k.1, ap (λ x. b ∷ x) k.2, k.3)
 
--- behind such bytes a text may be cut
+-- after such bytes a text may be cut
 pub ends_boundary : (xs ys : List ℕ) → IsUtf8 (xs ++ ys) → EndsPlain xs → IsCharBoundary (xs ++ ys) (length xs)
 ends_boundary xs ys u k =
     let whole : xs ++ ys ≡ k.0 ++ k.1 ∷ ys = ap (λ x. x ++ ys) k.2 ∙ append_assoc k.0 (k.1 ∷ []) ys in
@@ -144,7 +144,7 @@ abbrev from_slash : Bool → List ℕ → List ℕ
 from_slash true bs = 92 ∷ bs
 from_slash false bs = bs
 
--- what the bytes behind an opening quote take
+-- what the bytes after an opening quote take
 text_taken : (slash : Bool) (bs : List ℕ) → TextTaken (from_slash slash bs) (text_from slash bs)
 unfolding text_from
 text_taken true [] = (refl, tt, inr (92, [], refl, omega arith))

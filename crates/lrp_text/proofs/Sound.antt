@@ -92,14 +92,14 @@ accept_sound test part told ts q e =
     let k = accept_ok test ts q e in
     subst (λ x. Takes (part q.0 ∷ []) x q.1) (sym k.whole) (told k.t q.0 k.told, refl)
 
--- the members that were read behind those found
+-- the members that were read after those found
 pub record ListRead {A : Type 0} (spells : List A → List Part) (Fits : A → Type 0) (found : List A) (ts : Tokens) (q : List A × Tokens) : Type 0 where
   pub all : List A
   pub made : q.0 ≡ found ++ all
   pub spelled : Takes (spells all) ts q.1
   pub fits : AllByRecursion Fits all
 
--- one member at least was read behind those found
+-- one member at least was read after those found
 abbrev pub SomeRead : {A : Type 0} → Part → (A → List Part) → (A → Type 0) → List A → Tokens → List A × Tokens → Type 0
 SomeRead {A} comma spell Fits found ts q = (a : A) × (all : List A) × (q.0 ≡ found ++ a ∷ all) × Takes (separated comma spell (a ∷ all)) ts q.1 × AllByRecursion Fits (a ∷ all)
 
@@ -165,7 +165,7 @@ takes_shorter [] ts us h = let k : length ts ≡ length us = ap length h in omeg
 takes_shorter (a ∷ P) [] us h = absurd h
 takes_shorter (a ∷ P) (t ∷ ts) us h = let k = takes_shorter P ts us h.1 in omega arith
 
--- other tokens behind a text
+-- other tokens after a text
 pub takes_onto : (P : List Part) (head us : Tokens) → Spells P head → Takes P (head ++ us) us
 takes_onto [] head us h = ap (λ x. x ++ us) h
 takes_onto (a ∷ P) [] us h = absurd h

@@ -62,7 +62,7 @@ stands_next wide old Bad slice place new f = record {
   text = λ t e. absurd cc;
 }
 
--- behind a token that others follow
+-- after a token that others follow
 goes_to : (wide : Bool) (old : At) (place : Place) (new : At) (k : Token) → (next_of wide old).token ≡ k → HasTokensBehind k → place ≡ (next_at old).place → new ≡ behind_next wide old → (t : Placed) × (tokens_left wide old ≡ t ∷ tokens_left wide new)
 goes_to wide old place new k e g p n = (record { token = k; place = place }, tokens_go wide old place k e g p ∙ ap (λ s. record { token = k; place = place } ∷ tokens_left wide s) (sym n))
 

@@ -46,7 +46,7 @@ before T R ts e into s =
 pub at_once : (T : Bool → Tokens → Type 0) (ts : Tokens) (more : Tokens) → T true more → Stops T ts (Syntax, ts)
 at_once T ts more t = record { front = []; whole = refl; more = more; begins = t; through = tt }
 
--- the first parser failed, or the second behind it
+-- the first parser failed, or the second after it
 pub bind_err : {A B : Type 0} (o : ParseOutcome A) (f : A → Parser B) (e : Fault × Tokens) → and_then o f ≡ Err e → (o ≡ Err e) ⊎ ((q : A × Tokens) × (o ≡ Ok q) × (f q.0 q.1 ≡ Err e))
 bind_err (Ok q) f e h = inr (q, refl, h)
 bind_err (Err x) f e h = let k : x ≡ e = cc in inl (ap Err k)
@@ -225,7 +225,7 @@ listed_viable {A} p spell Fits comma is_comma stop told sound viable n ts e lt h
 pub spells_join : (P Q : List Part) (xs ys : Tokens) → Spells P xs → Spells Q ys → Spells (P ++ Q) (xs ++ ys)
 spells_join P Q xs ys p q = takes_join P Q (xs ++ ys) ys [] (takes_onto P xs ys p) q
 
--- a parser, then another: the first one's fault where its texts go on, or the second one's behind a text of the first
+-- a parser, then another: the first one's fault where its texts go on, or the second one's after a text of the first
 pub sub_step : {A B : Type 0} (p : Parser A) (f : A → Parser B) (spell : A → List Part) (Fits : A → Type 0) (R : Bool → Tokens → Type 0) (ts : Tokens) (e : Fault × Tokens) → Sound p spell Fits → Viable p spell Fits → (p >>= f) ts ≡ Err e
     → ((c : Bool) (a : A) (x : Tokens) → Spells (spell a) x → Fitting c (Fits a) → (y : Tokens) × R c (x ++ y))
     → ((a : A) (head us : Tokens) → Spells (spell a) head → Fits a → f a us ≡ Err e → Stops (λ c x. R c (head ++ x)) us e)

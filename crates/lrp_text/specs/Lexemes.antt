@@ -41,12 +41,12 @@ IsNumberLexeme l n = IsSaid l [] (number_token n)
 abbrev pub bad_symbol : ℕ → List ℕ → Scanned
 bad_symbol b bs = record { token = bad_token; taken = []; left = b ∷ bs }
 
--- what a text means, and what stands behind it; none at a byte that may not stand in it, and the bytes from it on
+-- what a text means, and what stands after it; none at a byte that may not stand in it, and the bytes from it on
 abbrev pub read_of : Result TextRead Scanned → Option (List ℕ) × List ℕ
 read_of (Ok t) = (Some t.meant, t.left)
 read_of (Err s) = (None, s.left)
 
--- the same of the bytes behind an opening quote
+-- the same of the bytes after an opening quote
 abbrev pub text_read : List ℕ → Option (List ℕ) × List ℕ
 text_read bs = read_of (text_from false bs)
 

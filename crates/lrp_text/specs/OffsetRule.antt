@@ -1,10 +1,10 @@
--- The parser of offsets behind a name, as the grammars of databases and of queries both have it.
+-- The parser of offsets after a name, as the grammars of databases and of queries both have it.
 use Rattle.std.specs.Prelude.{ℕ, Bool, true, false, if◌then◌else◌}
 use Rattle.lrp_model.specs.declared.tokens.Symbol.TheVariants.{Plus, Minus}
 use Rattle.lrp_text.specs.Parsers.{Parser, ◌>>=◌, pure, eat}
 use Rattle.lrp_text.specs.Taking.{is_symbol, number}
 
--- what stands behind a name: nothing, or an offset downwards or upwards
+-- what stands after a name: nothing, or an offset downwards or upwards
 pub data Offset : Type 0 where
   unmoved : Offset
   moved_by : Bool → ℕ → Offset

@@ -58,7 +58,7 @@ unfoldable pub eat : (Placed → Bool) → Parser Bool
 eat test [] = Ok (false, [])
 eat test (t ∷ ts) = eaten (test t) t ts
 
--- one or more, as long as a separator follows, behind those found; the number bounds the turns
+-- one or more, as long as a separator follows, after those found; the number bounds the turns
 unfoldable pub separated_from : {A : Type 0} → Parser A → (Placed → Bool) → ℕ → List A → Parser (List A)
 separated_from p comma zero found = fail Syntax
 separated_from p comma (suc n) found = do
@@ -87,7 +87,7 @@ Reads outcome (Ok a) new = outcome ≡ Ok (a, new)
 Reads outcome (Err Memory) new = Unit {0}
 Reads outcome (Err k) new = outcome ≡ Err (k, new)
 
--- nothing is left behind a whole text, and all from the fault on where it was refused
+-- nothing is left after a whole text, and all from the fault on where it was refused
 abbrev pub left_behind : {A : Type 0} → Result A Fault → Tokens → Tokens
 left_behind (Ok a) ts = []
 left_behind (Err k) ts = ts

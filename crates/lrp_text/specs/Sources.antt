@@ -19,7 +19,7 @@ pub record HasPlacesInRange (s : At) : Type 0 where
   pub line : s.place.line + length s.bytes < 2 ^ 32
   pub column : s.place.column + length s.bytes < 2 ^ 32
 
--- behind the blanks and comments that come first
+-- after the blanks and comments that come first
 abbrev pub next_at : At → At
 next_at s = skip false s.place s.bytes
 
@@ -27,7 +27,7 @@ next_at s = skip false s.place s.bytes
 abbrev pub next_of : Bool → At → Scanned
 next_of wide s = scan_in wide (next_at s).bytes
 
--- behind that token
+-- after that token
 abbrev pub behind_next : Bool → At → At
 behind_next wide s = record { place = after (next_at s).place (next_of wide s).taken; bytes = (next_of wide s).left }
 
@@ -35,12 +35,12 @@ behind_next wide s = record { place = after (next_at s).place (next_of wide s).t
 abbrev pub tokens_left : Bool → At → Tokens
 tokens_left wide s = tokens_in_from wide (suc (length s.bytes)) s.place s.bytes
 
--- what stands next is this lexeme, with its slice and its place, and the source goes on behind it; at a bad byte it stays
+-- what stands next is this lexeme, with its slice and its place, and the source goes on after it; at a bad byte it stays
 abbrev pub IsFoundLexeme : Bool → At → Lexeme → List ℕ → Place → At → Type 0
 IsFoundLexeme wide old Bad slice place new = ((next_of wide old).token ≡ bad_token) × (slice ≡ (next_of wide old).taken) × (place ≡ after (next_at old).place (next_of wide old).taken) × (new ≡ old)
 IsFoundLexeme wide old l slice place new = IsSaid l slice (next_of wide old).token × (slice ≡ (next_of wide old).taken) × (place ≡ (next_at old).place) × (new ≡ behind_next wide old)
 
--- the next token is what a lexeme says, at its place; where it is a text, the slice by itself is that text; behind the end stands nothing
+-- the next token is what a lexeme says, at its place; where it is a text, the slice by itself is that text; after the end stands nothing
 pub record Stands (ts : Tokens) (l : Lexeme) (slice : List ℕ) (place : Place) : Type 0 where
   pub token : Token
   pub left : Tokens
@@ -60,7 +60,7 @@ abbrev pub Goes : Tokens → Type 0
 Goes [] = ⊥
 Goes (t ∷ ts) = HasTokensBehind t.token
 
--- a cursor: what stands next where it is, and the source behind that
+-- a cursor: what stands next where it is, and the source after that
 pub record IsCursorAt (here : Source) (found : Found) (behind : Source) : Type 0 where
   pub next : IsFoundLexeme here.wide (at_of here) found.lexeme found.slice.now found.place (at_of behind)
   pub signs : behind.wide ≡ here.wide

@@ -32,14 +32,14 @@ IsFaulty TextTooLong (text_token t) = 255 < length t
 IsFaulty BadByte bad_token = Unit {0}
 IsFaulty _ _ = ⊥
 
--- the next token is given, with its slice and its place, and the lexer stands behind it
+-- the next token is given, with its slice and its place, and the lexer stands after it
 pub record GivesToken (old new : At) (kind : TokenKind) (slice : List ℕ) (place : Place) : Type 0 where
   pub kind_is : IsTokenOfKind kind (next_of false old).token
   pub slice_is : slice ≡ (next_of false old).taken
   pub place_is : place ≡ (next_at old).place
   pub goes_on : new ≡ behind_next false old
 
--- the next token is faulty; the lexer stands behind it, or at a bad byte where it was
+-- the next token is faulty; the lexer stands after it, or at a bad byte where it was
 pub record GivesFault (old new : At) (kind : LexKind) (place at : Place) (next : At) : Type 0 where
   pub kind_is : IsFaulty kind (next_of false old).token
   pub place_is : place ≡ at
@@ -55,7 +55,7 @@ abbrev pub GivesNext : At → At → Result SourceToken LexFault → Type 0
 GivesNext old new (Ok t) = GivesToken old new t.kind t.slice.now t.place
 GivesNext old new (Err f) = FaultAt old new f.kind f.place
 
--- a slice of what was left, behind other bytes, with its place and the place behind it
+-- a slice of what was left, after other bytes, with its place and the place after it
 pub record IsSliceOf (old : At) (slice : List ℕ) (place : Place) (new : At) : Type 0 where
   pub skipped : List ℕ
   pub whole : old.bytes ≡ skipped ++ (slice ++ new.bytes)
@@ -72,7 +72,7 @@ abbrev pub FaultFirst : LexKind → Place → Tokens → Tokens → Type 0
 FaultFirst BadByte place ts us = (ts ≡ record { token = bad_token; place = place } ∷ []) × (us ≡ ts)
 FaultFirst kind place ts us = (k : Token) × IsFaulty kind k × (ts ≡ record { token = k; place = place } ∷ us)
 
--- the first of the tokens that were left, and those that are left behind it; the end and a bad byte come again for ever
+-- the first of the tokens that were left, and those that are left after it; the end and a bad byte come again for ever
 abbrev pub IsNextToken : Result SourceToken LexFault → Tokens → Tokens → Type 0
 IsNextToken (Ok t) ts us = TokenFirst t.kind t.place ts us
 IsNextToken (Err f) ts us = FaultFirst f.kind f.place ts us

@@ -178,12 +178,12 @@ is_named_token word (name_token n) = bytes_eq n word
 is_named_token word _ = false
 
 -- whether this name stands there
-abbrev pub is_named : List ℕ → Placed → Bool
-is_named word t = is_named_token word t.token
+abbrev pub is_token_named : List ℕ → Placed → Bool
+is_token_named word t = is_named_token word t.token
 
 -- takes this name
 abbrev pub expect_named : List ℕ → Parser (Unit {0})
-expect_named word = accept (λ t. required (is_named word t))
+expect_named word = accept (λ t. required (is_token_named word t))
 
 -- whether a token is the end
 abbrev pub is_end_token : Token → Bool
@@ -198,7 +198,7 @@ is_end t = is_end_token t.token
 abbrev pub expect_end : Parser (Unit {0})
 expect_end = accept (λ t. required (is_end t))
 
--- nothing is left behind the end, and all where it was refused
+-- nothing is left after the end, and all where it was refused
 abbrev pub behind_end : Result (Unit {0}) Fault → Tokens → Tokens
 behind_end (Ok u) ts = []
 behind_end (Err k) ts = ts

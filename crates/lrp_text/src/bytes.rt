@@ -38,7 +38,7 @@ pub fn is_forbidden(b: u8) -> bool
     b <= 31 || b == 127
 }
 
-// Goes behind blanks and comments.
+// Goes after blanks and comments.
 #[tactic(auto, unfolding(lrp_model::specs::Lexing::skip))]
 pub fn skip(place: Place, bytes: &[u8]) -> (Place, &[u8])
     requires line { place.line + length bytes.now < 2 ^ 32 }
@@ -67,7 +67,7 @@ pub fn skip(place: Place, bytes: &[u8]) -> (Place, &[u8])
     (at, rest)
 }
 
-// Goes behind the letters, digits and underscores that come first.
+// Goes after the letters, digits and underscores that come first.
 #[tactic(auto, unfolding(lrp_model::specs::Lexing::behind_run))]
 pub fn behind_name(bytes: &[u8]) -> &[u8]
     ensures rest { result.now ≡ behind_run is_byte_of_names bytes.now }
@@ -83,7 +83,7 @@ pub fn behind_name(bytes: &[u8]) -> &[u8]
     rest
 }
 
-// The value of the digits that come first, or one more than the limit where it is greater, and what stands behind them.
+// The value of the digits that come first, or one more than the limit where it is greater, and what stands after them.
 #[tactic(auto, unfolding(lrp_model::specs::Lexing::run, lrp_model::specs::Lexing::behind_run))]
 pub fn number(bytes: &[u8]) -> (u64, &[u8])
     ensures value { result.0 ≡ min (digits_value 10 (run is_digit_byte bytes.now))

@@ -32,7 +32,7 @@ impl<'a> TokenCursor<'a> {
     ghost use Rattle.lrp_model.specs.Lexing.{tokens, tokens_in};
     ghost use Rattle.lrp_model.specs.Limits.{greatest_number, most_bytes};
     ghost use Rattle.lrp_text.specs.Parsers.{Reads, look, eat};
-    ghost use Rattle.lrp_text.specs.Taking.{here, is_symbol, is_word, is_name, is_named, expect_named, is_text, is_end, expect, expect_word, expect_end, behind_end, number, period, IsWrittenPeriod, name, text};
+    ghost use Rattle.lrp_text.specs.Taking.{here, is_symbol, is_word, is_name, is_token_named, expect_named, is_text, is_end, expect, expect_word, expect_end, behind_end, number, period, IsWrittenPeriod, name, text};
     ghost use Rattle.lrp_text.specs.Sources.{Stands, Goes};
 
     /// The tokens of a text of at most 16,777,216 bytes.
@@ -69,7 +69,7 @@ impl<'a> TokenCursor<'a> {
         self.found
     }
 
-    /// Goes behind the next token, which is not the end, nor a byte that begins none.
+    /// Goes after the next token, which is not the end, nor a byte that begins none.
     pub fn advance(&mut self)
         requires { Goes self.old }
         ensures { (t : Placed) × (self.old ≡ t ∷ self.new) }
@@ -111,7 +111,7 @@ impl<'a> TokenCursor<'a> {
 
     /// Whether this name comes next, which is no reserved word.
     pub fn sees_named(&self, word: &str) -> bool
-        ensures { look false (is_named word.now) self.now ≡ Ok (result, self.now) }
+        ensures { look false (is_token_named word.now) self.now ≡ Ok (result, self.now) }
     {
         let next = self.peek();
         next.lexeme.is_name() && next.slice == word
@@ -257,7 +257,7 @@ impl<'a> TokenCursor<'a> {
         Ok(text)
     }
 
-    /// Refuses what stands before the end, behind which nothing is left.
+    /// Refuses what stands before the end, after which nothing is left.
     pub fn expect_end(&self) -> Result<(), Fault>
         ensures value { Reads (expect_end self.now) result (behind_end result self.now) }
         ensures takes_no_memory { result ≢ Err Fault.Memory }

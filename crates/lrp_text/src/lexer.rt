@@ -53,7 +53,7 @@ impl<'a> Lexer<'a> {
     }
 
     /// The next token. `LexKind::Number` is a number above 2^62, at its first digit, and `LexKind::TextTooLong` a text
-    /// of more than 255 bytes without its escapes, at its opening quote; the lexer goes on behind them.
+    /// of more than 255 bytes without its escapes, at its opening quote; the lexer goes on after them.
     /// `LexKind::BadByte` stands at a character that begins no token, at one that may not stand in a text, or at the
     /// end inside a text, and comes again for ever, as the end does.
     pub fn next(&mut self) -> Result<Token<'a>, LexFault>

@@ -1,11 +1,11 @@
-// Places behind bytes.
+// Places after bytes.
 ghost use Rattle.std.specs.Prelude.{◌≡◌, ◌≤◌, ◌<◌, ◌+◌, ◌^◌, length};
 ghost use Rattle.lrp_model.specs.Lexing.{after, moved, start};
 ghost use Rattle.lrp_model.specs.Limits.{most_bytes};
 
 use lrp_model::Place;
 
-// The place behind one more byte.
+// The place after one more byte.
 pub fn behind(place: Place, b: u8) -> Place
     requires line { place.line + 1 < 2 ^ 32 }
     requires column { place.column + 1 < 2 ^ 32 }
@@ -24,7 +24,7 @@ pub fn behind(place: Place, b: u8) -> Place
     }
 }
 
-/// The place behind the bytes that a text begins with, at most 16,777,216 of them.
+/// The place after the bytes that a text begins with, at most 16,777,216 of them.
 pub fn place_behind(bytes: &[u8]) -> Place
     requires { length bytes.now ≤ most_bytes }
     ensures { result ≡ after start bytes.now }

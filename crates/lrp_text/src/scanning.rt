@@ -11,7 +11,7 @@ use crate::bytes::{behind_name, is_digit, is_forbidden, is_letter, number};
 use crate::lexemes::Lexeme;
 use lrp_model::{LIMIT, Symbol, Word};
 
-// The symbol that a byte and those behind it begin with, and what follows it.
+// The symbol that a byte and those after it begin with, and what follows it.
 #[tactic(auto, unfolding(lrp_model::specs::Lexing::symbol_in))]
 fn symbol(wide: bool, first: u8, rest: &[u8]) -> Option<(Symbol, &[u8])>
     ensures { MatchOption result (symbol_in wide first rest.now ≡ bad_symbol first rest.now)
@@ -71,7 +71,7 @@ fn word(name: &[u8]) -> Lexeme
     Lexeme::Word(word)
 }
 
-// The name or the reserved word that letters, digits and underscores make, and what stands behind it.
+// The name or the reserved word that letters, digits and underscores make, and what stands after it.
 #[tactic(auto, using(crate::proofs::Runs::run_taken))]
 fn name(bytes: &[u8]) -> (Lexeme, &[u8])
     ensures lexeme { IsNamed result.0 (run is_name_byte bytes.now) }
@@ -81,7 +81,7 @@ fn name(bytes: &[u8]) -> (Lexeme, &[u8])
     (word(&bytes[..bytes.len() - rest.len()]), rest)
 }
 
-// The number that digits make, and what stands behind it.
+// The number that digits make, and what stands after it.
 fn limited_number(bytes: &[u8]) -> (Lexeme, &[u8])
     ensures lexeme { IsNumberLexeme result.0 (digits_value 10 (run is_digit_byte bytes.now)) }
     ensures rest { result.1.now ≡ behind_run is_digit_byte bytes.now }
@@ -94,7 +94,7 @@ fn limited_number(bytes: &[u8]) -> (Lexeme, &[u8])
     }
 }
 
-// The next byte of a text without its escape, and what stands behind it; none at a quote, and at what may not stand in a text.
+// The next byte of a text without its escape, and what stands after it; none at a quote, and at what may not stand in a text.
 #[tactic(auto, unfolding(lrp_model::specs::Lexing::text_from))]
 pub fn character(bytes: &[u8]) -> Option<(u8, &[u8])>
     ensures text { MatchOption result (text_read bytes.now ≡ ended bytes.now)
@@ -112,7 +112,7 @@ pub fn character(bytes: &[u8]) -> Option<(u8, &[u8])>
     }
 }
 
-// The length of the text behind an opening quote, without its escapes, and what stands behind the closing one; none
+// The length of the text after an opening quote, without its escapes, and what stands after the closing one; none
 // where a byte may not stand there, and the bytes from it on.
 fn text(bytes: &[u8]) -> (Option<usize>, &[u8])
     ensures length { result.0 ≡ option_map length (text_read bytes.now).0 }
@@ -130,7 +130,7 @@ fn text(bytes: &[u8]) -> (Option<usize>, &[u8])
     }
 }
 
-// The token that the bytes begin with, and the bytes behind it; at a byte that begins none, the bytes from it on. The flag
+// The token that the bytes begin with, and the bytes after it; at a byte that begins none, the bytes from it on. The flag
 // says that the symbols of the wide language are among the tokens.
 #[tactic(auto, unfolding(lrp_model::specs::Lexing::scan_in))]
 pub fn scan(wide: bool, bytes: &[u8]) -> (Lexeme, &[u8])

@@ -17,7 +17,7 @@ pub struct Source<'a> {
     pub wide: bool,
 }
 
-// Goes behind the blanks and comments that come first.
+// Goes after the blanks and comments that come first.
 #[tactic(auto, using(crate::proofs::Cuts::skip_cut, crate::proofs::Cuts::skip_rest, crate::proofs::Cuts::skip_shorter))]
 fn behind_blanks(source: Source<'_>) -> Source<'_>
     requires { HasPlacesInRange (at_of source) }
@@ -47,7 +47,7 @@ fn first(wide: bool, text: &str) -> (Lexeme, &str, &str)
     (lexeme, &text[..end], &text[end..])
 }
 
-// What stands next, with its slice and its place, and where the source goes on: behind it, or at a bad byte where it was.
+// What stands next, with its slice and its place, and where the source goes on: after it, or at a bad byte where it was.
 pub fn step(source: Source<'_>) -> (Found<'_>, Source<'_>)
     requires { HasPlacesInRange (at_of source) }
     ensures found { IsFoundLexeme source.entry.wide (at_of source.entry) result.0.lexeme result.0.slice.now

@@ -9,7 +9,7 @@ use lrp_model::{DataText, Memory};
 use std::alloc::Global;
 use std::str::from_utf8;
 
-// The bytes behind the first one.
+// The bytes after the first one.
 fn behind_first(text: &str) -> &[u8]
     ensures { result.now ≡ drop 1 text.now }
 {

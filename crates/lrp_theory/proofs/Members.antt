@@ -82,7 +82,7 @@ from_map f (v ∷ vs) y h = elim (in_cons (f v) (map f vs) y h) [
   | inr k ↦ (let r = from_map f vs y k in (r.0, later v vs r.0 r.1, r.2))
 ]
 
--- what is in the front of a list stands before the element behind it
+-- what is in the front of a list stands before the element after it
 pub before : {X : Type 0} (R : X → X → Type 0) (xs : List X) (i : ℕ) (x : X) → AllPairs R xs → i < length xs → x ≡ get_or xs i x → (v : X) → Contains (take i xs) v → R v x
 before R xs i x all l e v h =
     let low : h.0 < i = let k : h.0 < length (take i xs) = h.1 in omega (arith, length-take-le i xs) in

@@ -25,7 +25,7 @@ times_lack times h = joined_lacks IsSmall signed_decimal 47 (λ e. omega (arith,
 
 -- ---- cut at the first slash
 
--- behind a first part without a slash, what `split_once` gives
+-- after a first part without a slash, what `split_once` gives
 pub cut : (bs front back : List ℕ) (r : Option (Bor (List ℕ) × Bor (List ℕ))) → IsSplitOnceResult 47 bs r → bs ≡ front ++ 47 ∷ back → Lacks 47 front → MatchOption r ⊥ (λ x. (x.0.now ≡ front) × (x.1.now ≡ back))
 cut bs front back r h e free = split_after 47 bs front back r h (lit< tt) e (lacks_at 47 front free)
 
@@ -53,7 +53,7 @@ both_token text rest (Some digest) times texts e h =
     let tail = h.1 in
     record { spelled = e ∙ ap (λ x. codes "T2/" ++ x) (tail.2 ∙ ap (λ x. hex digest ++ 47 ∷ x) tail.1.spelled); digest_is = h.0; small = tail.1.small; whole = tail.1.whole }
 
--- a token is cut at its first slash behind its version
+-- a token is cut at its first slash after its version
 pub token_cut : (text : List ℕ) (digest : Option (List ℕ)) (times : List ℤ) (texts : List Text) → IsToken text digest times texts
     → ((rest : List ℕ) × (text ≡ codes "T1" ++ 47 ∷ rest) × (digest ≡ None) × IsTuple rest times texts) ⊎ ((rest : List ℕ) × (text ≡ codes "T2" ++ 47 ∷ rest) × HasDigest rest digest times texts)
 token_cut text None times texts h = inl (tuple_text times texts, h.spelled, refl, record { small = h.small; whole = h.whole; spelled = refl })
@@ -63,7 +63,7 @@ pub version_lacks : (version : List ℕ) → (version ≡ codes "T1") ⊎ (versi
 version_lacks version (inl e) = subst (Lacks 47) (sym e) ((λ k. omega (arith, k)), ((λ k. omega (arith, k)), tt))
 version_lacks version (inr e) = subst (Lacks 47) (sym e) ((λ k. omega (arith, k)), ((λ k. omega (arith, k)), tt))
 
--- the digest before the first slash, and the tuple behind it
+-- the digest before the first slash, and the tuple after it
 pub record Parted (text : List ℕ) (digest : Option (List ℕ)) (times : List ℤ) (texts : List Text) : Type 0 where
   pub front : List ℕ
   pub back : List ℕ
@@ -80,7 +80,7 @@ of_digest text (Some d) times texts h = record { front = d; back = h.1.0; is = r
 two_versions : (front back : List ℕ) → 84 ∷ 49 ∷ front ≡ 84 ∷ 50 ∷ back → ⊥
 two_versions front back e = let same : true ≡ false = ap (λ l. eqb (get_or l 1 0) 49) e in cc
 
--- a token behind `T2/`
+-- a token after `T2/`
 pub both_parts : (text rest : List ℕ) (digest : Option (List ℕ)) (times : List ℤ) (texts : List Text) → text ≡ codes "T2" ++ 47 ∷ rest → IsToken text digest times texts → HasDigest rest digest times texts
 both_parts text rest digest times texts e h = elim (token_cut text digest times texts h) [
   | inl p ↦ absurd (two_versions (47 ∷ p.0) (47 ∷ rest) (sym p.1 ∙ e))

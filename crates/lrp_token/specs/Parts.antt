@@ -36,7 +36,7 @@ pub record IsTuple (text : List ℕ) (times : List ℤ) (texts : List Text) : Ty
   pub whole : AllByRecursion IsDataText texts
   pub spelled : text ≡ tuple_text times texts
 
--- the text is that of a digest, and behind a slash that of these times and texts
+-- the text is that of a digest, and after a slash that of these times and texts
 abbrev pub HasDigest : List ℕ → Option (List ℕ) → List ℤ → List Text → Type 0
 HasDigest text None times texts = ⊥
 HasDigest text (Some digest) times texts = IsDigest digest × ((rest : List ℕ) × IsTuple rest times texts × (text ≡ hex digest ++ (codes "/" ++ rest)))

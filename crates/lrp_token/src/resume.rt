@@ -3,7 +3,7 @@ use lrp_model::{Copies, Memory, Tuple};
 use std::alloc::Global;
 use thiserror::Error;
 
-/// What a token spells: the tuple behind which a page goes on, and the digest of the files that it was written for.
+/// What a token spells: the tuple after which a page goes on, and the digest of the files that it was written for.
 ///
 /// A token of version 1 has no digest.
 #[derive(Drop)]

@@ -45,7 +45,7 @@ letter_name (b ∷ bs) name =
     chosen P (is_ascii_digit b) _ _ (λ e d. let h = ap (λ s. s.token) d in absurd cc) (λ e.
     chosen P (b == 34) (text_scanned (text_from false bs)) (symbol_from b bs) (λ f d. absurd (text_no (text_from false bs) n (ap (λ s. s.token) d))) (λ f d. absurd (symbol_no b bs n (ap (λ s. s.token) d))))) name
 
--- with more bytes behind it
+-- with more bytes after it
 pub letter_stays : (v bs : Identifier) → HasLetter v → HasLetter (v ++ bs)
 letter_stays [] bs h = absurd h
 letter_stays (b ∷ v) bs h = h

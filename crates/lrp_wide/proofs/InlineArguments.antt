@@ -9,8 +9,8 @@ use Rattle.lrp_model.specs.declared.raw.RawTerm.{RawTerm}
 use Rattle.lrp_model.specs.declared.relations.Column.{Column}
 use Rattle.lrp_model.specs.declared.tokens.Place.{Place}
 use Rattle.lrp_tense.specs.Expanding.{name_term}
-use Rattle.lrp_wide.specs.Inlining.{Passed, Setting, added, compared_columns, equal, inner_name, itself, pass_variable, passed, set_term, star_columns, star_total, star_variable, variable_of}
-use Rattle.lrp_wide.specs.Inside.{AreArguments, IsCompared, IsItself, IsStar, comparisons_of}
+use Rattle.lrp_wide.specs.Inlining.{Passed, UseSetting, column_added, compared_columns, equal, inner_name, itself, pass_variable, passed, set_term, star_columns, star_total, star_variable, plain_variable}
+use Rattle.lrp_wide.specs.Inside.{AreArguments, IsArgumentCompared, IsItself, IsStar, comparisons_of}
 use Rattle.lrp_wide.specs.Meaning.{is_star}
 use Rattle.lrp_wide.specs.Settings.{IsPassedToo, passed_of}
 use Rattle.lrp_wide.specs.declared.atoms.Met.{Met}
@@ -19,7 +19,7 @@ use Rattle.lrp_wide.specs.declared.uses.Passed.{Passed as PassedOf}
 use Rattle.lrp_wide.proofs.InlineNames.{passed_next}
 use Rattle.lrp_wide.proofs.InlineTerms.{all_done, none_done, one_done}
 
-module _ (s : Setting) (p : Place) (k : ℕ) (cs : List Column) (ts : List RawTerm) where
+module _ (s : UseSetting) (p : Place) (k : ℕ) (cs : List Column) (ts : List RawTerm) where
   -- the columns from i on, where the next `*` has number j
   abbrev pub left_at : ℕ → ℕ → List Passed
   left_at i j = passed s p k j (drop i cs) (drop i ts)
@@ -49,23 +49,23 @@ module _ (s : Setting) (p : Place) (k : ℕ) (cs : List Column) (ts : List RawTe
 
   module _ (i : ℕ) (c : Column) (t : RawTerm) (dc : drop i cs ≡ c ∷ drop (i + 1) cs) (dt : drop i ts ≡ t ∷ drop (i + 1) ts) where
     -- one column and the others
-    here : (j : ℕ) → left_at i j ≡ cond (is_star t) (itself c.name (star_variable j) ∷ left_at (i + 1) (suc j)) (pass_variable s p k c t (variable_of t.kind) ∷ left_at (i + 1) j)
+    here : (j : ℕ) → left_at i j ≡ cond (is_star t) (itself c.name (star_variable j) ∷ left_at (i + 1) (suc j)) (pass_variable s p k c t (plain_variable t.kind) ∷ left_at (i + 1) j)
     here j = ap₂ (passed s p k j) dc dt
 
     total_here : star_total (drop i cs) (drop i ts) ≡ cond (is_star t) (suc (star_total (drop (i + 1) cs) (drop (i + 1) ts))) (star_total (drop (i + 1) cs) (drop (i + 1) ts))
     total_here = ap₂ star_total dc dt
 
-    columns_here : (j : ℕ) → star_columns p j (drop i cs) (drop i ts) ≡ cond (is_star t) (added p (star_variable j) c.sort ∷ star_columns p (suc j) (drop (i + 1) cs) (drop (i + 1) ts)) (star_columns p j (drop (i + 1) cs) (drop (i + 1) ts))
+    columns_here : (j : ℕ) → star_columns p j (drop i cs) (drop i ts) ≡ cond (is_star t) (column_added p (star_variable j) c.sort ∷ star_columns p (suc j) (drop (i + 1) cs) (drop (i + 1) ts)) (star_columns p j (drop (i + 1) cs) (drop (i + 1) ts))
     columns_here j = ap₂ (star_columns p j) dc dt
 
     -- a column whose term is a `*`
     pub passed-star : (old new : Arguments) → is_star t ≡ true → IsStar old p c new → ArePassed i old → ArePassed (i + 1) new
     passed-star old new e a h =
         let j : ℕ = old.next in
-        let left : left_at i j ≡ itself c.name (star_variable j) ∷ left_at (i + 1) (suc j) = here j ∙ ap (λ b. cond b (itself c.name (star_variable j) ∷ left_at (i + 1) (suc j)) (pass_variable s p k c t (variable_of t.kind) ∷ left_at (i + 1) j)) e in
+        let left : left_at i j ≡ itself c.name (star_variable j) ∷ left_at (i + 1) (suc j) = here j ∙ ap (λ b. cond b (itself c.name (star_variable j) ∷ left_at (i + 1) (suc j)) (pass_variable s p k c t (plain_variable t.kind) ∷ left_at (i + 1) j)) e in
         let total : star_total (drop i cs) (drop i ts) ≡ suc (star_total (drop (i + 1) cs) (drop (i + 1) ts)) = total_here ∙ ap (λ b. cond b (suc (star_total (drop (i + 1) cs) (drop (i + 1) ts))) (star_total (drop (i + 1) cs) (drop (i + 1) ts))) e in
-        let binders : star_columns p j (drop i cs) (drop i ts) ≡ added p (star_variable j) c.sort ∷ star_columns p (suc j) (drop (i + 1) cs) (drop (i + 1) ts) = columns_here j ∙ ap (λ b. cond b (added p (star_variable j) c.sort ∷ star_columns p (suc j) (drop (i + 1) cs) (drop (i + 1) ts)) (star_columns p j (drop (i + 1) cs) (drop (i + 1) ts))) e in
-        let stars : (old.stars.items ++ added p (star_variable j) c.sort ∷ []) ++ star_columns p (suc j) (drop (i + 1) cs) (drop (i + 1) ts) ≡ star_columns p (suc k) cs ts = one_done old.stars.items _ _ _ _ binders h.stars in
+        let binders : star_columns p j (drop i cs) (drop i ts) ≡ column_added p (star_variable j) c.sort ∷ star_columns p (suc j) (drop (i + 1) cs) (drop (i + 1) ts) = columns_here j ∙ ap (λ b. cond b (column_added p (star_variable j) c.sort ∷ star_columns p (suc j) (drop (i + 1) cs) (drop (i + 1) ts)) (star_columns p j (drop (i + 1) cs) (drop (i + 1) ts))) e in
+        let stars : (old.stars.items ++ column_added p (star_variable j) c.sort ∷ []) ++ star_columns p (suc j) (drop (i + 1) cs) (drop (i + 1) ts) ≡ star_columns p (suc k) cs ts = one_done old.stars.items _ _ _ _ binders h.stars in
         let columns : old.columns.items ++ compared_columns (left_at (i + 1) (suc j)) ≡ compared_columns all_passed = none_done old.columns.items _ _ _ (ap compared_columns left) h.columns in
         let comparisons : map raw_form_of old.comparisons.items ++ comparisons_of p (left_at (i + 1) (suc j)) ≡ comparisons_of p all_passed = none_done (map raw_form_of old.comparisons.items) _ _ _ (ap (comparisons_of p) left) h.comparisons in
         record {
@@ -77,12 +77,12 @@ module _ (s : Setting) (p : Place) (k : ℕ) (cs : List Column) (ts : List RawTe
         }
 
     -- a column whose term is a variable
-    pub passed-itself : (old new : Arguments) (v : Identifier) → is_star t ≡ false → variable_of t.kind ≡ Some v → IsItself old c (s.name v) new → ArePassed i old → ArePassed (i + 1) new
+    pub passed-itself : (old new : Arguments) (v : Identifier) → is_star t ≡ false → plain_variable t.kind ≡ Some v → IsItself old c (s.name v) new → ArePassed i old → ArePassed (i + 1) new
     passed-itself old new v e w a h =
         let j : ℕ = old.next in
         let left : left_at i j ≡ itself c.name (s.name v) ∷ left_at (i + 1) j = here j ∙ ap₂ (λ b o. cond b (itself c.name (star_variable j) ∷ left_at (i + 1) (suc j)) (pass_variable s p k c t o ∷ left_at (i + 1) j)) e w in
         let total : star_total (drop i cs) (drop i ts) ≡ star_total (drop (i + 1) cs) (drop (i + 1) ts) = total_here ∙ ap (λ b. cond b (suc (star_total (drop (i + 1) cs) (drop (i + 1) ts))) (star_total (drop (i + 1) cs) (drop (i + 1) ts))) e in
-        let binders : star_columns p j (drop i cs) (drop i ts) ≡ star_columns p j (drop (i + 1) cs) (drop (i + 1) ts) = columns_here j ∙ ap (λ b. cond b (added p (star_variable j) c.sort ∷ star_columns p (suc j) (drop (i + 1) cs) (drop (i + 1) ts)) (star_columns p j (drop (i + 1) cs) (drop (i + 1) ts))) e in
+        let binders : star_columns p j (drop i cs) (drop i ts) ≡ star_columns p j (drop (i + 1) cs) (drop (i + 1) ts) = columns_here j ∙ ap (λ b. cond b (column_added p (star_variable j) c.sort ∷ star_columns p (suc j) (drop (i + 1) cs) (drop (i + 1) ts)) (star_columns p j (drop (i + 1) cs) (drop (i + 1) ts))) e in
         let stars : old.stars.items ++ star_columns p j (drop (i + 1) cs) (drop (i + 1) ts) ≡ star_columns p (suc k) cs ts = none_done old.stars.items _ _ _ binders h.stars in
         let columns : old.columns.items ++ compared_columns (left_at (i + 1) j) ≡ compared_columns all_passed = none_done old.columns.items _ _ _ (ap compared_columns left) h.columns in
         let comparisons : map raw_form_of old.comparisons.items ++ comparisons_of p (left_at (i + 1) j) ≡ comparisons_of p all_passed = none_done (map raw_form_of old.comparisons.items) _ _ _ (ap (comparisons_of p) left) h.comparisons in
@@ -95,14 +95,14 @@ module _ (s : Setting) (p : Place) (k : ℕ) (cs : List Column) (ts : List RawTe
         }
 
     -- a column that is compared with its term
-    pub passed-compared : (old new : Arguments) (b : RawColumn) (u : RawTerm) → is_star t ≡ false → variable_of t.kind ≡ None → b ≡ added p (inner_name k c.name) c.sort → u ≡ set_term s t → IsCompared old b u new → ArePassed i old → ArePassed (i + 1) new
+    pub passed-compared : (old new : Arguments) (b : RawColumn) (u : RawTerm) → is_star t ≡ false → plain_variable t.kind ≡ None → b ≡ column_added p (inner_name k c.name) c.sort → u ≡ set_term s t → IsArgumentCompared old b u new → ArePassed i old → ArePassed (i + 1) new
     passed-compared old new b u e w eb eu a h =
         let j : ℕ = old.next in
-        let left : left_at i j ≡ equal (added p (inner_name k c.name) c.sort) c.name (set_term s t) ∷ left_at (i + 1) j = here j ∙ ap₂ (λ x o. cond x (itself c.name (star_variable j) ∷ left_at (i + 1) (suc j)) (pass_variable s p k c t o ∷ left_at (i + 1) j)) e w in
+        let left : left_at i j ≡ equal (column_added p (inner_name k c.name) c.sort) c.name (set_term s t) ∷ left_at (i + 1) j = here j ∙ ap₂ (λ x o. cond x (itself c.name (star_variable j) ∷ left_at (i + 1) (suc j)) (pass_variable s p k c t o ∷ left_at (i + 1) j)) e w in
         let total : star_total (drop i cs) (drop i ts) ≡ star_total (drop (i + 1) cs) (drop (i + 1) ts) = total_here ∙ ap (λ x. cond x (suc (star_total (drop (i + 1) cs) (drop (i + 1) ts))) (star_total (drop (i + 1) cs) (drop (i + 1) ts))) e in
-        let binders : star_columns p j (drop i cs) (drop i ts) ≡ star_columns p j (drop (i + 1) cs) (drop (i + 1) ts) = columns_here j ∙ ap (λ x. cond x (added p (star_variable j) c.sort ∷ star_columns p (suc j) (drop (i + 1) cs) (drop (i + 1) ts)) (star_columns p j (drop (i + 1) cs) (drop (i + 1) ts))) e in
+        let binders : star_columns p j (drop i cs) (drop i ts) ≡ star_columns p j (drop (i + 1) cs) (drop (i + 1) ts) = columns_here j ∙ ap (λ x. cond x (column_added p (star_variable j) c.sort ∷ star_columns p (suc j) (drop (i + 1) cs) (drop (i + 1) ts)) (star_columns p j (drop (i + 1) cs) (drop (i + 1) ts))) e in
         let stars : old.stars.items ++ star_columns p j (drop (i + 1) cs) (drop (i + 1) ts) ≡ star_columns p (suc k) cs ts = none_done old.stars.items _ _ _ binders h.stars in
-        let columns : (old.columns.items ++ added p (inner_name k c.name) c.sort ∷ []) ++ compared_columns (left_at (i + 1) j) ≡ compared_columns all_passed = one_done old.columns.items _ _ _ _ (ap compared_columns left) h.columns in
+        let columns : (old.columns.items ++ column_added p (inner_name k c.name) c.sort ∷ []) ++ compared_columns (left_at (i + 1) j) ≡ compared_columns all_passed = one_done old.columns.items _ _ _ _ (ap compared_columns left) h.columns in
         let comparisons : (map raw_form_of old.comparisons.items ++ raw_compare p (name_term p (inner_name k c.name)) Eq (set_term s t) ∷ []) ++ comparisons_of p (left_at (i + 1) j) ≡ comparisons_of p all_passed =
         one_done (map raw_form_of old.comparisons.items) _ _ _ _ (ap (comparisons_of p) left) h.comparisons in
         record {
@@ -173,7 +173,7 @@ module _ (s : Setting) (p : Place) (k : ℕ) (cs : List Column) (ts : List RawTe
   passed-passed i made o h = subst (passed_of all_passed) (append-nil made.passed.items) (h.passed [] (subst (λ x. passed_of x []) (sym o.left) refl))
 
 -- an atom's terms bring what they are to bring
-pub arguments_are : (s : Setting) (met : Met) (cs : List Column) (i : ℕ) (made : Arguments) → min (length cs) (length met.terms.now) ≤ i → ArePassed s met.place met.number cs met.terms.now i made → AreArguments s met cs made
+pub arguments_are : (s : UseSetting) (met : Met) (cs : List Column) (i : ℕ) (made : Arguments) → min (length cs) (length met.terms.now) ≤ i → ArePassed s met.place met.number cs met.terms.now i made → AreArguments s met cs made
 arguments_are s met cs i made le h =
     let o = are_over s met.place met.number cs met.terms.now i made.next le in
     record {

@@ -6,8 +6,8 @@ use Rattle.lrp_model.specs.Rows.{columns_in, relation_named}
 use Rattle.lrp_model.specs.Texts.{Identifier}
 use Rattle.lrp_model.specs.declared.relations.Relation.{Relation}
 use Rattle.lrp_sorts.specs.Definitions.{definition_number, rowless}
-use Rattle.lrp_wide.specs.Inlining.{Known, atom_form, known_of, meant_by, plain_definition, without_relation}
-use Rattle.lrp_wide.specs.Inside.{AreBeside, AreWritten, IsAround, IsNamed, IsUsed, known_by, known_here, met_form}
+use Rattle.lrp_wide.specs.Inlining.{Known, inlined_atom, known_of, meant_by, plain_definition, without_relation}
+use Rattle.lrp_wide.specs.Inside.{AreBeside, AreWritten, IsAround, IsNamedIn, IsUsed, known_by, known_here, met_form}
 use Rattle.lrp_wide.specs.Settings.{setting_of}
 use Rattle.lrp_wide.specs.declared.atoms.Met.{Met}
 use Rattle.lrp_wide.specs.declared.inlining.Named.{Named}
@@ -77,8 +77,8 @@ module _ (s : Scene) (file : RawFileView) (name : Identifier) (around : IsAround
         omega (arith, lt, same, a, b, size)
 
 -- a use is what the atom becomes
-pub atom-used : (s : Scene) (d : Named) (file : RawFileView) (met : Met) (made : RawForm) → IsNamed s d → IsAround s file → meant_by s.catalog.now (known_by s file) met.name.now ≡ slice_get (known_of s.catalog.now [] file.definitions) d.number
+pub atom-used : (s : Scene) (d : Named) (file : RawFileView) (met : Met) (made : RawForm) → IsNamedIn s d → IsAround s file → meant_by s.catalog.now (known_by s file) met.name.now ≡ slice_get (known_of s.catalog.now [] file.definitions) d.number
     → IsUsed s file met d.number made → made ≡ met_form s file met
 atom-used s d file met made h around e u =
     let at = at_below (known_of s.catalog.now [] file.definitions) d.number (as-many s file met.name.now around d.written h.written d.number h.there) in
-    u.used at.entry at.is ∙ ap (atom_form (setting_of s.setting) met.place met.number met.name.now (columns_in (relation_named s.catalog.now met.name.now)) met.terms.now) (sym (e ∙ at.is))
+    u.used at.entry at.is ∙ ap (inlined_atom (setting_of s.setting) met.place met.number met.name.now (columns_in (relation_named s.catalog.now met.name.now)) met.terms.now) (sym (e ∙ at.is))

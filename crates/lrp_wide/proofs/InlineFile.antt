@@ -8,7 +8,7 @@ use Rattle.lrp_model.specs.declared.raw.RawColumn.{RawColumn}
 use Rattle.lrp_model.specs.declared.relations.Relation.{Relation}
 use Rattle.lrp_tense.specs.Expanding.{expanded_question}
 use Rattle.lrp_wide.specs.Counts.{file_numbers}
-use Rattle.lrp_wide.specs.Inlining.{Counted, Known, Setting, counted_from, counted_in, expanded_file, inlined, known_of, own_setting, plain_definition}
+use Rattle.lrp_wide.specs.Inlining.{Counted, Known, UseSetting, counted_from, counted_in, expanded_file, inlined, known_of, own_setting, plain_definition}
 use Rattle.lrp_wide.specs.Inside.{AreWrittenBy}
 use Rattle.lrp_wide.specs.Settings.{setting_of}
 use Rattle.lrp_wide.specs.declared.inlining.Written.{Written}

@@ -4,7 +4,7 @@ use Rattle.std.proofs.lemmas.List.{take_more}
 use Rattle.lrp_model.specs.RawQueries.{RawForm, RawForms, raw_form_of, raw_forms_of, raw, no_raws}
 use Rattle.lrp_model.specs.declared.raw.RawFormula.{RawFormula}
 use Rattle.lrp_model.specs.declared.relations.Relation.{Relation}
-use Rattle.lrp_wide.specs.Inlining.{Counted, Known, Setting, counted_each, counted_in, inlined, inlined_each}
+use Rattle.lrp_wide.specs.Inlining.{Counted, Known, UseSetting, counted_each, counted_in, inlined, inlined_each}
 
 so_far : (fs : List RawFormula) (i : ℕ) (f : RawFormula) → i < length fs → f ≡ get_or fs i f → take (i + 1) fs ≡ take i fs ++ f ∷ []
 so_far fs i f lt is = take_more fs i f lt ∙ ap (λ x. take i fs ++ x ∷ []) (sym is)
@@ -37,13 +37,13 @@ module _ (db : List Relation) (ks : List Known) where
   raws_append [] gs = refl
   raws_append (f ∷ fs) gs = ap (raw (raw_form_of f)) (raws_append fs gs)
 
-  inlined_append : (fs gs : List RawFormula) (s : Setting) → inlined_each db ks (raw_forms_of (fs ++ gs)) s ≡ raws_joined (inlined_each db ks (raw_forms_of fs) s) (inlined_each db ks (raw_forms_of gs) s)
+  inlined_append : (fs gs : List RawFormula) (s : UseSetting) → inlined_each db ks (raw_forms_of (fs ++ gs)) s ≡ raws_joined (inlined_each db ks (raw_forms_of fs) s) (inlined_each db ks (raw_forms_of gs) s)
   unfolding raws_joined
   inlined_append [] gs s = refl
   inlined_append (f ∷ fs) gs s = ap (raw (inlined db ks (raw_form_of f) s)) (inlined_append fs gs s)
 
   -- the formulas so far, and one more
-  pub inlined-more : (fs gs hs : List RawFormula) (i : ℕ) (f g : RawFormula) (s : Setting) → i < length fs → f ≡ get_or fs i f → hs ≡ gs ++ g ∷ []
+  pub inlined-more : (fs gs hs : List RawFormula) (i : ℕ) (f g : RawFormula) (s : UseSetting) → i < length fs → f ≡ get_or fs i f → hs ≡ gs ++ g ∷ []
       → raw_forms_of gs ≡ inlined_each db ks (raw_forms_of (take i fs)) s → raw_form_of g ≡ inlined db ks (raw_form_of f) s → raw_forms_of hs ≡ inlined_each db ks (raw_forms_of (take (i + 1) fs)) s
   inlined-more fs gs hs i f g s lt is e h k =
       ap raw_forms_of e ∙ raws_append gs (g ∷ []) ∙ ap₂ (λ x y. raws_joined x (raw y no_raws)) h k

@@ -5,8 +5,8 @@ use Rattle.std.specs.Prelude.{bytes_eq}
 use Rattle.lrp_model.specs.Texts.{Identifier}
 use Rattle.lrp_model.specs.declared.raw.RawTermKind.{RawTermKind}
 use Rattle.lrp_model.specs.declared.raw.RawTermKind.TheVariants.{Int, Text, Var, Shifted}
-use Rattle.lrp_wide.specs.Inlining.{Passed, itself, equal, inner_name, passed_name, variable_of}
-use Rattle.lrp_wide.specs.Settings.{IsPassed, IsPassedToo, name_passed, passed_of}
+use Rattle.lrp_wide.specs.Inlining.{Passed, itself, equal, inner_name, passed_name, plain_variable}
+use Rattle.lrp_wide.specs.Settings.{IsNamePassed, IsPassedToo, name_passed, passed_of}
 use Rattle.lrp_wide.specs.declared.uses.Passed.{Passed as PassedOf}
 
 -- the columns that are variables give each name
@@ -41,7 +41,7 @@ pub name-none : (ps : List PassedOf) (i : ℕ) (k : ℕ) (v all : Identifier) �
 name-none ps i k v all le h = sym (ap (λ l. name_passed l k v) (drop_all i ps le)) ∙ h
 
 -- a term that isn't a variable alone
-pub not_variable : (kind : RawTermKind) → ((v : Identifier) → kind ≡ Var v → ⊥) → variable_of kind ≡ None
+pub not_variable : (kind : RawTermKind) → ((v : Identifier) → kind ≡ Var v → ⊥) → plain_variable kind ≡ None
 not_variable (Int x) h = refl
 not_variable (Text t) h = refl
 not_variable (Var v) h = absurd (h v refl)

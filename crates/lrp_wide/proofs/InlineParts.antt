@@ -16,7 +16,7 @@ pub some_each-more : (p : Place) (cs : List RawColumn) (c : RawColumn) (f : RawF
 some_each-more p [] c f = refl
 some_each-more p (d ∷ cs) c f = ap (raw_exists p d) (some_each-more p cs c f)
 
--- a formula behind others
+-- a formula after others
 pub forms_then-is : (gs : List RawFormula) (f : RawFormula) → raw_forms_of (gs ++ f ∷ []) ≡ forms_then gs (raw_form_of f)
 forms_then-is [] f = refl
 forms_then-is (g ∷ gs) f = ap (raw (raw_form_of g)) (forms_then-is gs f)
@@ -60,7 +60,7 @@ compared_of p [] f = refl
 compared_of p (itself c n ∷ ps) f = compared_of p ps f ∙ sym (past_itself p (compared_columns ps) c n ps f)
 compared_of p (equal b c t ∷ ps) f = ap (λ fs. some_each p (b ∷ compared_columns ps) (raw_and p (raw (raw_compare p (name_term p b.name) Eq t) fs))) (before_compared p ps f)
 
--- the formula behind its comparisons, under an `exists` for each column that is compared
+-- the formula after its comparisons, under an `exists` for each column that is compared
 pub compared-is : (p : Place) (ps : List Passed) (gs : List RawFormula) (f : RawForm) → map raw_form_of gs ≡ comparisons_of p ps
     → some_each p (compared_columns ps) (and_behind p gs f) ≡ compared_form p (compared_columns ps) ps f
 compared-is p ps gs f e = ap (some_each p (compared_columns ps)) (behind_of p gs f ∙ ap (λ fs. and_of p fs f) e) ∙ compared_of p ps f

@@ -7,8 +7,8 @@ use Rattle.lrp_model.specs.RawQueries.{HasNoOperator, RawDefinitionView, RawFile
 use Rattle.lrp_model.specs.declared.raw.RawDefinition.{RawDefinition}
 use Rattle.lrp_model.specs.declared.relations.Column.{Column}
 use Rattle.lrp_model.specs.declared.relations.Relation.{Relation}
-use Rattle.lrp_wide.specs.Inlining.{Counted, Known, Passed, Setting, counted_from, inlined, known_of, known_with, passed, plain_definition, some_each, star_total, use_form}
-use Rattle.lrp_wide.specs.Inside.{AreArguments, AreBeside, AreWhole, AreWritten, HasPlainBody, IsAround, IsNamed, IsUsed, IsWhole, known_here}
+use Rattle.lrp_wide.specs.Inlining.{Counted, Known, Passed, UseSetting, counted_from, inlined, known_of, known_with, passed, plain_definition, some_each, star_total, use_form}
+use Rattle.lrp_wide.specs.Inside.{AreArguments, AreBeside, IsWholeIfAny, AreWritten, HasPlainBody, IsAround, IsNamedIn, IsUsed, IsWholeWritten, known_here}
 use Rattle.lrp_wide.specs.Limits.{depth_of}
 use Rattle.lrp_wide.specs.Settings.{and_behind, name_passed, passed_of, setting_of}
 use Rattle.lrp_wide.specs.declared.atoms.Met.{Met}
@@ -24,11 +24,11 @@ use Rattle.lrp_wide.proofs.NumberKnown.{at_below}
 
 -- ---- the definition that is named
 
-pub whole_here : (s : Scene) (d : Named) → IsNamed s d → AreWhole s.written → IsWhole d.written
-whole_here s d h k = subst AreWhole h.written k
+pub whole_here : (s : Scene) (d : Named) → IsNamedIn s d → IsWholeIfAny s.written → IsWholeWritten d.written
+whole_here s d h k = subst IsWholeIfAny h.written k
 
 -- its body is less work
-pub use-less : (s : Scene) (d : Named) (x : RawDefinition) → IsNamed s d → x ≡ get_or d.written.plain.now d.number x
+pub use-less : (s : Scene) (d : Named) (x : RawDefinition) → IsNamedIn s d → x ≡ get_or d.written.plain.now d.number x
     → work_before s.written d.number + 4 * depth_of (raw_form_of x.body) + 3 < work_before s.written s.setting.before + 1
 use-less s d x h e =
     let own : work_before s.written d.number ≡ work_of (take d.number d.written.plain.now) = ap (λ o. work_before o d.number) h.written in
@@ -42,7 +42,7 @@ plain_of (y ∷ xs) zero x h lt e = subst HasPlainBody (sym e) h.0
 plain_of (y ∷ xs) (suc i) x h lt e = plain_of xs i x h.1 (omega (arith, lt)) e
 
 -- and has no operator
-pub use-plain : (s : Scene) (d : Named) (x : RawDefinition) → IsNamed s d → AreWhole s.written → x ≡ get_or d.written.plain.now d.number x → HasNoOperator (raw_form_of x.body)
+pub use-plain : (s : Scene) (d : Named) (x : RawDefinition) → IsNamedIn s d → IsWholeIfAny s.written → x ≡ get_or d.written.plain.now d.number x → HasNoOperator (raw_form_of x.body)
 use-plain s d x h k e = plain_of d.written.plain.now d.number x (whole_here s d h k).operators h.there e
 
 -- ---- what a use becomes
@@ -71,11 +71,11 @@ module _ (s : Scene) (file : RawFileView) (met : Met) (w : Written) (n : ℕ) (i
         let k' : Known = known_with db (take n ks) d in
         let both : Some k ≡ Some k' = sym e ∙ known-at db file.definitions n d at.is in
         let same : k ≡ k' = cc in
-        let S : Setting = setting_of s.setting in
+        let S : UseSetting = setting_of s.setting in
         let columns : r.columns ≡ k'.columns = used-columns db w file beside n d at.is r er in
         let own : AreArguments S met k'.columns a = subst (λ cs. AreArguments S met cs a) columns args in
         let ps : List Passed = passed S met.place met.number (suc met.number) k'.columns met.terms.now in
-        let there : Setting = record { name = name_passed given met.number; place = λ q. met.place; number = counted_from a.next counted } in
+        let there : UseSetting = record { name = name_passed given met.number; place = λ q. met.place; number = counted_from a.next counted } in
         let inside = use-setting met.place met.number a.next given ps (suc met.number + star_total k'.columns met.terms.now) counted k'.counted (subst (passed_of ps) (sym eg) own.passed) own.next (used-numbers db w file beside n d at.is counted en) in
         let form : of ≡ k'.form there = eo ∙ ap (λ o. inlined db (known_here db o file n) (raw_form_of x.body) there) is ∙ ap (λ f. inlined db (take n ks) f there) (used-body db w file beside n d at.is x ex) in
         em ∙ used-form S met k' r.columns a of there columns args inside form ∙ ap (λ y. use_form S met.place met.number y met.terms.now) (sym same);

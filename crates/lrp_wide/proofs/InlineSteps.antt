@@ -11,21 +11,21 @@ use Rattle.lrp_model.specs.declared.raw.RawTerm.{RawTerm}
 use Rattle.lrp_model.specs.declared.relations.Relation.{Relation}
 use Rattle.lrp_model.specs.declared.relations.RowPoint.{RowPoint}
 use Rattle.lrp_model.specs.declared.tokens.Place.{Place}
-use Rattle.lrp_wide.specs.Inlining.{Setting, atom_form, meant_by, set_column, set_term}
+use Rattle.lrp_wide.specs.Inlining.{UseSetting, inlined_atom, meant_by, set_column, set_term}
 use Rattle.lrp_wide.specs.Inside.{each_inlined_here, inlined_here, known_by}
 use Rattle.lrp_wide.specs.Settings.{setting_of}
 use Rattle.lrp_wide.specs.declared.inlining.Scene.{Scene}
 use Rattle.lrp_wide.proofs.InlineNodes.{and_node, atom_node, compare_node, exists_node, forall_node, group_node, implies_node, member_node, not_node, or_node}
 
 module _ (s : Scene) (f : RawFormula) (file : RawFileView) (p : Place) (at : p ≡ (setting_of s.setting).place f.place) (made : RawForm) where
-  abbrev own : Setting
+  abbrev own : UseSetting
   own = setting_of s.setting
 
   pub atom_step : (n : Identifier) (ts l : List RawTerm) (x : Place) (k : ℕ) → f.kind ≡ Atom n ts → x ≡ p → k ≡ own.number f.place → l ≡ ts
-      → made ≡ atom_form own x k n (columns_in (relation_named s.catalog.now n)) l (meant_by s.catalog.now (known_by s file) n) → made ≡ inlined_here s file (raw_form_of f)
+      → made ≡ inlined_atom own x k n (columns_in (relation_named s.catalog.now n)) l (meant_by s.catalog.now (known_by s file) n) → made ≡ inlined_here s file (raw_form_of f)
   atom_step n ts l x k e ep en et m =
       let db : List Relation = s.catalog.now in
-      let form : Place → ℕ → List RawTerm → RawForm = λ y j v. atom_form own y j n (columns_in (relation_named db n)) v (meant_by db (known_by s file) n) in
+      let form : Place → ℕ → List RawTerm → RawForm = λ y j v. inlined_atom own y j n (columns_in (relation_named db n)) v (meant_by db (known_by s file) n) in
       m ∙ ap₂ (λ y j. form y j l) (ep ∙ at) en ∙ ap (form (own.place f.place) (own.number f.place)) et ∙ sym (ap (inlined_here s file) (atom_node f n ts e))
 
   pub compare_step : (op : Op) (l r : RawTerm) → f.kind ≡ Compare op l r → made ≡ raw_compare p (set_term own l) op (set_term own r) → made ≡ inlined_here s file (raw_form_of f)

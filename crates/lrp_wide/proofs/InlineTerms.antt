@@ -9,7 +9,7 @@ use Rattle.lrp_model.specs.declared.raw.RawTerm.{RawTerm}
 use Rattle.lrp_model.specs.declared.relations.Column.{Column}
 use Rattle.lrp_model.specs.declared.tokens.Place.{Place}
 use Rattle.lrp_tense.specs.Expanding.{name_term}
-use Rattle.lrp_wide.specs.Inlining.{Passed, Setting, added, compared_columns, equal, inner_name, itself, pass_variable, passed, set_term, star_columns, star_terms, star_total, star_variable, variable_of}
+use Rattle.lrp_wide.specs.Inlining.{Passed, UseSetting, column_added, compared_columns, equal, inner_name, itself, pass_variable, passed, set_term, star_columns, star_terms, star_total, star_variable, plain_variable}
 use Rattle.lrp_wide.specs.Inside.{comparisons_of}
 use Rattle.lrp_wide.specs.Meaning.{is_star}
 use Rattle.lrp_wide.proofs.NumberKnown.{at_below}
@@ -34,21 +34,21 @@ all_done xs ys all e h = sym (append-nil xs) ∙ none_done xs ys [] all e h
 -- ---- atoms of relations
 
 -- what is made of the first terms, where the next `*` has number j
-pub record AreStarred (s : Setting) (p : Place) (k : ℕ) (cs : List Column) (ts : List RawTerm) (i j : ℕ) (made : List RawTerm) (added_to : List RawColumn) : Type 0 where
+pub record AreStarred (s : UseSetting) (p : Place) (k : ℕ) (cs : List Column) (ts : List RawTerm) (i j : ℕ) (made : List RawTerm) (added_to : List RawColumn) : Type 0 where
   pub terms : made ++ star_terms s p j (drop i cs) (drop i ts) ≡ star_terms s p k cs ts
   pub binders : added_to ++ star_columns p j (drop i cs) (drop i ts) ≡ star_columns p k cs ts
 
-module _ (s : Setting) (p : Place) (k : ℕ) (cs : List Column) (ts : List RawTerm) where
+module _ (s : UseSetting) (p : Place) (k : ℕ) (cs : List Column) (ts : List RawTerm) where
   -- none yet
   pub starred-none : AreStarred s p k cs ts 0 k [] []
   starred-none = record { terms = refl; binders = refl }
 
   -- a `*` more
   pub starred-star : (i j : ℕ) (terms : List RawTerm) (binders : List RawColumn) (c : Column) (t : RawTerm) → drop i cs ≡ c ∷ drop (i + 1) cs → drop i ts ≡ t ∷ drop (i + 1) ts → is_star t ≡ true
-      → AreStarred s p k cs ts i j terms binders → AreStarred s p k cs ts (i + 1) (suc j) (terms ++ name_term p (star_variable j) ∷ []) (binders ++ added p (star_variable j) c.sort ∷ [])
+      → AreStarred s p k cs ts i j terms binders → AreStarred s p k cs ts (i + 1) (suc j) (terms ++ name_term p (star_variable j) ∷ []) (binders ++ column_added p (star_variable j) c.sort ∷ [])
   starred-star i j terms binders c t dc dt e h = record {
     terms = one_done terms _ (star_terms s p (suc j) (drop (i + 1) cs) (drop (i + 1) ts)) _ (name_term p (star_variable j)) (ap₂ (star_terms s p j) dc dt ∙ ap (λ b. cond b (name_term p (star_variable j) ∷ star_terms s p (suc j) (drop (i + 1) cs) (drop (i + 1) ts)) (set_term s t ∷ star_terms s p j (drop (i + 1) cs) (drop (i + 1) ts))) e) h.terms;
-    binders = one_done binders _ (star_columns p (suc j) (drop (i + 1) cs) (drop (i + 1) ts)) _ (added p (star_variable j) c.sort) (ap₂ (star_columns p j) dc dt ∙ ap (λ b. cond b (added p (star_variable j) c.sort ∷ star_columns p (suc j) (drop (i + 1) cs) (drop (i + 1) ts)) (star_columns p j (drop (i + 1) cs) (drop (i + 1) ts))) e) h.binders;
+    binders = one_done binders _ (star_columns p (suc j) (drop (i + 1) cs) (drop (i + 1) ts)) _ (column_added p (star_variable j) c.sort) (ap₂ (star_columns p j) dc dt ∙ ap (λ b. cond b (column_added p (star_variable j) c.sort ∷ star_columns p (suc j) (drop (i + 1) cs) (drop (i + 1) ts)) (star_columns p j (drop (i + 1) cs) (drop (i + 1) ts))) e) h.binders;
   }
 
   -- another term of a column
@@ -56,10 +56,10 @@ module _ (s : Setting) (p : Place) (k : ℕ) (cs : List Column) (ts : List RawTe
       → AreStarred s p k cs ts i j terms binders → AreStarred s p k cs ts (i + 1) j (terms ++ set_term s t ∷ []) binders
   starred-term i j terms binders c t dc dt e h = record {
     terms = one_done terms _ (star_terms s p j (drop (i + 1) cs) (drop (i + 1) ts)) _ (set_term s t) (ap₂ (star_terms s p j) dc dt ∙ ap (λ b. cond b (name_term p (star_variable j) ∷ star_terms s p (suc j) (drop (i + 1) cs) (drop (i + 1) ts)) (set_term s t ∷ star_terms s p j (drop (i + 1) cs) (drop (i + 1) ts))) e) h.terms;
-    binders = none_done binders _ (star_columns p j (drop (i + 1) cs) (drop (i + 1) ts)) _ (ap₂ (star_columns p j) dc dt ∙ ap (λ b. cond b (added p (star_variable j) c.sort ∷ star_columns p (suc j) (drop (i + 1) cs) (drop (i + 1) ts)) (star_columns p j (drop (i + 1) cs) (drop (i + 1) ts))) e) h.binders;
+    binders = none_done binders _ (star_columns p j (drop (i + 1) cs) (drop (i + 1) ts)) _ (ap₂ (star_columns p j) dc dt ∙ ap (λ b. cond b (column_added p (star_variable j) c.sort ∷ star_columns p (suc j) (drop (i + 1) cs) (drop (i + 1) ts)) (star_columns p j (drop (i + 1) cs) (drop (i + 1) ts))) e) h.binders;
   }
 
-  -- a term behind the last column
+  -- a term after the last column
   pub starred-behind : (i j : ℕ) (terms : List RawTerm) (binders : List RawColumn) (t : RawTerm) → length cs ≤ i → drop i ts ≡ t ∷ drop (i + 1) ts
       → AreStarred s p k cs ts i j terms binders → AreStarred s p k cs ts (i + 1) j (terms ++ set_term s t ∷ []) binders
   starred-behind i j terms binders t le dt h =

@@ -11,7 +11,7 @@ use Rattle.lrp_model.specs.declared.relations.Relation.{Relation}
 use Rattle.lrp_model.specs.declared.tokens.Place.{Place}
 use Rattle.lrp_sorts.specs.Definitions.{rowless}
 use Rattle.lrp_wide.specs.Counts.{file_numbers}
-use Rattle.lrp_wide.specs.Inlining.{Counted, Known, Passed, Setting, compared_columns, compared_form, counted_from, counted_in, known_of, known_with, passed, passed_name, plain_definition, some_each, star_columns, star_total, use_form}
+use Rattle.lrp_wide.specs.Inlining.{Counted, Known, Passed, UseSetting, compared_columns, compared_form, counted_from, counted_in, known_of, known_with, passed, passed_name, plain_definition, some_each, star_columns, star_total, use_form}
 use Rattle.lrp_wide.specs.Inside.{AreArguments, AreBeside}
 use Rattle.lrp_wide.specs.Settings.{and_behind, name_passed, passed_of}
 use Rattle.lrp_wide.specs.declared.atoms.Met.{Met}
@@ -27,16 +27,16 @@ use Rattle.lrp_wide.proofs.NumberKnown.{got-map}
 
 -- what a use makes of the names, places and numbers of its definition
 pub use-setting : (p : Place) (k first : ℕ) (given : List PassedOf) (ps : List Passed) (start : ℕ) (counted own : List Counted) → passed_of ps given → first ≡ start → counted ≡ own
-    → ◌≡◌ {A = Setting} (record { name = name_passed given k; place = λ q. p; number = counted_from first counted }) (record { name = passed_name ps k; place = λ q. p; number = counted_from start own })
+    → ◌≡◌ {A = UseSetting} (record { name = name_passed given k; place = λ q. p; number = counted_from first counted }) (record { name = passed_name ps k; place = λ q. p; number = counted_from start own })
 use-setting p k first given ps start counted own h ef ec =
-    let as_setting : (Identifier → Identifier) → (Place → ℕ) → Setting = λ f g. record { name = f; place = λ q. p; number = g } in
+    let as_setting : (Identifier → Identifier) → (Place → ℕ) → UseSetting = λ f g. record { name = f; place = λ q. p; number = g } in
     let names : name_passed given k ≡ passed_name ps k = fun_ext (λ v. names_are ps given k v h) in
     ap (λ (f : Identifier → Identifier). as_setting f (counted_from first counted)) names ∙ ap₂ (λ x y. as_setting (passed_name ps k) (counted_from x y)) ef ec
 
 -- ---- its formula
 
 -- where its columns, its numbers and its body are those of the definition
-pub used-form : (s : Setting) (met : Met) (k : Known) (columns : List Column) (a : Arguments) (of : RawForm) (there : Setting) → columns ≡ k.columns → AreArguments s met columns a
+pub used-form : (s : UseSetting) (met : Met) (k : Known) (columns : List Column) (a : Arguments) (of : RawForm) (there : UseSetting) → columns ≡ k.columns → AreArguments s met columns a
     → there ≡ record { name = passed_name (passed s met.place met.number (suc met.number) k.columns met.terms.now) met.number; place = λ q. met.place; number = counted_from (suc met.number + star_total k.columns met.terms.now) k.counted }
     → of ≡ k.form there → some_each met.place a.stars.items (some_each met.place a.columns.items (and_behind met.place a.comparisons.items of)) ≡ use_form s met.place met.number k met.terms.now
 used-form s met k columns a of there ec h es eo =

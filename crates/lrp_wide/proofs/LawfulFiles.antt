@@ -31,11 +31,11 @@ use Rattle.lrp_tense.specs.Lawful.{IsLawfulExpansion}
 use Rattle.lrp_tense.proofs.LawfulTense.{at_places, plain_names, places_taken, first_some, second_some, operators_some}
 use Rattle.lrp_tense.proofs.NoOperators.{none_left}
 use Rattle.lrp_tense.proofs.TokenPlaces.{Rises, place_at, tokens_rise_in, risen_differ, Some, past, kept, some_rise, some_none}
-use Rattle.lrp_wide.specs.Inlining.{Known, Setting, counted_from, counted_in, own_setting, plain_definition, known_of, expanded_file}
-use Rattle.lrp_wide.specs.Limits.{IsSmall}
+use Rattle.lrp_wide.specs.Inlining.{Known, UseSetting, counted_from, counted_in, own_setting, plain_definition, known_of, expanded_file}
+use Rattle.lrp_wide.specs.Limits.{IsSmallFile}
 use Rattle.lrp_wide.specs.Outcomes.{IsExpandableDefinition, IsExpandableFile}
 use Rattle.lrp_wide.specs.Stars.{BindsNoStar, BindNoStar, DefinesNoStar, NamesNoStar}
-use Rattle.lrp_wide.specs.WideSorting.{IsWellSortedFile, or_else, own_faults}
+use Rattle.lrp_wide.specs.WideSorting.{IsWellSortedFile, faults_or_later, own_faults}
 use Rattle.lrp_wide.proofs.FreshLetters.{no_star}
 use Rattle.lrp_wide.proofs.FreshTexts.{HasLetters, HaveLetters}
 use Rattle.lrp_wide.proofs.FreshWritten.{DefinesLetters, FileLetters, file_letters}
@@ -165,7 +165,7 @@ file_fits bytes f t = subst FileFits (sym t.meant) (fits_tree bytes t.tree t.tex
 
 -- ---- the expanded query
 
-no_others : (own others : List QueryFault) → or_else own others ≡ [] → others ≡ []
+no_others : (own others : List QueryFault) → faults_or_later own others ≡ [] → others ≡ []
 no_others [] others e = e
 no_others (f ∷ fs) others e = cc
 
@@ -176,7 +176,7 @@ module _ (db : List Relation) (f : RawFileView) where
   abbrev known : List Known
   known = known_of db [] f.definitions
 
-  abbrev setting : Setting
+  abbrev setting : UseSetting
   setting = own_setting (counted_from 1 (counted_in db known f.query.body))
 
   pub nothing_left : HasNoOperator (expanded_file db f).body
@@ -193,7 +193,7 @@ module _ (db : List Relation) (f : RawFileView) where
       fits_inlined db known (known_forms FitsRaw db DefinitionFits (λ ks d g q s. fits_inlined db ks g (plain_definition d).body s (none_left d.body (operator_number (operators d.body)) []) (fits_expanded d.body (operator_number (operators d.body)) [] q)) f.definitions [] h.definitions tt)
       (expanded_question f.query).body setting (none_left f.query.body (operator_number (operators f.query.body)) []) (fits_expanded f.query.body (operator_number (operators f.query.body)) [] h.query)
 
-pub lawful_file : (bytes : List ℕ) (db : List Relation) (f : RawFileView) → IsFile bytes f → AreKept db → IsSmall db f → IsWellSortedFile db f → IsLawfulExpansion (expanded_file db f)
+pub lawful_file : (bytes : List ℕ) (db : List Relation) (f : RawFileView) → IsFile bytes f → AreKept db → IsSmallFile db f → IsWellSortedFile db f → IsLawfulExpansion (expanded_file db f)
 lawful_file bytes db f t all small sorted =
     let fits = file_fits bytes f t in
     let few : formulas_in (expanded_file db f).body ≤ 1000000 = at_most 1000000 (formulas_in (expanded_file db f).body) small.few in

@@ -28,7 +28,7 @@ use Rattle.lrp_model.proofs.NoFaults.{both_none, none_if, not_false, not_wide, n
 use Rattle.lrp_query.specs.Lawful.{FitsRawTerm, HasTwo, FitsRaw, FitRaws, formulas_in, formulas_of, is_raw_text, text_total, formula_texts, texts_of}
 use Rattle.lrp_tense.specs.Expanding.{Naming, name_term, renamed, renamed_kind, renamed_to, moment_of, between_of, expanded, expanded_each}
 use Rattle.lrp_wide.specs.Meaning.{is_star}
-use Rattle.lrp_wide.specs.Inlining.{Setting, Known, Passed, itself, equal, set_kind, set_term, star_variable, star_columns, star_terms, some_each, passed, pass_variable, variable_of, compared_columns, with_comparisons, compared_form, atom_form, known_named, known_with, known_of, meant_by, without_relation, plain_definition, inlined, inlined_each}
+use Rattle.lrp_wide.specs.Inlining.{UseSetting, Known, Passed, itself, equal, set_kind, set_term, star_variable, star_columns, star_terms, some_each, passed, pass_variable, plain_variable, compared_columns, with_comparisons, compared_form, inlined_atom, known_named, known_with, known_of, meant_by, without_relation, plain_definition, inlined, inlined_each}
 
 -- ---- numbers within the limits
 
@@ -75,17 +75,17 @@ mutual
 
 -- ---- atoms
 
-set_fits : (s : Setting) (k : RawTermKind) → FitsRawTerm k → FitsRawTerm (set_kind s k)
+set_fits : (s : UseSetting) (k : RawTermKind) → FitsRawTerm k → FitsRawTerm (set_kind s k)
 set_fits s (Int x) h = h
 set_fits s (Text t) h = h
 set_fits s (Var v) h = h
 set_fits s (Shifted v plus) h = h
 
-set_all : (s : Setting) (ts : List RawTerm) → AllByRecursion TermFits ts → AllByRecursion TermFits (map (set_term s) ts)
+set_all : (s : UseSetting) (ts : List RawTerm) → AllByRecursion TermFits ts → AllByRecursion TermFits (map (set_term s) ts)
 set_all s [] h = tt
 set_all s (t ∷ ts) h = (set_fits s t.kind h.0, set_all s ts h.1)
 
-stars_fit : (s : Setting) (p : Place) (columns : List Column) (ts : List RawTerm) (k : ℕ) → AllByRecursion TermFits ts → AllByRecursion TermFits (star_terms s p k columns ts)
+stars_fit : (s : UseSetting) (p : Place) (columns : List Column) (ts : List RawTerm) (k : ℕ) → AllByRecursion TermFits ts → AllByRecursion TermFits (star_terms s p k columns ts)
 stars_fit s p [] ts k h = set_all s ts h
 stars_fit s p (c ∷ columns) [] k h = tt
 stars_fit s p (c ∷ columns) (t ∷ ts) k h = by_star (is_star t) (λ j. stars_fit s p columns ts j h.1)
@@ -110,10 +110,10 @@ abbrev FitsPassed : Passed → Type 0
 FitsPassed (itself c n) = Unit {0}
 FitsPassed (equal b c t) = TermFits t
 
-passed_fit : (s : Setting) (p : Place) (k : ℕ) (columns : List Column) (ts : List RawTerm) (j : ℕ) → AllByRecursion TermFits ts → AllByRecursion FitsPassed (passed s p k j columns ts)
+passed_fit : (s : UseSetting) (p : Place) (k : ℕ) (columns : List Column) (ts : List RawTerm) (j : ℕ) → AllByRecursion TermFits ts → AllByRecursion FitsPassed (passed s p k j columns ts)
 passed_fit s p k [] ts j h = tt
 passed_fit s p k (c ∷ columns) [] j h = tt
-passed_fit s p k (c ∷ columns) (t ∷ ts) j h = by_star (is_star t) (variable_of t.kind) (λ i. passed_fit s p k columns ts i h.1)
+passed_fit s p k (c ∷ columns) (t ∷ ts) j h = by_star (is_star t) (plain_variable t.kind) (λ i. passed_fit s p k columns ts i h.1)
   where
     by_star : (b : Bool) (o : Option Identifier) → ((i : ℕ) → AllByRecursion FitsPassed (passed s p k i columns ts))
         → AllByRecursion FitsPassed (if b then itself c.name (star_variable j) ∷ passed s p k (suc j) columns ts else pass_variable s p k c t o ∷ passed s p k j columns ts)
@@ -156,7 +156,7 @@ compared_none p (c ∷ cs) ps f h = some_none p cs _ (comparisons_none p ps f h)
 
 -- what holds of a definition's formula in each setting
 abbrev pub EachForm : (RawForm → Type 0) → Known → Type 0
-EachForm P d = (s : Setting) → P (d.form s)
+EachForm P d = (s : UseSetting) → P (d.form s)
 
 abbrev pub EachFormOf : (RawForm → Type 0) → Option Known → Type 0
 EachFormOf P None = Unit {0}
@@ -182,32 +182,32 @@ module _ (P : RawForm → Type 0) where
   more_forms [] k h g = (g, tt)
   more_forms (l ∷ ks) k h g = (h.0, more_forms ks k h.1 g)
 
-  pub known_forms : (db : List Relation) (Q : RawDefinitionView → Type 0) → ((ks : List Known) (d : RawDefinitionView) → AllByRecursion (EachForm P) ks → Q d → (s : Setting) → P (inlined db ks (plain_definition d).body s))
+  pub known_forms : (db : List Relation) (Q : RawDefinitionView → Type 0) → ((ks : List Known) (d : RawDefinitionView) → AllByRecursion (EachForm P) ks → Q d → (s : UseSetting) → P (inlined db ks (plain_definition d).body s))
       → (ds : List RawDefinitionView) (ks : List Known) → AllByRecursion Q ds → AllByRecursion (EachForm P) ks → AllByRecursion (EachForm P) (known_of db ks ds)
   known_forms db Q step [] ks q h = h
   known_forms db Q step (d ∷ ds) ks q h = known_forms db Q step ds (ks ++ known_with db ks d ∷ []) q.1 (more_forms ks (known_with db ks d) h (step ks d h q.0))
 
 -- ---- formulas in settings
 
-two_inlined : (db : List Relation) (ks : List Known) (fs : RawForms) (s : Setting) → HasTwo fs → HasTwo (inlined_each db ks fs s)
+two_inlined : (db : List Relation) (ks : List Known) (fs : RawForms) (s : UseSetting) → HasTwo fs → HasTwo (inlined_each db ks fs s)
 two_inlined db ks no_raws s h = h
 two_inlined db ks (raw f no_raws) s h = h
 two_inlined db ks (raw f (raw g fs)) s h = tt
 
 module _ (db : List Relation) (ks : List Known) where
-  atom_fits : (s : Setting) (p : Place) (k : ℕ) (n : Identifier) (columns : List Column) (ts : List RawTerm) (o : Option Known) → EachFormOf FitsRaw o → AllByRecursion TermFits ts → FitsRaw (atom_form s p k n columns ts o)
+  atom_fits : (s : UseSetting) (p : Place) (k : ℕ) (n : Identifier) (columns : List Column) (ts : List RawTerm) (o : Option Known) → EachFormOf FitsRaw o → AllByRecursion TermFits ts → FitsRaw (inlined_atom s p k n columns ts o)
   atom_fits s p k n columns ts None h t = some_fits p (star_columns p k columns ts) _ (stars_fit s p columns ts k t)
   atom_fits s p k n columns ts (Some d) h t =
       some_fits p (star_columns p (suc k) d.columns ts) _ (compared_fits p (passed s p k (suc k) d.columns ts) _ (passed_fit s p k d.columns ts (suc k) t) (h _))
 
-  atom_none : (s : Setting) (p : Place) (k : ℕ) (n : Identifier) (columns : List Column) (ts : List RawTerm) (o : Option Known) → EachFormOf HasNoOperator o → HasNoOperator (atom_form s p k n columns ts o)
+  atom_none : (s : UseSetting) (p : Place) (k : ℕ) (n : Identifier) (columns : List Column) (ts : List RawTerm) (o : Option Known) → EachFormOf HasNoOperator o → HasNoOperator (inlined_atom s p k n columns ts o)
   atom_none s p k n columns ts None h = some_none p (star_columns p k columns ts) _ tt
   atom_none s p k n columns ts (Some d) h =
       some_none p (star_columns p (suc k) d.columns ts) _ (compared_none p (compared_columns (passed s p k (suc k) d.columns ts)) (passed s p k (suc k) d.columns ts) _ (h _))
 
   module _ (all : AllByRecursion (EachForm FitsRaw) ks) where
     mutual
-      pub fits_inlined : (f : RawForm) (s : Setting) → HasNoOperator f → FitsRaw f → FitsRaw (inlined db ks f s)
+      pub fits_inlined : (f : RawForm) (s : UseSetting) → HasNoOperator f → FitsRaw f → FitsRaw (inlined db ks f s)
       fits_inlined (raw_atom p n ts) s o h = atom_fits s (s.place p) (s.number p) n (columns_in (relation_named db n)) ts (meant_by db ks n) (meant_form FitsRaw db ks n all) h
       fits_inlined (raw_compare p l op r) s o h = (set_fits s l.kind h.0, set_fits s r.kind h.1)
       fits_inlined (raw_member p t q) s o h = (set_fits s t.kind h.0, h.1)
@@ -221,13 +221,13 @@ module _ (db : List Relation) (ks : List Known) where
       fits_inlined (raw_ranged word q from to f) s o h = absurd o
       fits_inlined (raw_paired word q f g) s o h = absurd o
 
-      fit_inlined : (fs : RawForms) (s : Setting) → HaveNoOperator fs → FitRaws fs → FitRaws (inlined_each db ks fs s)
+      fit_inlined : (fs : RawForms) (s : UseSetting) → HaveNoOperator fs → FitRaws fs → FitRaws (inlined_each db ks fs s)
       fit_inlined no_raws s o h = tt
       fit_inlined (raw f fs) s o h = (fits_inlined f s o.0 h.0, fit_inlined fs s o.1 h.1)
 
   module _ (all : AllByRecursion (EachForm HasNoOperator) ks) where
     mutual
-      pub none_inlined : (f : RawForm) (s : Setting) → HasNoOperator f → HasNoOperator (inlined db ks f s)
+      pub none_inlined : (f : RawForm) (s : UseSetting) → HasNoOperator f → HasNoOperator (inlined db ks f s)
       none_inlined (raw_atom p n ts) s o = atom_none s (s.place p) (s.number p) n (columns_in (relation_named db n)) ts (meant_by db ks n) (meant_form HasNoOperator db ks n all)
       none_inlined (raw_compare p l op r) s o = tt
       none_inlined (raw_member p t q) s o = tt
@@ -241,7 +241,7 @@ module _ (db : List Relation) (ks : List Known) where
       none_inlined (raw_ranged word q from to f) s o = absurd o
       none_inlined (raw_paired word q f g) s o = absurd o
 
-      have_none_inlined : (fs : RawForms) (s : Setting) → HaveNoOperator fs → HaveNoOperator (inlined_each db ks fs s)
+      have_none_inlined : (fs : RawForms) (s : UseSetting) → HaveNoOperator fs → HaveNoOperator (inlined_each db ks fs s)
       have_none_inlined no_raws s o = tt
       have_none_inlined (raw f fs) s o = (none_inlined f s o.0, have_none_inlined fs s o.1)
 

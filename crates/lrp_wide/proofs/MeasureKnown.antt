@@ -52,7 +52,7 @@ measured_more (j ∷ ks) [] sizes k d found h at m = absurd h
 measured_more (j ∷ ks) (e ∷ ds) [] k d found h at m = absurd h
 measured_more (j ∷ ks) (e ∷ ds) (size ∷ sizes) k d found h at m = (h.0, measured_more ks ds sizes k d found h.1 at m)
 
--- the definitions that are known behind one more
+-- the definitions that are known after one more
 pub known_more : (db : List Relation) (ks : List Known) (ds : List RawDefinitionView) (d : RawDefinitionView) → known_of db ks (ds ++ d ∷ []) ≡ known_of db ks ds ++ known_with db (known_of db ks ds) d ∷ []
 known_more db ks [] d = refl
 known_more db ks (e ∷ ds) d = known_more db (ks ++ known_with db ks e ∷ []) ds d

@@ -16,10 +16,10 @@ use Rattle.lrp_model.specs.declared.raw.Paired.TheVariants.{Since, Until}
 use Rattle.lrp_model.specs.declared.relations.Relation.{Relation}
 use Rattle.lrp_model.specs.declared.relations.RowPoint.{RowPoint}
 use Rattle.lrp_tense.specs.Expanding.{Naming, between_of, expanded, expanded_each, form_of_pair, form_of_range, moment_of, present_name, renamed, renamed_to}
-use Rattle.lrp_wide.specs.Inlining.{Known, Setting, atom_form, inlined, inlined_each, meant_by, star_total, use_form}
+use Rattle.lrp_wide.specs.Inlining.{Known, UseSetting, inlined_atom, inlined, inlined_each, meant_by, star_total, use_form}
 use Rattle.lrp_wide.specs.Limits.{depth_of, depth_of_each}
 use Rattle.lrp_wide.specs.Stars.{BindNoStar, BindsNoStar}
-use Rattle.lrp_wide.specs.Sizes.{AreCounted, IsKnownSize, IsSize, IsSizeIn, IsSizeInEach, IsSizeOf, KeepsStar, compared_total, counted}
+use Rattle.lrp_wide.specs.Sizes.{AreTermsCounted, IsKnownSize, IsSize, IsSizeIn, IsSizeInEach, IsSizeOf, KeepsStar, compared_total, counted_formulas}
 use Rattle.lrp_wide.specs.declared.measures.Size.{Size}
 use Rattle.lrp_wide.specs.declared.measures.Terms.{Terms}
 use Rattle.lrp_wide.proofs.MeasureForms.{starred_depth, starred_formulas}
@@ -55,12 +55,12 @@ module _ (db : List Relation) (ks : List Known) where
   in_implies left right two made p f g h i j u = λ number names s k b. u _ _ (j _ _ _ _ (h number names s k b.0) (i number names s k b.1))
 
   -- what an operator stands for is as large in a setting as it is there
-  range_here : (word : Ranged) (o : Operator) (x v : Identifier) (from to : ℤ) (f : RawForm) (s : Setting) (size : Size)
+  range_here : (word : Ranged) (o : Operator) (x v : Identifier) (from to : ℤ) (f : RawForm) (s : UseSetting) (size : Size)
       → IsSizeOf size (form_of_range word o x v from to (inlined db ks f s)) → IsSizeOf size (inlined db ks (form_of_range word o x v from to f) s)
   range_here Once o x v from to f s size h = h
   range_here Always o x v from to f s size h = h
 
-  pair_here : (word : Paired) (o : Operator) (x y v : Identifier) (f g : RawForm) (s : Setting) (size : Size)
+  pair_here : (word : Paired) (o : Operator) (x y v : Identifier) (f g : RawForm) (s : UseSetting) (size : Size)
       → IsSizeOf size (form_of_pair word o x y v (inlined db ks f s) (inlined db ks g s)) → IsSizeOf size (inlined db ks (form_of_pair word o x y v f g) s)
   pair_here Since o x y v f g s size h = h
   pair_here Until o x y v f g s size h = h
@@ -87,35 +87,35 @@ module _ (db : List Relation) (ks : List Known) where
   -- ---- atoms
 
   -- one of a relation, or of a name that has no meaning
-  pub in_atom : (leaf made : Size) (terms : Terms) (p : Place) (n : Identifier) (ts : List RawTerm) → meant_by db ks n ≡ None → AreCounted terms (columns_in (relation_named db n)) ts
+  pub in_atom : (leaf made : Size) (terms : Terms) (p : Place) (n : Identifier) (ts : List RawTerm) → meant_by db ks n ≡ None → AreTermsCounted terms (columns_in (relation_named db n)) ts
       → IsSize leaf 1 1 → Grows leaf terms.stars made → IsSizeIn db ks made (raw_atom p n ts)
   in_atom leaf made terms p n ts none found one u = λ number names s k b.
       let cs = columns_in (relation_named db n) in
       let us = map (renamed names) ts in
       let same : terms.stars ≡ star_total cs us = found.stars ∙ sym (stars_kept names cs ts k) in
-      subst (λ d. IsSizeOf made (atom_form s (s.place p) (s.number p) n cs us d)) (sym none)
+      subst (λ d. IsSizeOf made (inlined_atom s (s.place p) (s.number p) n cs us d)) (sym none)
       (sized made (1 + terms.stars) _ (1 + terms.stars) _ (ap (λ m. 1 + m) same ∙ sym (starred_formulas s (s.place p) (s.number p) n cs us)) (ap (λ m. 1 + m) same ∙ sym (starred_depth s (s.place p) (s.number p) n cs us)) (u 1 1 one))
 
   -- one of a definition
-  pub in_use : (inner made : Size) (terms : Terms) (p : Place) (n : Identifier) (ts : List RawTerm) (d : Known) → meant_by db ks n ≡ Some d → AreCounted terms d.columns ts → IsKnownSize d inner
-      → ((d : Known) (ts : List RawTerm) → AreCounted terms d.columns ts → IsKnownSize d inner → (s : Setting) (p : Place) (k : ℕ) → IsSizeOf made (use_form s p k d ts)) → IsSizeIn db ks made (raw_atom p n ts)
+  pub in_use : (inner made : Size) (terms : Terms) (p : Place) (n : Identifier) (ts : List RawTerm) (d : Known) → meant_by db ks n ≡ Some d → AreTermsCounted terms d.columns ts → IsKnownSize d inner
+      → ((d : Known) (ts : List RawTerm) → AreTermsCounted terms d.columns ts → IsKnownSize d inner → (s : UseSetting) (p : Place) (k : ℕ) → IsSizeOf made (use_form s p k d ts)) → IsSizeIn db ks made (raw_atom p n ts)
   in_use inner made terms p n ts d some found known u = λ number names s k b.
       let us = map (renamed names) ts in
-      let here : AreCounted terms d.columns us = record { stars = found.stars ∙ sym (stars_kept names d.columns ts k); compared = found.compared ∙ sym (compared_kept names d.columns ts) } in
-      subst (λ m. IsSizeOf made (atom_form s (s.place p) (s.number p) n (columns_in (relation_named db n)) us m)) (sym some) (u d us here known s (s.place p) (s.number p))
+      let here : AreTermsCounted terms d.columns us = record { stars = found.stars ∙ sym (stars_kept names d.columns ts k); compared = found.compared ∙ sym (compared_kept names d.columns ts) } in
+      subst (λ m. IsSizeOf made (inlined_atom s (s.place p) (s.number p) n (columns_in (relation_named db n)) us m)) (sym some) (u d us here known s (s.place p) (s.number p))
 
   -- ---- several
 
   pub in_none : (made : Size) → IsSize made 0 0 → IsSizeInEach db ks made no_raws
   in_none made h = λ number names s k b. h
 
-  more_formulas : (fs : List RawFormula) (g : RawFormula) (number : Place → ℕ) (names : Naming) (s : Setting)
+  more_formulas : (fs : List RawFormula) (g : RawFormula) (number : Place → ℕ) (names : Naming) (s : UseSetting)
       → formulas_of (inlined_each db ks (expanded_each (raw_forms_of fs) number names) s) + formulas_in (inlined db ks (expanded (raw_form_of g) number names) s)
       ≡ formulas_of (inlined_each db ks (expanded_each (raw_forms_of (fs ++ g ∷ [])) number names) s)
   more_formulas [] g number names s = omega arith
   more_formulas (f ∷ fs) g number names s = omega (arith, more_formulas fs g number names s)
 
-  more_depth : (fs : List RawFormula) (g : RawFormula) (number : Place → ℕ) (names : Naming) (s : Setting)
+  more_depth : (fs : List RawFormula) (g : RawFormula) (number : Place → ℕ) (names : Naming) (s : UseSetting)
       → max (depth_of_each (inlined_each db ks (expanded_each (raw_forms_of fs) number names) s)) (depth_of (inlined db ks (expanded (raw_form_of g) number names) s))
       ≡ depth_of_each (inlined_each db ks (expanded_each (raw_forms_of (fs ++ g ∷ [])) number names) s)
   more_depth [] g number names s = omega arith

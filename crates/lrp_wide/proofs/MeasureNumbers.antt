@@ -3,12 +3,12 @@ use Rattle.std.proofs.Common.{◌≡◌, ◌+◌, ◌<◌, ◌^◌, ℕ, max, mi
 use Rattle.lrp_query.specs.Lawful.{formulas_in, formulas_of}
 use Rattle.lrp_model.specs.RawQueries.{RawForm, RawForms}
 use Rattle.lrp_wide.specs.Limits.{depth_of, depth_of_each}
-use Rattle.lrp_wide.specs.Sizes.{IsSize, counted}
+use Rattle.lrp_wide.specs.Sizes.{IsSize, counted_formulas}
 use Rattle.lrp_wide.specs.declared.measures.Size.{Size}
 
 -- other words for the counts
 pub sized : (size : Size) (m n d e : ℕ) → m ≡ n → d ≡ e → IsSize size m d → IsSize size n e
-sized size m n d e f g h = record { formulas = h.formulas ∙ ap counted f; depth = h.depth ∙ ap counted g }
+sized size m n d e f g h = record { formulas = h.formulas ∙ ap counted_formulas f; depth = h.depth ∙ ap counted_formulas g }
 
 -- so many formulas more, each of which takes the next
 abbrev pub Grows : Size → ℕ → Size → Type 0

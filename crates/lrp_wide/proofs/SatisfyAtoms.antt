@@ -19,7 +19,7 @@ use Rattle.lrp_tense.specs.Expanding.{name_term}
 use Rattle.lrp_tense.proofs.Iff.{some_iff, plus_zero}
 use Rattle.lrp_tense.proofs.Terms.{by_equal}
 use Rattle.lrp_wide.specs.Meaning.{HoldsOf, ForValue, is_star}
-use Rattle.lrp_wide.specs.Inlining.{Setting, set_term, added, star_variable, star_columns, star_terms, some_each, starred_atom}
+use Rattle.lrp_wide.specs.Inlining.{UseSetting, set_term, column_added, star_variable, star_columns, star_terms, some_each, starred_atom}
 use Rattle.lrp_wide.proofs.SatisfyNotions.{Unless, FitsColumn, FitColumns, BindsFresh}
 use Rattle.lrp_wide.proofs.SatisfyTerms.{HasValue, Carries, Keeps, keeps_itself, keeps_more, carries_on, value_carried, value_here, same_term}
 
@@ -68,16 +68,16 @@ module _ (M : Structure) (bs : Binders) (env : Assignment) (p : Place) (g : RawF
   chosen (c ∷ columns) (t ∷ ts) k P cs other = λ f s. by_star (is_star t) f (λ d ds. s (d ∷ ds)) (λ d j. chosen columns ts j (λ ds. P (d ∷ ds)))
     where
       star : RawColumn
-      star = added p (star_variable k) c.sort
+      star = column_added p (star_variable k) c.sort
 
       value : Datum
       value = term_value env (term_of bs t)
 
-      by_star : (b : Bool) → BindsFresh (some_each p (if b then added p (star_variable k) c.sort ∷ star_columns p (suc k) columns ts else star_columns p k columns ts) g) cs
+      by_star : (b : Bool) → BindsFresh (some_each p (if b then column_added p (star_variable k) c.sort ∷ star_columns p (suc k) columns ts else star_columns p k columns ts) g) cs
           → ((d : Datum) (ds : List Datum) (last : Binders) (final : Assignment) → Keeps cs other last final → BindsFresh g last → TakenValue last final k c (term_value env (term_of bs t)) d b (λ j. Taken bs env last final j columns ts ds) → P (d ∷ ds) ↔ Satisfies (plain g last) M final)
           → ((d : Datum) (j : ℕ) (ds : Binders) (o : Assignment) → IsChosen ds o columns ts j (λ es. P (d ∷ es)))
           → ForValue M c (term_value env (term_of bs t)) b (λ d. HoldsOf M bs env (λ ds. P (d ∷ ds)) columns ts)
-          ↔ Satisfies (plain (some_each p (if b then added p (star_variable k) c.sort ∷ star_columns p (suc k) columns ts else star_columns p k columns ts) g) cs) M other
+          ↔ Satisfies (plain (some_each p (if b then column_added p (star_variable k) c.sort ∷ star_columns p (suc k) columns ts else star_columns p k columns ts) g) cs) M other
       by_star true f s r =
           some_iff (λ d o. r d (suc k) (star ∷ cs) (with_value star.name d other) f.1
           (λ ds last final kept fresh taken. s d ds last final (carries_on (λ n. n) cs (star ∷ cs) last other (with_value star.name d other) final (keeps_more cs other star f.0 d) kept) fresh
@@ -94,7 +94,7 @@ variable_value cs other n s (text t) p h =
     let e : is_data_term (alone_sort (binder_sort cs n)) ≡ true = ap (λ o. is_data_term (alone_sort o)) h.bound ∙ h.value.0 in
     sym (ap (λ b. term_value other (term_by b (Var n))) e ∙ ap text h.value.1)
 
-module _ (s : Setting) (p : Place) (bs cs : Binders) (env other : Assignment) (carried : Carries s.name bs cs env other) where
+module _ (s : UseSetting) (p : Place) (bs cs : Binders) (env other : Assignment) (carried : Carries s.name bs cs env other) where
   values_same : (columns : List Column) (ts : List RawTerm) (ds : List Datum) (k : ℕ) → FitColumns bs columns ts → Taken bs env cs other k columns ts ds → ds ≡ map (term_value other) (map (term_of cs) (star_terms s p k columns ts))
   values_same [] [] ds k f h = h
   values_same [] (t ∷ ts) ds k f h = absurd f
@@ -109,7 +109,7 @@ module _ (s : Setting) (p : Place) (bs cs : Binders) (env other : Assignment) (c
       by_star false f h r = ap₂ (λ x xs. x ∷ xs) (h.0 ∙ same_term s bs cs env other carried t f.bound) (r k h.1)
 
 -- an atom whose name means a relation
-pub relation_holds : (M : Structure) (s : Setting) (p : Place) (k : ℕ) (n : Identifier) (columns : List Column) (ts : List RawTerm) (P : List Datum → Type 0) (bs cs : Binders) (env other : Assignment)
+pub relation_holds : (M : Structure) (s : UseSetting) (p : Place) (k : ℕ) (n : Identifier) (columns : List Column) (ts : List RawTerm) (P : List Datum → Type 0) (bs cs : Binders) (env other : Assignment)
     → Carries s.name bs cs env other → FitColumns bs columns ts → BindsFresh (starred_atom s p k n columns ts) cs → ((ds : List Datum) → P ds ↔ Holds M.relations n ds)
     → HoldsOf M bs env P columns ts ↔ Satisfies (plain (starred_atom s p k n columns ts) cs) M other
 relation_holds M s p k n columns ts P bs cs env other carried fits fresh means =

@@ -16,7 +16,7 @@ use Rattle.lrp_model.proofs.Logic.{same, then_iff}
 use Rattle.lrp_tense.specs.Expanding.{expanded_question, operator_number, operators}
 use Rattle.lrp_wide.specs.Meaning.{Interpretation, Signature, WideSatisfies, with_definition, interpretation, of_database, Where, columns_where}
 use Rattle.lrp_wide.specs.Inlining.{Known, counted_in, counted_from, inlined_query, known_named, known_with, known_of, meant_by, without_relation, own_setting}
-use Rattle.lrp_wide.specs.WideSorting.{relation_of, query_of}
+use Rattle.lrp_wide.specs.WideSorting.{defined_relation, query_of}
 use Rattle.lrp_wide.proofs.SatisfyNotions.{columns_of, BindsFresh, IsSortedText, IsSortedDefinition, AreSortedTexts}
 use Rattle.lrp_wide.proofs.SatisfyTerms.{Carries, carries_value, keeps_itself}
 use Rattle.lrp_wide.proofs.SatisfyUses.{HasValues}
@@ -107,14 +107,14 @@ module _ (M : Structure) (R : Identifier → Type 0) (all : List Relation) (ks :
   more = with_definition M I d
 
   abbrev all_more : List Relation
-  all_more = all ++ relation_of d ∷ []
+  all_more = all ++ defined_relation d ∷ []
 
   abbrev known_more : List Known
   known_more = ks ++ known_with M.relations ks d ∷ []
 
   columns_more : (n : Identifier) (b : Bool) → bytes_eq d.name n ≡ b → columns_where b (map column_of d.columns) (I.columns n) ≡ columns_of all_more n
-  columns_more n true e = let same : d.name ≡ n = (bytes_decides d.name n).0 e in sym (ap columns_in (find_last (λ r. bytes_eq r.name n) (relation_of d) e all (subst (λ m. relation_named all m ≡ None) same t.fresh)))
-  columns_more n false e = h.columns_same n ∙ sym (ap columns_in (find_other (λ r. bytes_eq r.name n) (relation_of d) e all))
+  columns_more n true e = let same : d.name ≡ n = (bytes_decides d.name n).0 e in sym (ap columns_in (find_last (λ r. bytes_eq r.name n) (defined_relation d) e all (subst (λ m. relation_named all m ≡ None) same t.fresh)))
+  columns_more n false e = h.columns_same n ∙ sym (ap columns_in (find_other (λ r. bytes_eq r.name n) (defined_relation d) e all))
 
   means_more : (n : Identifier) (b : Bool) → bytes_eq d.name n ≡ b
       → Means M n (λ ds. Where b (WideSatisfies d.body I (reverse d.columns) M (assignment (map column_of d.columns) ds)) (I.holds n ds)) (R n) (columns_of all_more n) (meant_by M.relations known_more n)
@@ -126,16 +126,16 @@ module _ (M : Structure) (R : Identifier → Type 0) (all : List Relation) (ks :
       (record { columns_same = columns_more n true e; distinct = t.distinct; inlines = λ r. definition_inlines (subst R (sym same) r) })
   means_more n false e =
       let there : meant_by M.relations known_more n ≡ meant_by M.relations ks n = ap (λ o. without_relation (relation_named M.relations n) o) (find_other (λ k. bytes_eq k.name n) (known_with M.relations ks d) e ks) in
-      let others : columns_of all_more n ≡ columns_of all n = ap columns_in (find_other (λ r. bytes_eq r.name n) (relation_of d) e all) in
+      let others : columns_of all_more n ≡ columns_of all n = ap columns_in (find_other (λ r. bytes_eq r.name n) (defined_relation d) e all) in
       subst (λ o. Means M n (I.holds n) (R n) (columns_of all_more n) o) (sym there) (subst (λ cs. Means M n (I.holds n) (R n) cs (meant_by M.relations ks n)) (sym others) (h.means n))
 
   meant_more : AreMeant M R all_more known_more more.columns more.holds
   meant_more = record {
     columns_same = λ n. columns_more n (bytes_eq d.name n) refl;
     means = λ n. means_more n (bytes_eq d.name n) refl;
-    relations = λ n e. h.relations n (find_neither (λ r. bytes_eq r.name n) (relation_of d) all e).0;
+    relations = λ n e. h.relations n (find_neither (λ r. bytes_eq r.name n) (defined_relation d) all e).0;
     definitions = λ n e.
-        let x = find_neither (λ r. bytes_eq r.name n) (relation_of d) all e in
+        let x = find_neither (λ r. bytes_eq r.name n) (defined_relation d) all e in
         find_other (λ k. bytes_eq k.name n) (known_with M.relations ks d) x.1 ks ∙ h.definitions n x.0;
   }
 
@@ -154,7 +154,7 @@ kept_beside : (ds : List RawDefinitionView) (M : Structure) (R : Identifier → 
     → (env : Assignment) → WideSatisfies q.body (interpretation M I ds) (reverse q.head) M env ↔ Satisfies (plain (inlined_query M.relations (known_of M.relations ks ds) q).body (reverse q.head)) M env
 kept_beside [] M R all ks I q h t f env = query_kept M R all ks I q h t f env
 kept_beside (d ∷ ds) M R all ks I q h t f env =
-    kept_beside ds M R (all ++ relation_of d ∷ []) (ks ++ known_with M.relations ks d ∷ []) (with_definition M I d) q (meant_more M R all ks I h d t.0) t.1 f env
+    kept_beside ds M R (all ++ defined_relation d ∷ []) (ks ++ known_with M.relations ks d ∷ []) (with_definition M I d) q (meant_more M R all ks I h d t.0) t.1 f env
 
 -- a whole file
 pub file_kept : (M : Structure) (R : Identifier → Type 0) (ds : List RawDefinitionView) (q : RawQuestion) → AreSortedTexts M.relations M R ds q → BindsFresh (inlined_query M.relations (known_of M.relations [] ds) q).body (reverse q.head)

@@ -12,7 +12,7 @@ use Rattle.lrp_model.specs.declared.raw.RawTerm.{RawTerm}
 use Rattle.lrp_model.proofs.Logic.{same}
 use Rattle.lrp_tense.proofs.Iff.{both_iff, imply_iff, not_iff, either_iff, some_iff, each_iff}
 use Rattle.lrp_wide.specs.Meaning.{Interpretation, Signature, WideSatisfies, WideSatisfiesAll, WideSatisfiesSome, HoldsOf}
-use Rattle.lrp_wide.specs.Inlining.{Setting, Known, set_column, counted_from, star_total, passed, passed_name, compared_columns, compared_form, atom_form, meant_by, inlined, inlined_each}
+use Rattle.lrp_wide.specs.Inlining.{UseSetting, Known, set_column, counted_from, star_total, passed, passed_name, compared_columns, compared_form, inlined_atom, meant_by, inlined, inlined_each}
 use Rattle.lrp_wide.proofs.SatisfyNotions.{FitColumns, IsFit, AreFit, BindsFresh, BindFresh, TextsIn, HasTexts, HaveTexts}
 use Rattle.lrp_wide.proofs.SatisfyTerms.{Carries, carries_on, carries_binder, same_member, same_compare}
 use Rattle.lrp_wide.proofs.SatisfyAtoms.{chosen, relation_holds}
@@ -23,7 +23,7 @@ use Rattle.lrp_wide.proofs.SatisfyUses.{HasValues, use_says}
 
 -- in each setting a definition's formula says this of the values of its columns
 pub record Inlines (M : Structure) (d : Known) (P : List Datum → Type 0) : Type 0 where
-  pub says : (s : Setting) (cs : Binders) (other : Assignment) (ds : List Datum) → BindsFresh (d.form s) cs → HasValues s.name cs other d.columns ds → P ds ↔ Satisfies (plain (d.form s) cs) M other
+  pub says : (s : UseSetting) (cs : Binders) (other : Assignment) (ds : List Datum) → BindsFresh (d.form s) cs → HasValues s.name cs other d.columns ds → P ds ↔ Satisfies (plain (d.form s) cs) M other
 
 -- a name means this definition, if it is one that is used
 pub record MeansDefinition (M : Structure) (P : List Datum → Type 0) (R : Type 0) (columns : List Column) (d : Known) : Type 0 where
@@ -43,22 +43,22 @@ Means M n P R columns (Some d) = MeansDefinition M P R columns d
 -- ---- formulas
 
 module _ (M : Structure) (I : Interpretation) (ks : List Known) (R : Identifier → Type 0) (columns : Signature) (columns_same : (n : Identifier) → I.columns n ≡ columns n) (means : (n : Identifier) → Means M n (I.holds n) (R n) (columns n) (meant_by M.relations ks n)) where
-  atom_same : (s : Setting) (p : Place) (k : ℕ) (n : Identifier) (ts : List RawTerm) (o : Option Known) (bs cs : Binders) (env other : Assignment) → Means M n (I.holds n) (R n) (columns n) o → R n → TextsIn M (columns n) ts → FitColumns bs (columns n) ts
-      → BindsFresh (atom_form s p k n (columns_in (relation_named M.relations n)) ts o) cs → Carries s.name bs cs env other
-      → HoldsOf M bs env (I.holds n) (columns n) ts ↔ Satisfies (plain (atom_form s p k n (columns_in (relation_named M.relations n)) ts o) cs) M other
+  atom_same : (s : UseSetting) (p : Place) (k : ℕ) (n : Identifier) (ts : List RawTerm) (o : Option Known) (bs cs : Binders) (env other : Assignment) → Means M n (I.holds n) (R n) (columns n) o → R n → TextsIn M (columns n) ts → FitColumns bs (columns n) ts
+      → BindsFresh (inlined_atom s p k n (columns_in (relation_named M.relations n)) ts o) cs → Carries s.name bs cs env other
+      → HoldsOf M bs env (I.holds n) (columns n) ts ↔ Satisfies (plain (inlined_atom s p k n (columns_in (relation_named M.relations n)) ts o) cs) M other
   atom_same s p k n ts None bs cs env other m named_there texts fits fresh carried =
-      subst (λ all. HoldsOf M bs env (I.holds n) all ts ↔ Satisfies (plain (atom_form s p k n (columns_in (relation_named M.relations n)) ts None) cs) M other) m.columns_same
+      subst (λ all. HoldsOf M bs env (I.holds n) all ts ↔ Satisfies (plain (inlined_atom s p k n (columns_in (relation_named M.relations n)) ts None) cs) M other) m.columns_same
       (relation_holds M s p k n (columns_in (relation_named M.relations n)) ts (I.holds n) bs cs env other carried (subst (λ all. FitColumns bs all ts) (sym m.columns_same) fits) fresh m.holds)
   atom_same s p k n ts (Some d) bs cs env other m named_there texts fits fresh carried =
-      let inside : Setting = record { name = passed_name (passed s p k (suc k) d.columns ts) k; place = λ q. p; number = counted_from (suc k + star_total d.columns ts) d.counted } in
-      subst (λ all. HoldsOf M bs env (I.holds n) all ts ↔ Satisfies (plain (atom_form s p k n (columns_in (relation_named M.relations n)) ts (Some d)) cs) M other) m.columns_same
+      let inside : UseSetting = record { name = passed_name (passed s p k (suc k) d.columns ts) k; place = λ q. p; number = counted_from (suc k + star_total d.columns ts) d.counted } in
+      subst (λ all. HoldsOf M bs env (I.holds n) all ts ↔ Satisfies (plain (inlined_atom s p k n (columns_in (relation_named M.relations n)) ts (Some d)) cs) M other) m.columns_same
       (chosen M bs env p (compared_form p (compared_columns (passed s p k (suc k) d.columns ts)) (passed s p k (suc k) d.columns ts) (d.form inside)) d.columns ts (suc k) (I.holds n) cs other fresh
       (λ ds last final kept f taken. use_says s p k bs env M last final d.columns ts ds (suc k) (passed_name (passed s p k (suc k) d.columns ts) k) (d.form inside) (I.holds n ds)
       (carries_on s.name bs cs last env other final carried kept) (subst (λ all. FitColumns bs all ts) (sym m.columns_same) fits) (subst (λ all. TextsIn M all ts) (sym m.columns_same) texts) taken
       (named s p k d.columns ts (suc k) m.distinct) f (λ l o b v. (m.inlines named_there).says inside l o ds b v)))
 
   mutual
-    pub satisfied : (f : RawForm) (s : Setting) (bs cs : Binders) (env other : Assignment) → IsFit f columns bs → HasTexts f R columns M → BindsFresh (inlined M.relations ks f s) cs → Carries s.name bs cs env other
+    pub satisfied : (f : RawForm) (s : UseSetting) (bs cs : Binders) (env other : Assignment) → IsFit f columns bs → HasTexts f R columns M → BindsFresh (inlined M.relations ks f s) cs → Carries s.name bs cs env other
         → WideSatisfies f I bs M env ↔ Satisfies (plain (inlined M.relations ks f s) cs) M other
     satisfied (raw_atom p n ts) s bs cs env other t x f h =
         subst (λ all. HoldsOf M bs env (I.holds n) all ts ↔ Satisfies (plain (inlined M.relations ks (raw_atom p n ts) s) cs) M other) (sym (columns_same n))
@@ -77,12 +77,12 @@ module _ (M : Structure) (I : Interpretation) (ks : List Known) (R : Identifier 
     satisfied (raw_ranged word o from to g) s bs cs env other t x f h = absurd t
     satisfied (raw_paired word o g k) s bs cs env other t x f h = absurd t
 
-    satisfied_all : (fs : RawForms) (s : Setting) (bs cs : Binders) (env other : Assignment) → AreFit fs columns bs → HaveTexts fs R columns M → BindFresh (inlined_each M.relations ks fs s) cs → Carries s.name bs cs env other
+    satisfied_all : (fs : RawForms) (s : UseSetting) (bs cs : Binders) (env other : Assignment) → AreFit fs columns bs → HaveTexts fs R columns M → BindFresh (inlined_each M.relations ks fs s) cs → Carries s.name bs cs env other
         → WideSatisfiesAll fs I bs M env ↔ SatisfiesAll (plain_each (inlined_each M.relations ks fs s) cs) M other
     satisfied_all no_raws s bs cs env other t x f h = same
     satisfied_all (raw g fs) s bs cs env other t x f h = both_iff (satisfied g s bs cs env other t.0 x.0 f.0 h) (satisfied_all fs s bs cs env other t.1 x.1 f.1 h)
 
-    satisfied_some : (fs : RawForms) (s : Setting) (bs cs : Binders) (env other : Assignment) → AreFit fs columns bs → HaveTexts fs R columns M → BindFresh (inlined_each M.relations ks fs s) cs → Carries s.name bs cs env other
+    satisfied_some : (fs : RawForms) (s : UseSetting) (bs cs : Binders) (env other : Assignment) → AreFit fs columns bs → HaveTexts fs R columns M → BindFresh (inlined_each M.relations ks fs s) cs → Carries s.name bs cs env other
         → WideSatisfiesSome fs I bs M env ↔ SatisfiesSome (plain_each (inlined_each M.relations ks fs s) cs) M other
     satisfied_some no_raws s bs cs env other t x f h = same
     satisfied_some (raw g fs) s bs cs env other t x f h = either_iff (satisfied g s bs cs env other t.0 x.0 f.0 h) (satisfied_some fs s bs cs env other t.1 x.1 f.1 h)

@@ -16,7 +16,7 @@ use Rattle.lrp_model.specs.declared.raw.RawTermKind.TheVariants.{Int, Text, Var,
 use Rattle.lrp_tense.specs.Expanding.{HasPlainNames, expanded_question}
 use Rattle.lrp_wide.specs.Meaning.{Signature, is_star}
 use Rattle.lrp_wide.specs.Stars.{BindsNoStar}
-use Rattle.lrp_wide.specs.WideSorting.{relation_of, query_of}
+use Rattle.lrp_wide.specs.WideSorting.{defined_relation, query_of}
 
 -- the columns of each name
 abbrev pub columns_of : List Relation → Signature
@@ -130,4 +130,4 @@ pub record IsSortedDefinition (all : List Relation) (M : Structure) (R : Identif
 
 abbrev pub AreSortedTexts : List Relation → Structure → (Identifier → Type 0) → List RawDefinitionView → RawQuestion → Type 0
 AreSortedTexts all M R [] q = IsSortedText all M R q
-AreSortedTexts all M R (d ∷ ds) q = IsSortedDefinition all M R d × AreSortedTexts (all ++ relation_of d ∷ []) M R ds q
+AreSortedTexts all M R (d ∷ ds) q = IsSortedDefinition all M R d × AreSortedTexts (all ++ defined_relation d ∷ []) M R ds q

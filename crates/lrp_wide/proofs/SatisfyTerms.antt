@@ -26,7 +26,7 @@ use Rattle.lrp_tense.proofs.Scoping.{own_name, other_name, bound_here, bound_fur
 use Rattle.lrp_tense.proofs.Terms.{by_equal}
 use Rattle.lrp_tense.proofs.Timely.{IsTimely, shifted_times, read_times, read_texts}
 use Rattle.lrp_theory.specs.Divides.{IsPointMember}
-use Rattle.lrp_wide.specs.Inlining.{Setting, set_kind, set_term}
+use Rattle.lrp_wide.specs.Inlining.{UseSetting, set_kind, set_term}
 
 -- ---- values
 
@@ -142,7 +142,7 @@ bound_of (Some s) shifted p f = (s, refl)
 abbrev are_texts : Op → Binders → RawTerm → RawTerm → Bool
 are_texts op bs l r = is_equality op && is_data_term (term_sort bs l) && is_data_term (term_sort bs r)
 
-module _ (s : Setting) (bs cs : Binders) (env other : Assignment) (h : Carries s.name bs cs env other) where
+module _ (s : UseSetting) (bs cs : Binders) (env other : Assignment) (h : Carries s.name bs cs env other) where
   same_sort : (k : RawTermKind) (q : Place) → kind_faults bs k q ≡ [] → kind_sort cs (set_kind s k) ≡ kind_sort bs k
   same_sort (Int x) q f = refl
   same_sort (Text t) q f = refl

@@ -24,7 +24,7 @@ use Rattle.lrp_model.proofs.Stable.{stable}
 use Rattle.lrp_tense.specs.Expanding.{name_term}
 use Rattle.lrp_tense.proofs.Iff.{plus_zero}
 use Rattle.lrp_wide.specs.Meaning.{is_star}
-use Rattle.lrp_wide.specs.Inlining.{Setting, Passed, itself, equal, set_term, added, some_each, passed, pass_variable, inner_name, star_variable, variable_of, compared_columns, with_comparisons, compared_form}
+use Rattle.lrp_wide.specs.Inlining.{UseSetting, Passed, itself, equal, set_term, column_added, some_each, passed, pass_variable, inner_name, star_variable, plain_variable, compared_columns, with_comparisons, compared_form}
 use Rattle.lrp_wide.proofs.SatisfyNotions.{Unless, FitsColumn, FitColumns, BindsFresh, BindFresh, TextIn, TextsIn}
 use Rattle.lrp_wide.proofs.SatisfyTerms.{IsValue, HasValue, Carries, Keeps, keeps_itself, keeps_more, carries_on, value_carried, value_here, bound_of, same_term, same_data}
 use Rattle.lrp_wide.proofs.SatisfyAtoms.{TakenValue, Taken, taken_kept, variable_value}
@@ -49,7 +49,7 @@ abbrev pub Pinned : Binders → Assignment → ℕ → List Column → List RawT
 Pinned cs other k [] ts ds = Unit {0}
 Pinned cs other k (c ∷ columns) [] ds = Unit {0}
 Pinned cs other k (c ∷ columns) (t ∷ ts) [] = ⊥
-Pinned cs other k (c ∷ columns) (t ∷ ts) (d ∷ ds) = Unless (is_star t) (OwnValue cs other k c d (variable_of t.kind)) × Pinned cs other k columns ts ds
+Pinned cs other k (c ∷ columns) (t ∷ ts) (d ∷ ds) = Unless (is_star t) (OwnValue cs other k c d (plain_variable t.kind)) × Pinned cs other k columns ts ds
 
 -- and may have it
 abbrev pub OwnSort : Structure → Column → Datum → Option Identifier → Type 0
@@ -60,7 +60,7 @@ abbrev pub MayPin : Structure → List Column → List RawTerm → List Datum �
 MayPin M [] ts ds = Unit {0}
 MayPin M (c ∷ columns) [] ds = Unit {0}
 MayPin M (c ∷ columns) (t ∷ ts) [] = ⊥
-MayPin M (c ∷ columns) (t ∷ ts) (d ∷ ds) = Unless (is_star t) (OwnSort M c d (variable_of t.kind)) × MayPin M columns ts ds
+MayPin M (c ∷ columns) (t ∷ ts) (d ∷ ds) = Unless (is_star t) (OwnSort M c d (plain_variable t.kind)) × MayPin M columns ts ds
 
 -- ---- sorts of terms
 
@@ -86,7 +86,7 @@ module _ (M : Structure) (bs : Binders) (env : Assignment) (s : Sort) where
   a_text Data t e h = h
   a_text (Named n) t e h = h
 
-  alone_of_sort : (k : RawTermKind) (q : Place) → kind_faults bs k q ≡ [] → differs (kind_sort bs k) s ≡ false → TextIn M s k → variable_of k ≡ None → IsOfSort M s (term_value env (term_by (is_data_term (kind_sort bs k)) k))
+  alone_of_sort : (k : RawTermKind) (q : Place) → kind_faults bs k q ≡ [] → differs (kind_sort bs k) s ≡ false → TextIn M s k → plain_variable k ≡ None → IsOfSort M s (term_value env (term_by (is_data_term (kind_sort bs k)) k))
   alone_of_sort (Int x) q f e i n = a_time x (time_sort s e)
   alone_of_sort (Text t) q f e i n = a_text s t e i
   alone_of_sort (Var v) q f e i n = cc
@@ -111,7 +111,7 @@ equal_iff cs other l r false false e f g = ((λ h. ap time h), λ h. time_same _
 equal_iff cs other l r true false e f g = cc
 equal_iff cs other l r false true e f g = cc
 
-pub comparison : (s : Setting) (p : Place) (bs cs : Binders) (env other : Assignment) → Carries s.name bs cs env other → (c : Column) (t : RawTerm) (x : Identifier) (d : Datum) → HasValue cs other x c.sort d → FitsColumn bs c t
+pub comparison : (s : UseSetting) (p : Place) (bs cs : Binders) (env other : Assignment) → Carries s.name bs cs env other → (c : Column) (t : RawTerm) (x : Identifier) (d : Datum) → HasValue cs other x c.sort d → FitsColumn bs c t
     → Passes other (compare_of cs (name_term p x) Eq (set_term s t)) ↔ (d ≡ term_value env (term_of bs t))
 comparison s p bs cs env other carried c t x d h f =
     let left : d ≡ term_value other (term_of cs (name_term p x)) = variable_value cs other x c.sort d p h in
@@ -122,7 +122,7 @@ comparison s p bs cs env other carried c t x d h f =
 
 -- ---- the columns of a use
 
-module _ (s : Setting) (p : Place) (k : ℕ) (bs : Binders) (env : Assignment) where
+module _ (s : UseSetting) (p : Place) (k : ℕ) (bs : Binders) (env : Assignment) where
   module _ (cs : Binders) (other : Assignment) (carried : Carries s.name bs cs env other) where
     -- a variable of the atom has the column's value
     variable_has : (c : Column) (v : Identifier) (q : Place) (d : Datum) → variable_faults (binder_sort bs v) false q ≡ [] → differs (alone_sort (binder_sort bs v)) c.sort ≡ false
@@ -138,7 +138,7 @@ module _ (s : Setting) (p : Place) (k : ℕ) (bs : Binders) (env : Assignment) w
         by_kind false i h = subst (λ x. IsValue env v c.sort x) (sym h) (i, sym (plus_zero (env.times v) (env.times v) refl))
 
     column_has : (c : Column) (n : Identifier) (q : Place) (d : Datum) (t : RawTermKind) → kind_faults bs t q ≡ [] → differs (kind_sort bs t) c.sort ≡ false → d ≡ term_value env (term_by (is_data_term (kind_sort bs t)) t)
-        → OwnValue cs other k c d (variable_of t) → n ≡ variable_passed s k c (variable_of t) → HasValue cs other n c.sort d
+        → OwnValue cs other k c d (plain_variable t) → n ≡ variable_passed s k c (plain_variable t) → HasValue cs other n c.sort d
     column_has c n q d (Int x) f e g o i = subst (λ m. HasValue cs other m c.sort d) (sym i) o
     column_has c n q d (Text t) f e g o i = subst (λ m. HasValue cs other m c.sort d) (sym i) o
     column_has c n q d (Shifted v plus) f e g o i = subst (λ m. HasValue cs other m c.sort d) (sym i) o
@@ -155,7 +155,7 @@ module _ (s : Setting) (p : Place) (k : ℕ) (bs : Binders) (env : Assignment) w
     valued name (c ∷ columns) (t ∷ ts) (d ∷ ds) j f h o n = by_star (is_star t) f.0 h o.0 n (λ i g m. valued name columns ts ds i f.1 g o.1 m)
       where
         by_star : (b : Bool) → Unless b (FitsColumn bs c t) → TakenValue cs other j c (term_value env (term_of bs t)) d b (λ i. Taken bs env cs other i columns ts ds)
-            → Unless b (OwnValue cs other k c d (variable_of t.kind)) → NamedColumn name j c (variable_passed s k c (variable_of t.kind)) b (λ i. NamedBy name s k i columns ts)
+            → Unless b (OwnValue cs other k c d (plain_variable t.kind)) → NamedColumn name j c (variable_passed s k c (plain_variable t.kind)) b (λ i. NamedBy name s k i columns ts)
             → ((i : ℕ) → Taken bs env cs other i columns ts ds → NamedBy name s k i columns ts → HasValues name cs other columns ds)
             → HasValue cs other (name c.name) c.sort d × HasValues name cs other columns ds
         by_star true f h o n r = (subst (λ m. HasValue cs other m c.sort d) (sym n.0) h.0, r (suc j) h.1 n.1)
@@ -167,7 +167,7 @@ module _ (s : Setting) (p : Place) (k : ℕ) (bs : Binders) (env : Assignment) w
     compared [] ts ds j f M i o h y = (y, tt)
     compared (c ∷ columns) [] ds j f M i o h y = absurd i
     compared (c ∷ columns) (t ∷ ts) [] j f M i o h y = absurd h
-    compared (c ∷ columns) (t ∷ ts) (d ∷ ds) j f M i o h y = by_star (is_star t) (variable_of t.kind) i.0 h o.0 (λ n g. compared columns ts ds n f M i.1 o.1 g y)
+    compared (c ∷ columns) (t ∷ ts) (d ∷ ds) j f M i o h y = by_star (is_star t) (plain_variable t.kind) i.0 h o.0 (λ n g. compared columns ts ds n f M i.1 o.1 g y)
       where
         by_star : (b : Bool) (a : Option Identifier) → Unless b (FitsColumn bs c t) → TakenValue cs other j c (term_value env (term_of bs t)) d b (λ i. Taken bs env cs other i columns ts ds) → Unless b (OwnValue cs other k c d a)
             → ((n : ℕ) → Taken bs env cs other n columns ts ds → SatisfiesAll (plain_each (with_comparisons p (passed s p k n columns ts) f) cs) M other)
@@ -183,7 +183,7 @@ module _ (s : Setting) (p : Place) (k : ℕ) (bs : Binders) (env : Assignment) w
     compares (c ∷ columns) [] ds es j f M i h o y = absurd i
     compares (c ∷ columns) (t ∷ ts) [] es j f M i h o y = absurd h
     compares (c ∷ columns) (t ∷ ts) (d ∷ ds) [] j f M i h o y = absurd o
-    compares (c ∷ columns) (t ∷ ts) (d ∷ ds) (e ∷ es) j f M i h o y = by_star (is_star t) (variable_of t.kind) i.0 h o.0 y (λ n g z. compares columns ts ds es n f M i.1 g o.1 z)
+    compares (c ∷ columns) (t ∷ ts) (d ∷ ds) (e ∷ es) j f M i h o y = by_star (is_star t) (plain_variable t.kind) i.0 h o.0 y (λ n g z. compares columns ts ds es n f M i.1 g o.1 z)
       where
         by_star : (b : Bool) (a : Option Identifier) → Unless b (FitsColumn bs c t) → TakenValue cs other j c (term_value env (term_of bs t)) d b (λ i. Taken bs env cs other i columns ts ds) → Unless b (OwnValue cs other k c e a)
             → SatisfiesAll (plain_each (with_comparisons p (if b then itself c.name (star_variable j) ∷ passed s p k (suc j) columns ts else pass_variable s p k c t a ∷ passed s p k j columns ts) f) cs) M other
@@ -201,7 +201,7 @@ module _ (s : Setting) (p : Place) (k : ℕ) (bs : Binders) (env : Assignment) w
     none_pinned [] ts ds j h e = tt
     none_pinned (c ∷ columns) [] ds j h e = tt
     none_pinned (c ∷ columns) (t ∷ ts) [] j h e = absurd h
-    none_pinned (c ∷ columns) (t ∷ ts) (d ∷ ds) j h e = by_star (is_star t) (variable_of t.kind) h e (λ n g z. none_pinned columns ts ds n g z)
+    none_pinned (c ∷ columns) (t ∷ ts) (d ∷ ds) j h e = by_star (is_star t) (plain_variable t.kind) h e (λ n g z. none_pinned columns ts ds n g z)
       where
         by_star : (b : Bool) (a : Option Identifier) → TakenValue cs other j c (term_value env (term_of bs t)) d b (λ i. Taken bs env cs other i columns ts ds)
             → compared_columns (if b then itself c.name (star_variable j) ∷ passed s p k (suc j) columns ts else pass_variable s p k c t a ∷ passed s p k j columns ts) ≡ []
@@ -233,10 +233,10 @@ module _ (s : Setting) (p : Place) (k : ℕ) (bs : Binders) (env : Assignment) w
     there [] ts ds j cs other a m = (cs, (other, ((keeps_itself cs other, a, tt), λ y. y)))
     there (c ∷ columns) [] ds j cs other a m = (cs, (other, ((keeps_itself cs other, a, tt), λ y. y)))
     there (c ∷ columns) (t ∷ ts) [] j cs other a m = absurd m
-    there (c ∷ columns) (t ∷ ts) (d ∷ ds) j cs other a m = by_star (is_star t) (variable_of t.kind) a m.0 (λ i es o b. there columns ts ds i es o b m.1)
+    there (c ∷ columns) (t ∷ ts) (d ∷ ds) j cs other a m = by_star (is_star t) (plain_variable t.kind) a m.0 (λ i es o b. there columns ts ds i es o b m.1)
       where
         own : RawColumn
-        own = added p (inner_name k c.name) c.sort
+        own = column_added p (inner_name k c.name) c.sort
 
         by_star : (b : Bool) (v : Option Identifier) → BindsFresh (some_each p (compared_columns (if b then itself c.name (star_variable j) ∷ passed s p k (suc j) columns ts else pass_variable s p k c t v ∷ passed s p k j columns ts)) g) cs
             → Unless b (OwnSort M c d v) → ((i : ℕ) (es : Binders) (o : Assignment) → Around es o columns ts i → IsThere es o columns ts i ds)
@@ -265,10 +265,10 @@ module _ (s : Setting) (p : Place) (k : ℕ) (bs : Binders) (env : Assignment) w
         → ((es : List Datum) (last : Binders) (final : Assignment) → IsScope cs other columns ts es last final → Satisfies (plain g last) M final → ⊥) → ⊥
     found [] ts j cs other a y n = n [] cs other (keeps_itself cs other, a, tt) y
     found (c ∷ columns) [] j cs other a y n = n [] cs other (keeps_itself cs other, a, tt) y
-    found (c ∷ columns) (t ∷ ts) j cs other a y n = by_star (is_star t) (variable_of t.kind) a y (λ d ds. n (d ∷ ds)) (λ i es o b z. found columns ts i es o b z)
+    found (c ∷ columns) (t ∷ ts) j cs other a y n = by_star (is_star t) (plain_variable t.kind) a y (λ d ds. n (d ∷ ds)) (λ i es o b z. found columns ts i es o b z)
       where
         own : RawColumn
-        own = added p (inner_name k c.name) c.sort
+        own = column_added p (inner_name k c.name) c.sort
 
         by_star : (b : Bool) (v : Option Identifier) → BindsFresh (some_each p (compared_columns (if b then itself c.name (star_variable j) ∷ passed s p k (suc j) columns ts else pass_variable s p k c t v ∷ passed s p k j columns ts)) g) cs
             → Satisfies (plain (some_each p (compared_columns (if b then itself c.name (star_variable j) ∷ passed s p k (suc j) columns ts else pass_variable s p k c t v ∷ passed s p k j columns ts)) g) cs) M other
@@ -298,14 +298,14 @@ module _ (s : Setting) (p : Place) (k : ℕ) (bs : Binders) (env : Assignment) w
   may_pin M cs other (c ∷ columns) (t ∷ ts) [] j f x h = absurd h
   may_pin M cs other (c ∷ columns) (t ∷ ts) (d ∷ ds) j f x h = by_star (is_star t) f.0 h (λ i g. may_pin M cs other columns ts ds i f.1 x.1 g)
     where
-      by_kind : (o : Option Identifier) → variable_of t.kind ≡ o → FitsColumn bs c t → d ≡ term_value env (term_of bs t) → OwnSort M c d o
+      by_kind : (o : Option Identifier) → plain_variable t.kind ≡ o → FitsColumn bs c t → d ≡ term_value env (term_of bs t) → OwnSort M c d o
       by_kind (Some v) e f h = tt
       by_kind None e f h = subst (λ y. IsOfSort M c.sort y) (sym h) (alone_of_sort M bs env c.sort t.kind t.place f.bound f.sort x.0 e)
 
       by_star : (b : Bool) → Unless b (FitsColumn bs c t) → TakenValue cs other j c (term_value env (term_of bs t)) d b (λ i. Taken bs env cs other i columns ts ds)
-          → ((i : ℕ) → Taken bs env cs other i columns ts ds → MayPin M columns ts ds) → Unless b (OwnSort M c d (variable_of t.kind)) × MayPin M columns ts ds
+          → ((i : ℕ) → Taken bs env cs other i columns ts ds → MayPin M columns ts ds) → Unless b (OwnSort M c d (plain_variable t.kind)) × MayPin M columns ts ds
       by_star true f h r = (tt, r (suc j) h.1)
-      by_star false f h r = (by_kind (variable_of t.kind) refl f h.0, r j h.1)
+      by_star false f h r = (by_kind (plain_variable t.kind) refl f h.0, r j h.1)
 
   -- where the definition's formula says X in each scope that gives its columns these values, the use says X
   pub use_says : (M : Structure) (cs : Binders) (other : Assignment) (columns : List Column) (ts : List RawTerm) (ds : List Datum) (j : ℕ) (name : Identifier → Identifier) (f : RawForm) (X : Type 0)

@@ -9,7 +9,7 @@ use Rattle.lrp_model.specs.declared.raw.RawQuery.{RawQuery}
 use Rattle.lrp_model.specs.declared.faults.QueryFault.{QueryFault}
 use Rattle.lrp_model.specs.declared.relations.Relation.{Relation}
 use Rattle.lrp_wide.specs.Inlining.{expanded_file}
-use Rattle.lrp_wide.specs.Limits.{HasTooMany, IsSmall, IsTooDeep, depth_of, most_depth, most_formulas}
+use Rattle.lrp_wide.specs.Limits.{HasTooMany, IsSmallFile, IsTooDeep, depth_of, most_depth, most_formulas}
 use Rattle.lrp_wide.specs.Outcomes.{IsAboveLimit, IsFileRefused, IsRefusedOrMemory, IsWrittenOrMemory}
 use Rattle.lrp_wide.specs.Sizes.{IsSizeOf}
 use Rattle.lrp_wide.specs.WideSorting.{IsOwnFault, own_faults}
@@ -20,7 +20,7 @@ use Rattle.lrp_wide.specs.declared.measures.Size.{Size}
 module _ (db : List Relation) (f : RawFileView) where
   -- ---- limits
 
-  pub small_by_size : (size : Size) → IsSizeOf size (expanded_file db f).body → size.formulas ≤ most_formulas → size.depth ≤ most_depth → IsSmall db f
+  pub small_by_size : (size : Size) → IsSizeOf size (expanded_file db f).body → size.formulas ≤ most_formulas → size.depth ≤ most_depth → IsSmallFile db f
   small_by_size size h few shallow = record {
     few = λ many. omega (arith, h.formulas, few, many);
     shallow = λ deep. omega (arith, h.depth, shallow, deep);
@@ -42,7 +42,7 @@ module _ (db : List Relation) (f : RawFileView) where
 
   -- ---- each file is answered
 
-  pub every_file : (r : Result RawQuery WideRead) → IfOk r (λ made. raw_question_of made ≡ expanded_file db f) → IfErr r (IsFileRefused db f) → IsSmall db f → own_faults db f ≡ []
+  pub every_file : (r : Result RawQuery WideRead) → IfOk r (λ made. raw_question_of made ≡ expanded_file db f) → IfErr r (IsFileRefused db f) → IsSmallFile db f → own_faults db f ≡ []
       → IsWrittenOrMemory (expanded_file db f) r
   every_file (Ok made) written refused small none = written
   every_file (Err (Fault told)) written refused small none = absurd (no_fault told none refused.1)
@@ -50,7 +50,7 @@ module _ (db : List Relation) (f : RawFileView) where
   every_file (Err Depth) written refused small none = absurd (small.shallow refused.deep)
   every_file (Err Memory) written refused small none = refl
 
-  pub every_refusal : (r : Result RawQuery WideRead) → OnOk r (IsSmall db f) → OnOk r (own_faults db f ≡ []) → IfErr r (IsFileRefused db f) → (why : WideRead) → IsFileRefused db f why → IsRefusedOrMemory why r
+  pub every_refusal : (r : Result RawQuery WideRead) → OnOk r (IsSmallFile db f) → OnOk r (own_faults db f ≡ []) → IfErr r (IsFileRefused db f) → (why : WideRead) → IsFileRefused db f why → IsRefusedOrMemory why r
   every_refusal r small none refused Memory h = tt
   every_refusal (Ok made) small none refused (Fault told) h = no_fault told none h.1
   every_refusal (Ok made) small none refused Formulas h = small.few h

@@ -10,16 +10,17 @@ use Rattle.lrp_wide.specs.Inlining.{expanded_file}
 use Rattle.lrp_wide.specs.Laws.{KeepsAnswers}
 use Rattle.lrp_wide.specs.Outcomes.{IsExpandableDefinition, IsExpandableFile}
 use Rattle.lrp_wide.specs.Stars.{DefinesNoStar}
-use Rattle.lrp_wide.specs.WideSorting.{own_faults, or_else, IsWellSortedFile}
+use Rattle.lrp_wide.specs.WideSorting.{own_faults, faults_or_later, IsWellSortedFile}
 use Rattle.lrp_wide.proofs.FreshWritten.{DefinesLetters, FileLetters, file_letters}
 use Rattle.lrp_wide.proofs.LawfulFiles.{expandable_file, nothing_left}
 use Rattle.lrp_wide.proofs.SatisfyFresh.{fresh_body}
 use Rattle.lrp_wide.proofs.SatisfyAnswers.{answers_kept}
-use Rattle.lrp_wide.proofs.SortedFile.{IsPlainText, ArePlainTexts, IsReached, query_distinct, known_file, sorted_file}
+use Rattle.lrp_tense.proofs.HeadNames.{query_distinct}
+use Rattle.lrp_wide.proofs.SortedFile.{IsPlainText, ArePlainTexts, IsReached, known_file, sorted_file}
 use Rattle.lrp_wide.proofs.TextDomains.{have_same_texts}
 
 -- neither its own texts nor the expanded query have faults
-neither_faulty : (own others : List QueryFault) → or_else own others ≡ [] → (own ≡ []) × (others ≡ [])
+neither_faulty : (own others : List QueryFault) → faults_or_later own others ≡ [] → (own ≡ []) × (others ≡ [])
 neither_faulty [] others e = (refl, e)
 neither_faulty (f ∷ fs) others e = cc
 

@@ -1,19 +1,17 @@
 -- The texts of a file that has no faults of its own are well-sorted, each beside the definitions before it.
-use Rattle.std.proofs.Common.{◌≡◌, ◌≢◌, ◌↔◌, ◌⊎◌, inl, inr, ⊎_elim, ℕ, Bool, true, false, ◌||◌, List, [], ◌∷◌, ◌++◌, Option, Some, None, map, refl, sym, ap, subst, ◌∙◌, cond, append_assoc, append-nil, Contains}
+use Rattle.std.proofs.Common.{◌≡◌, ◌↔◌, ◌⊎◌, inl, inr, ⊎_elim, ℕ, Bool, true, false, ◌||◌, List, [], ◌∷◌, ◌++◌, Option, Some, None, map, refl, sym, ap, subst, ◌∙◌, cond, append_assoc, append-nil, Contains}
 use Rattle.std.specs.Prelude.{reverse, flat_map, filter}
 use Rattle.std.proofs.lemmas.List.{reverse-append}
 use Rattle.std.specs.List.{AllByRecursion}
 use Rattle.std.specs.Str.{bytes_eq}
 use Rattle.std.specs.Cmp.Lexicographic.{bytes_decides}
 use Rattle.lrp_model.specs.Texts.{Text, Identifier}
-use Rattle.lrp_model.specs.DatabaseMeaning.{column_of}
 use Rattle.lrp_model.specs.Domains.{database_texts, term_texts}
 use Rattle.lrp_model.specs.Sorts.{same_sort}
 use Rattle.lrp_model.specs.Faults.{fault_if, is_named_in, ninth}
 use Rattle.lrp_model.specs.Rows.{relation_named}
 use Rattle.lrp_model.specs.Checked.{term_of}
-use Rattle.lrp_model.specs.Satisfaction.{HaveDistinctNames}
-use Rattle.lrp_model.specs.Sorting.{Binders, binder_faults, form_faults, head_faults, query_fault, query_faults, widened}
+use Rattle.lrp_model.specs.Sorting.{Binders, form_faults, head_faults, query_fault, query_faults, widened}
 use Rattle.lrp_model.specs.RawQueries.{RawForm, RawForms, RawQuestion, RawDefinitionView, RawFileView, raw_atom, raw_compare, raw_member, raw_not, raw_and, raw_or, raw_implies, raw_group, raw_exists, raw_forall, raw_ranged, raw_paired, no_raws, raw}
 use Rattle.lrp_model.specs.declared.relations.Sort.{Sort}
 use Rattle.lrp_model.specs.declared.relations.Sort.TheVariants.{Time, Data, Named}
@@ -23,7 +21,6 @@ use Rattle.lrp_model.specs.declared.faults.QueryKind.TheVariants.{Wide, Defined}
 use Rattle.lrp_model.specs.declared.tokens.Place.{Place}
 use Rattle.lrp_model.specs.declared.raw.Ranged.TheVariants.{Once, Always}
 use Rattle.lrp_model.specs.declared.raw.Paired.TheVariants.{Since, Until}
-use Rattle.lrp_model.specs.declared.raw.RawColumn.{RawColumn}
 use Rattle.lrp_model.specs.declared.raw.RawTerm.{RawTerm}
 use Rattle.lrp_model.specs.declared.raw.RawTermKind.{RawTermKind}
 use Rattle.lrp_model.specs.declared.raw.RawTermKind.TheVariants.{Int, Text as text_kind, Var, Shifted}
@@ -33,11 +30,12 @@ use Rattle.lrp_model.proofs.Logic.{all_append}
 use Rattle.lrp_tense.specs.Meaning.{operator_variable}
 use Rattle.lrp_tense.specs.Expanding.{Naming, renamed_to, moment_of, between_of, operators, operator_number, expanded, expanded_each, expanded_question, HasPlainNames}
 use Rattle.lrp_tense.proofs.NoOperators.{none_left}
+use Rattle.lrp_tense.proofs.HeadNames.{query_distinct}
 use Rattle.lrp_tense.proofs.Scoping.{own_name, other_name}
 use Rattle.lrp_wide.specs.Meaning.{Signature, signature, own_texts, own_texts_each, atom_names, atom_names_each, named_by, file_texts, wide_domain, wide_structure}
 use Rattle.lrp_wide.specs.Stars.{BindsNoStar}
 use Rattle.lrp_wide.specs.Inlining.{Known, inlined, known_with}
-use Rattle.lrp_wide.specs.WideSorting.{relation_of, query_of, starred, name_faults, faults_beside, text_faults, own_faults}
+use Rattle.lrp_wide.specs.WideSorting.{defined_relation, query_of, starred, name_faults, faults_beside, text_faults, own_faults}
 use Rattle.lrp_wide.proofs.SatisfyNotions.{columns_of, TextIn, TextsIn, HasTexts, HaveTexts, IsSortedText, AreSortedTexts}
 use Rattle.lrp_wide.proofs.SatisfyFile.{find_last}
 use Rattle.lrp_wide.proofs.FreshTexts.{HasLetters, expanded_letters}
@@ -47,32 +45,7 @@ use Rattle.lrp_wide.proofs.TextNamed.{definition_texts, Brings, brings_any, brin
 use Rattle.lrp_wide.proofs.TextFile.{IsKnownText, AreKnownTexts, AreBrought, GivesColumns, HasColumns, columns_given, own_given, given_more, brought_first, brought_more, file_columns, find_front}
 use Rattle.lrp_wide.proofs.TextDomains.{contains_any, any_here}
 
--- ---- names of columns and of relations
-
--- a later column has no name that is bound
-distinct_from : (db : List Relation) (bs : Binders) (cs : List RawColumn) → head_faults db bs cs ≡ [] → (n : Identifier) → is_named_in (map (λ b. b.name) bs) n ≡ true → AllByRecursion (λ d. n ≢ d.name) (map column_of cs)
-distinct_from db bs [] e n k = tt
-distinct_from db bs (c ∷ cs) e n k =
-    let x = both_none (binder_faults db bs c) (head_faults db (c ∷ bs) cs) e in
-    let free : is_named_in (map (λ b. b.name) bs) c.name ≡ false = none_if (is_named_in (map (λ b. b.name) bs) c.name) _ (both_none (fault_if (is_named_in (map (λ b. b.name) bs) c.name) _) _ x.0).0 in (
-      (λ same. let t : is_named_in (map (λ b. b.name) bs) c.name ≡ true = subst (λ m. is_named_in (map (λ b. b.name) bs) m ≡ true) same k in cc),
-      distinct_from db (c ∷ bs) cs x.1 n (or_so (bytes_eq n c.name) (is_named_in (map (λ b. b.name) bs) n) k),
-    )
-  where
-    or_so : (a b : Bool) → b ≡ true → (a || b) ≡ true
-    or_so true b e = refl
-    or_so false b e = e
-
-head_distinct : (db : List Relation) (bs : Binders) (cs : List RawColumn) → head_faults db bs cs ≡ [] → HaveDistinctNames (map column_of cs)
-head_distinct db bs [] e = tt
-head_distinct db bs (c ∷ cs) e =
-    let x = both_none (binder_faults db bs c) (head_faults db (c ∷ bs) cs) e in
-    (distinct_from db (c ∷ bs) cs x.1 c.name (ap (λ t. t || is_named_in (map (λ b. b.name) bs) c.name) (own_name c.name)), head_distinct db (c ∷ bs) cs x.1)
-
-pub query_distinct : (db : List Relation) (q : RawQuestion) → query_faults db q ≡ [] → HaveDistinctNames (map column_of q.head)
-query_distinct db q e =
-    let x = both_none (head_faults db [] q.head ++ ninth (query_fault Wide) 0 0 q.head) (widened (reverse q.head) [] q.body (form_faults q.body db (reverse q.head))) e in
-    head_distinct db [] q.head (both_none (head_faults db [] q.head) (ninth (query_fault Wide) 0 0 q.head) x.0).0
+-- ---- names of relations
 
 unnamed : (all : List Relation) (n : Identifier) → is_named_in (map (λ r. r.name) all) n ≡ false → relation_named all n ≡ None
 unnamed [] n e = refl
@@ -158,14 +131,14 @@ ArePlainTexts ds q = AllByRecursion (λ d. IsPlainText d.body) ds × IsPlainText
 known_texts : (all : List Relation) (ds : List RawDefinitionView) (q : RawQuestion) → ArePlainTexts ds q → name_faults all ds ≡ [] → faults_beside all ds q ≡ [] → AreKnownTexts all ds q
 known_texts all [] q t n e = known_text all q t.1 e
 known_texts all (d ∷ ds) q t n e =
-    let x = both_none (fault_if (is_named_in (map (λ r. r.name) all) d.name) (query_fault Defined d.place)) (name_faults (all ++ relation_of d ∷ []) ds) n in
-    let y = both_none (query_faults all (starred all (query_of d))) (faults_beside (all ++ relation_of d ∷ []) ds q) e in (
+    let x = both_none (fault_if (is_named_in (map (λ r. r.name) all) d.name) (query_fault Defined d.place)) (name_faults (all ++ defined_relation d ∷ []) ds) n in
+    let y = both_none (query_faults all (starred all (query_of d))) (faults_beside (all ++ defined_relation d ∷ []) ds q) e in (
       record {
         fresh = unnamed all d.name (none_if (is_named_in (map (λ r. r.name) all) d.name) (query_fault Defined d.place) x.0);
         distinct = query_distinct all (starred all (query_of d)) y.0;
         text = known_text all (query_of d) t.0.0 y.0;
       },
-      known_texts (all ++ relation_of d ∷ []) ds q (t.0.1, t.1) x.1 y.1,
+      known_texts (all ++ defined_relation d ∷ []) ds q (t.0.1, t.1) x.1 y.1,
     )
 
 pub known_file : (db : List Relation) (f : RawFileView) → ArePlainTexts f.definitions f.query → own_faults db f ≡ [] → AreKnownTexts db f.definitions f.query
@@ -269,11 +242,11 @@ module _ (db : List Relation) (f : RawFileView) where
       let turned : reverse ds ++ d ∷ before ≡ reverse (d ∷ ds) ++ before = sym (ap (λ l. l ++ before) (reverse-append (d ∷ []) ds) ∙ append_assoc (reverse ds) (d ∷ []) before) in
       let other : bytes_eq d.name n ≡ false = other_name d.name n (λ e. let free : relation_named all n ≡ None = subst (λ m. relation_named all m ≡ None) e t.0.fresh in subst IsNamed free k) in
       subst (λ l. Brings x T l (n ∷ []) ↔ Brings x T before (n ∷ [])) turned
-      (iff_then (stays x q (all ++ relation_of d ∷ []) n (still (relation_named all n) refl k) (d ∷ before) ds t.1) (brings_other x T d before n other))
+      (iff_then (stays x q (all ++ defined_relation d ∷ []) n (still (relation_named all n) refl k) (d ∷ before) ds t.1) (brings_other x T d before n other))
     where
-      still : (o : Option Relation) → relation_named all n ≡ o → IsNamed o → IsNamed (relation_named (all ++ relation_of d ∷ []) n)
+      still : (o : Option Relation) → relation_named all n ≡ o → IsNamed o → IsNamed (relation_named (all ++ defined_relation d ∷ []) n)
       still None e k = absurd k
-      still (Some r) e k = subst IsNamed (sym (find_front (λ r. bytes_eq r.name n) all (relation_of d ∷ []) r e)) tt
+      still (Some r) e k = subst IsNamed (sym (find_front (λ r. bytes_eq r.name n) all (defined_relation d ∷ []) r e)) tt
 
   any_brings : (x : Sort × Text) (ds : List RawDefinitionView) (n : Identifier) (names : List Identifier) → AnyOf (λ m. m ≡ n) names → Brings x T ds (n ∷ []) → Brings x T ds names
   any_brings x ds n names a b = (brings_any x T ds names).1 (found names a)
@@ -289,17 +262,17 @@ module _ (db : List Relation) (f : RawFileView) where
     sorted_texts all ks before (d ∷ ds) e h g t k =
         let columns : HasColumns T all = columns_given T all (d ∷ ds) g in
         let turned : reverse ds ++ d ∷ before ≡ reverse f.definitions = sym (ap (λ l. l ++ before) (reverse-append (d ∷ []) ds) ∙ append_assoc (reverse ds) (d ∷ []) before) ∙ e in
-        let named_here : IsNamed (relation_named (all ++ relation_of d ∷ []) d.name) = subst IsNamed (sym (find_last (λ r. bytes_eq r.name d.name) (relation_of d) (own_name d.name) all k.0.fresh)) tt in
+        let named_here : IsNamed (relation_named (all ++ defined_relation d ∷ []) d.name) = subst IsNamed (sym (find_last (λ r. bytes_eq r.name d.name) (defined_relation d) (own_name d.name) all k.0.fresh)) tt in
         -- what the definition has, and what its names bring, its name brings
         let brings : (x : Sort × Text) → Among x (definition_texts x T d) ⊎ Brings x T before (atom_names d.body) → Brings x T (reverse f.definitions) (d.name ∷ []) =
-        λ x b. subst (λ l. Brings x T l (d.name ∷ [])) turned ((stays x f.query (all ++ relation_of d ∷ []) d.name named_here (d ∷ before) ds k.1).1 ((brings_itself x T d before ((h x).nothing d.name k.0.fresh)).1 b)) in (
+        λ x b. subst (λ l. Brings x T l (d.name ∷ [])) turned ((stays x f.query (all ++ defined_relation d ∷ []) d.name named_here (d ∷ before) ds k.1).1 ((brings_itself x T d before ((h x).nothing d.name k.0.fresh)).1 b)) in (
           record {
             fresh = k.0.fresh;
             distinct = k.0.distinct;
             text = λ r. sorted_text all columns (query_of d) t.0.0 k.0.text (λ x a. r x (brings x (inl a)))
                 (λ n i x b a. r x (brings x (inr (any_brings x before n (atom_names d.body) a ((stays x f.query all n i before (d ∷ ds) k).0 (subst (λ l. Brings x T l (n ∷ [])) (sym e) b))))));
           },
-          sorted_texts (all ++ relation_of d ∷ []) (ks ++ known_with db ks d ∷ []) (d ∷ before) ds turned
+          sorted_texts (all ++ defined_relation d ∷ []) (ks ++ known_with db ks d ∷ []) (d ∷ before) ds turned
               (λ x. brought_more x db T all ks before (h x) columns d k.0.fresh k.0.distinct k.0.text (own_given T all d ds g k.0.fresh)) (given_more T all d ds g) (t.0.1, t.1) k.1,
         )
 

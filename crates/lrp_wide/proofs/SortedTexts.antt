@@ -22,7 +22,7 @@ use Rattle.lrp_tense.specs.Expanding.{name_term}
 use Rattle.lrp_tense.proofs.Scoping.{other_name, bound_further}
 use Rattle.lrp_tense.proofs.Timely.{timely}
 use Rattle.lrp_wide.specs.Meaning.{is_star, atom_names, atom_names_each}
-use Rattle.lrp_wide.specs.Inlining.{Setting, own_setting, set_kind, set_term, star_variable, added, some_each, star_columns, star_terms, starred_atom, atom_form, without_relation, meant_by, inlined, inlined_each}
+use Rattle.lrp_wide.specs.Inlining.{UseSetting, own_setting, set_kind, set_term, star_variable, column_added, some_each, star_columns, star_terms, starred_atom, inlined_atom, without_relation, meant_by, inlined, inlined_each}
 use Rattle.lrp_wide.proofs.SatisfyNotions.{columns_of, Unless, FitsColumn, FitColumns, IsFit, AreFit}
 use Rattle.lrp_wide.proofs.SatisfyFresh.{binder_new}
 use Rattle.lrp_wide.proofs.FreshLetters.{HasLetter, no_tilde}
@@ -46,14 +46,14 @@ stars_hide_none p v h (c ∷ cs) [] k bs = refl
 stars_hide_none p v h (c ∷ cs) (t ∷ ts) k bs = by (is_star t) (λ i ds. stars_hide_none p v h cs ts i ds)
   where
     by : (b : Bool) → ((i : ℕ) (ds : Binders) → binder_sort (inside_each (star_columns p i cs ts) ds) v ≡ binder_sort ds v)
-        → binder_sort (inside_each (if b then added p (star_variable k) c.sort ∷ star_columns p (suc k) cs ts else star_columns p k cs ts) bs) v ≡ binder_sort bs v
-    by true r = r (suc k) (added p (star_variable k) c.sort ∷ bs) ∙ bound_further (added p (star_variable k) c.sort) bs v (other_name (star_variable k) v (λ e. no_tilde v _ h (sym e)))
+        → binder_sort (inside_each (if b then column_added p (star_variable k) c.sort ∷ star_columns p (suc k) cs ts else star_columns p k cs ts) bs) v ≡ binder_sort bs v
+    by true r = r (suc k) (column_added p (star_variable k) c.sort ∷ bs) ∙ bound_further (column_added p (star_variable k) c.sort) bs v (other_name (star_variable k) v (λ e. no_tilde v _ h (sym e)))
     by false r = r k bs
 
 -- ---- terms
 
 -- a text's own setting changes no term
-abbrev pub own_alone : Setting
+abbrev pub own_alone : UseSetting
 own_alone = own_setting (λ p. 1)
 
 pub own_kind : (number : Place → ℕ) (k : RawTermKind) → set_kind (own_setting number) k ≡ k
@@ -151,7 +151,7 @@ mutual
   pub sound : (f : RawForm) → HasNoOperator f → HasLetters f → (db : List Relation) (bs : Binders) → form_faults (inlined db [] f own_alone) db bs ≡ [] → IsSound db bs f
   sound (raw_atom p n ts) o l db bs e =
       let cs : List Column = columns_in (relation_named db n) in
-      let d : form_faults (starred_atom own_alone p 1 n cs ts) db bs ≡ [] = subst (λ k. form_faults (atom_form own_alone p 1 n cs ts k) db bs ≡ []) (none_before db n) e in
+      let d : form_faults (starred_atom own_alone p 1 n cs ts) db bs ≡ [] = subst (λ k. form_faults (inlined_atom own_alone p 1 n cs ts k) db bs ≡ []) (none_before db n) e in
       let x = atom_fits (relation_named db n) p ts bs l (each_faultless p (star_columns p 1 cs ts) (raw_atom p n (star_terms own_alone p 1 cs ts)) db bs d) in
       record { fit = x.1; names = (x.0, tt) }
   sound (raw_compare p l op r) o h db bs e =

@@ -1,69 +1,26 @@
 -- The texts of each sort are the same in a file and in its expanded query.
-use Rattle.std.proofs.Common.{◌≡◌, ◌≢◌, ◌↔◌, ◌⊎◌, inl, inr, ⊎_elim, Bool, true, false, List, [], ◌∷◌, ◌++◌, Option, Some, None, map, refl, sym, ap, subst, ◌∙◌, cond, append-nil, Contains}
+use Rattle.std.proofs.Common.{◌≡◌, ◌↔◌, ◌⊎◌, inl, inr, ⊎_elim, Bool, true, false, List, [], ◌∷◌, ◌++◌, map, refl, sym, subst, ◌∙◌, cond, append-nil, Contains}
 use Rattle.std.specs.Prelude.{flat_map, reverse, filter}
-use Rattle.std.proofs.lemmas.List.{reverse-append}
-use Rattle.std.specs.List.{AllByRecursion}
-use Rattle.std.specs.Str.{bytes_eq}
-use Rattle.std.specs.Cmp.Lexicographic.{bytes_decides}
 use Rattle.lrp_model.specs.Texts.{Text, Identifier, in_order}
 use Rattle.lrp_model.specs.DatabaseMeaning.{column_of}
 use Rattle.lrp_model.specs.Sorts.{same_sort}
 use Rattle.lrp_model.specs.Checked.{plain, plain_question}
 use Rattle.lrp_model.specs.Domains.{database_texts, form_texts, domain, all_texts}
 use Rattle.lrp_model.specs.Satisfaction.{HaveDistinctNames}
-use Rattle.lrp_model.specs.Sorting.{Binders, binder_sort}
 use Rattle.lrp_model.specs.RawQueries.{RawForm, RawQuestion, RawFileView, HasNoOperator}
 use Rattle.lrp_model.specs.declared.relations.Sort.{Sort}
 use Rattle.lrp_model.specs.declared.relations.Relation.{Relation}
-use Rattle.lrp_model.specs.declared.raw.RawColumn.{RawColumn}
 use Rattle.lrp_model.proofs.DomainLaws.{contains_in_order}
 use Rattle.lrp_model.proofs.Decided.{cons_cases, contains_first, contains_later, contains_none}
-use Rattle.lrp_tense.proofs.Scoping.{other_name, bound_here, bound_further}
+use Rattle.lrp_tense.proofs.HeadNames.{AgreeOn, sort_among, turned_sort}
 use Rattle.lrp_wide.specs.Meaning.{signature, own_texts, atom_names, named_by, file_texts, wide_domain}
 use Rattle.lrp_wide.specs.Inlining.{known_of, own_setting, counted_from, counted_in, expanded_file}
 use Rattle.lrp_wide.proofs.SatisfyNotions.{BindsFresh}
 use Rattle.lrp_wide.proofs.SatisfyAnswers.{HaveSameTexts}
-use Rattle.lrp_wide.proofs.TextSays.{Among, AnyOf, Says, own_said, sort_among, either, no_second, same_iff, by_list, iff_then, turned_iff, among_both}
+use Rattle.lrp_wide.proofs.TextSays.{Among, AnyOf, Says, own_said, either, no_second, same_iff, by_list, iff_then, turned_iff, among_both}
 use Rattle.lrp_wide.proofs.TextUses.{Nothing, own_columns}
 use Rattle.lrp_wide.proofs.TextNamed.{definition_texts, Brings}
-use Rattle.lrp_wide.proofs.TextFile.{AreKnownTexts, file_columns, columns_given, brought_first, query_brings, AgreeOn, plain_texts}
-
--- ---- the head, read backwards
-
-sort_front : (xs ys : Binders) (n : Identifier) (s : Sort) → binder_sort xs n ≡ Some s → binder_sort (xs ++ ys) n ≡ Some s
-sort_front [] ys n s e = cc
-sort_front (x ∷ xs) ys n s e = by (bytes_eq x.name n) refl (λ k. sort_front xs ys n s k)
-  where
-    by : (b : Bool) → bytes_eq x.name n ≡ b → (binder_sort xs n ≡ Some s → binder_sort (xs ++ ys) n ≡ Some s) → binder_sort (x ∷ (xs ++ ys)) n ≡ Some s
-    by true t r = bound_here x (xs ++ ys) n t ∙ sym (bound_here x xs n t) ∙ e
-    by false t r = bound_further x (xs ++ ys) n t ∙ r (sym (bound_further x xs n t) ∙ e)
-
-sort_behind : (xs ys : Binders) (n : Identifier) → binder_sort xs n ≡ None → binder_sort (xs ++ ys) n ≡ binder_sort ys n
-sort_behind [] ys n e = refl
-sort_behind (x ∷ xs) ys n e = by (bytes_eq x.name n) refl (λ k. sort_behind xs ys n k)
-  where
-    by : (b : Bool) → bytes_eq x.name n ≡ b → (binder_sort xs n ≡ None → binder_sort (xs ++ ys) n ≡ binder_sort ys n) → binder_sort (x ∷ (xs ++ ys)) n ≡ binder_sort ys n
-    by true t r = let z : Some x.sort ≡ None = sym (bound_here x xs n t) ∙ e in cc
-    by false t r = bound_further x (xs ++ ys) n t ∙ r (sym (bound_further x xs n t) ∙ e)
-
-not_there : (n : Identifier) (cs : List RawColumn) → AllByRecursion (λ d. n ≢ d.name) (map column_of cs) → binder_sort cs n ≡ None
-not_there n [] h = refl
-not_there n (c ∷ cs) h = bound_further c cs n (other_name c.name n (λ e. h.0 (sym e))) ∙ not_there n cs h.1
-
--- names that differ have the same sorts in both orders
-pub turned_sort : (cs : List RawColumn) → HaveDistinctNames (map column_of cs) → (n : Identifier) → binder_sort (reverse cs) n ≡ binder_sort cs n
-turned_sort [] h n = refl
-turned_sort (c ∷ cs) h n = ap (λ l. binder_sort l n) (reverse-append (c ∷ []) cs) ∙ by (bytes_eq c.name n) refl (turned_sort cs h.1 n)
-  where
-    further : (o : Option Sort) → bytes_eq c.name n ≡ false → binder_sort (reverse cs) n ≡ o → binder_sort (reverse cs) n ≡ binder_sort cs n → binder_sort (reverse cs ++ c ∷ []) n ≡ binder_sort (c ∷ cs) n
-    further (Some s) t e r = sort_front (reverse cs) (c ∷ []) n s e ∙ sym e ∙ r ∙ sym (bound_further c cs n t)
-    further None t e r = sort_behind (reverse cs) (c ∷ []) n e ∙ bound_further c [] n t ∙ sym e ∙ r ∙ sym (bound_further c cs n t)
-
-    by : (b : Bool) → bytes_eq c.name n ≡ b → binder_sort (reverse cs) n ≡ binder_sort cs n → binder_sort (reverse cs ++ c ∷ []) n ≡ binder_sort (c ∷ cs) n
-    by true t r =
-        let none : binder_sort cs n ≡ None = subst (λ m. binder_sort cs m ≡ None) ((bytes_decides c.name n).0 t) (not_there c.name cs h.0) in
-        sort_behind (reverse cs) (c ∷ []) n (r ∙ none) ∙ bound_here c [] n t ∙ sym (bound_here c cs n t)
-    by false t r = further (binder_sort (reverse cs) n) t refl r
+use Rattle.lrp_wide.proofs.TextFile.{AreKnownTexts, file_columns, columns_given, brought_first, query_brings, plain_texts}
 
 -- ---- texts of one sort
 

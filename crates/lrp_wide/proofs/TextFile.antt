@@ -1,6 +1,6 @@
 -- The texts of a file are those of its expanded query.
 use Rattle.std.proofs.Common.{◌≡◌, ◌↔◌, ◌⊎◌, Bool, true, false, List, [], ◌∷◌, ◌++◌, Option, Some, None, map, refl, sym, ap, ap₂, subst, ◌∙◌, cond, append_assoc}
-use Rattle.std.specs.Prelude.{reverse, find, option_map, unwrap_or}
+use Rattle.std.specs.Prelude.{reverse, find, unwrap_or}
 use Rattle.std.proofs.lemmas.List.{reverse-append}
 use Rattle.std.specs.List.{AllByRecursion}
 use Rattle.std.specs.Str.{bytes_eq}
@@ -25,13 +25,14 @@ use Rattle.lrp_model.proofs.Logic.{all_append}
 use Rattle.lrp_tense.specs.Expanding.{HasPlainNames, expanded_question}
 use Rattle.lrp_tense.proofs.NoOperators.{none_left}
 use Rattle.lrp_tense.proofs.Scoping.{own_name, bound_here, bound_further}
+use Rattle.lrp_tense.proofs.HeadNames.{AgreeOn, agree_more, sort_among}
 use Rattle.lrp_wide.specs.Meaning.{Signature, signature, columns_where, own_texts, own_texts_each, atom_names}
-use Rattle.lrp_wide.specs.Inlining.{Known, Setting, without_relation, known_named, meant_by, inlined, known_with, known_of}
-use Rattle.lrp_wide.specs.WideSorting.{relation_of, query_of}
+use Rattle.lrp_wide.specs.Inlining.{Known, UseSetting, without_relation, known_named, meant_by, inlined, known_with, known_of}
+use Rattle.lrp_wide.specs.WideSorting.{defined_relation, query_of}
 use Rattle.lrp_wide.proofs.SatisfyNotions.{columns_of, IsFit, AreFit, BindsFresh, BindFresh}
 use Rattle.lrp_wide.proofs.SatisfyFile.{find_other, find_last, find_neither}
 use Rattle.lrp_wide.proofs.SortedTexts.{IsNamed, AreNamedIn}
-use Rattle.lrp_wide.proofs.TextSays.{Among, Says, own_said, shown, shown_is, are_data, compare_shown, sort_among, either, same_iff, iff_then, turned_iff}
+use Rattle.lrp_wide.proofs.TextSays.{Among, Says, own_said, shown, shown_is, are_data, compare_shown, either, same_iff, iff_then, turned_iff}
 use Rattle.lrp_wide.proofs.TextOperators.{text_says}
 use Rattle.lrp_wide.proofs.TextUses.{HasSorts, HaveSorts, Nothing, own_columns, SaysInUse, IsMet, IsMeant, inlined_says}
 use Rattle.lrp_wide.proofs.TextNamed.{Brings, brings_any, brings_itself, brings_other}
@@ -110,7 +111,7 @@ module _ (x : Sort × Text) (db : List Relation) (T : Signature) where
   all_meant all ks ds h columns (n ∷ names) k = ((columns n k.0, h.met n k.0), all_meant all ks ds h columns names k.1)
 
   -- a text that is written out in a setting has its own texts and those that its names bring
-  text_brings : (all : List Relation) (ks : List Known) (ds : List RawDefinitionView) → AreBrought x db T all ks ds → HasColumns T all → (q : RawQuestion) → IsKnownText all q → (s : Setting) (cs : Binders) → HasSorts s.name (reverse q.head) cs
+  text_brings : (all : List Relation) (ks : List Known) (ds : List RawDefinitionView) → AreBrought x db T all ks ds → HasColumns T all → (q : RawQuestion) → IsKnownText all q → (s : UseSetting) (cs : Binders) → HasSorts s.name (reverse q.head) cs
       → BindsFresh (inlined db ks (expanded_question q).body s) cs → Says x (own_columns db) Nothing (inlined db ks (expanded_question q).body s) cs ↔ (Among x (own_texts q.body T (reverse q.head)) ⊎ Brings x T ds (atom_names q.body))
   text_brings all ks ds h columns q t s cs sorts fresh =
       iff_then (inlined_says x db ks (columns_of all) T (BringsOf x T ds) (expanded_question q).body s (reverse q.head) cs (none_left q.body _ []) t.fit (all_meant all ks ds h columns (atom_names (expanded_question q).body) t.known) sorts fresh)
@@ -124,7 +125,7 @@ module _ (x : Sort × Text) (db : List Relation) (T : Signature) where
     in_use s cs f sorts =
         iff_then (text_brings all ks ds h columns (query_of d) t s cs (sorts_of_columns s.name cs d.columns sorts) f) (turned_iff (brings_itself x T d ds (h.nothing d.name fresh)))
 
-    met_more : (n : Identifier) (b : Bool) → bytes_eq d.name n ≡ b → IsNamed (relation_named (all ++ relation_of d ∷ []) n) → IsMet x db T (BringsOf x T (d ∷ ds)) n (meant_by db (ks ++ known_with db ks d ∷ []) n)
+    met_more : (n : Identifier) (b : Bool) → bytes_eq d.name n ≡ b → IsNamed (relation_named (all ++ defined_relation d ∷ []) n) → IsMet x db T (BringsOf x T (d ∷ ds)) n (meant_by db (ks ++ known_with db ks d ∷ []) n)
     met_more n true e k =
         let same : d.name ≡ n = (bytes_decides d.name n).0 e in
         let free : relation_named all n ≡ None = subst (λ m. relation_named all m ≡ None) same fresh in
@@ -132,7 +133,7 @@ module _ (x : Sort × Text) (db : List Relation) (T : Signature) where
         subst (IsMet x db T (BringsOf x T (d ∷ ds)) n) (sym here) (sym own ∙ ap T same, (distinct, subst (λ m. SaysInUse x db T (BringsOf x T (d ∷ ds)) m (known_with db ks d)) same in_use))
     met_more n false e k =
         let there : meant_by db (ks ++ known_with db ks d ∷ []) n ≡ meant_by db ks n = ap (λ o. without_relation (relation_named db n) o) (find_other (λ k. bytes_eq k.name n) (known_with db ks d) e ks) in
-        let old : IsMet x db T (BringsOf x T ds) n (meant_by db ks n) = h.met n (subst IsNamed (find_other (λ r. bytes_eq r.name n) (relation_of d) e all) k) in
+        let old : IsMet x db T (BringsOf x T ds) n (meant_by db ks n) = h.met n (subst IsNamed (find_other (λ r. bytes_eq r.name n) (defined_relation d) e all) k) in
         subst (IsMet x db T (BringsOf x T (d ∷ ds)) n) (sym there) (by (meant_by db ks n) old)
       where
         more : BringsOf x T (d ∷ ds) n ↔ BringsOf x T ds n
@@ -142,15 +143,15 @@ module _ (x : Sort × Text) (db : List Relation) (T : Signature) where
         by None m = (m.0, λ y. m.1 (more.0 y))
         by (Some k) m = (m.0, (m.1.0, λ s cs f sorts. iff_then (m.1.1 s cs f sorts) (turned_iff more)))
 
-    pub brought_more : AreBrought x db T (all ++ relation_of d ∷ []) (ks ++ known_with db ks d ∷ []) (d ∷ ds)
+    pub brought_more : AreBrought x db T (all ++ defined_relation d ∷ []) (ks ++ known_with db ks d ∷ []) (d ∷ ds)
     brought_more = record {
       met = λ n k. met_more n (bytes_eq d.name n) refl k;
-      relations = λ n e. h.relations n (find_neither (λ r. bytes_eq r.name n) (relation_of d) all e).0;
+      relations = λ n e. h.relations n (find_neither (λ r. bytes_eq r.name n) (defined_relation d) all e).0;
       definitions = λ n e.
-          let y = find_neither (λ r. bytes_eq r.name n) (relation_of d) all e in
+          let y = find_neither (λ r. bytes_eq r.name n) (defined_relation d) all e in
           find_other (λ k. bytes_eq k.name n) (known_with db ks d) y.1 ks ∙ h.definitions n y.0;
       nothing = λ n e b.
-          let y = find_neither (λ r. bytes_eq r.name n) (relation_of d) all e in
+          let y = find_neither (λ r. bytes_eq r.name n) (defined_relation d) all e in
           h.nothing n y.0 ((brings_other x T d ds n y.1).0 b);
     }
 
@@ -187,21 +188,21 @@ find_behind {A} t (x ∷ xs) ys e = by (t x) e (λ k. find_behind t xs ys k)
 
 -- the relations with those of further definitions give each name its columns
 abbrev pub GivesColumns : Signature → List Relation → List RawDefinitionView → Type 0
-GivesColumns T all ds = (n : Identifier) (r : Relation) → relation_named (all ++ map relation_of ds) n ≡ Some r → T n ≡ r.columns
+GivesColumns T all ds = (n : Identifier) (r : Relation) → relation_named (all ++ map defined_relation ds) n ≡ Some r → T n ≡ r.columns
 
 pub columns_given : (T : Signature) (all : List Relation) (ds : List RawDefinitionView) → GivesColumns T all ds → HasColumns T all
 columns_given T all ds g n k = by (relation_named all n) refl k
   where
     by : (o : Option Relation) → relation_named all n ≡ o → IsNamed o → columns_of all n ≡ T n
     by None e k = absurd k
-    by (Some r) e k = ap columns_in e ∙ sym (g n r (find_front (λ r. bytes_eq r.name n) all (map relation_of ds) r e))
+    by (Some r) e k = ap columns_in e ∙ sym (g n r (find_front (λ r. bytes_eq r.name n) all (map defined_relation ds) r e))
 
 pub own_given : (T : Signature) (all : List Relation) (d : RawDefinitionView) (ds : List RawDefinitionView) → GivesColumns T all (d ∷ ds) → relation_named all d.name ≡ None → T d.name ≡ map column_of d.columns
 own_given T all d ds g fresh =
-    g d.name (relation_of d) (find_behind (λ r. bytes_eq r.name d.name) all (map relation_of (d ∷ ds)) fresh ∙ ap (λ b. cond b (Some (relation_of d)) (relation_named (map relation_of ds) d.name)) (own_name d.name))
+    g d.name (defined_relation d) (find_behind (λ r. bytes_eq r.name d.name) all (map defined_relation (d ∷ ds)) fresh ∙ ap (λ b. cond b (Some (defined_relation d)) (relation_named (map defined_relation ds) d.name)) (own_name d.name))
 
-pub given_more : (T : Signature) (all : List Relation) (d : RawDefinitionView) (ds : List RawDefinitionView) → GivesColumns T all (d ∷ ds) → GivesColumns T (all ++ relation_of d ∷ []) ds
-given_more T all d ds g n r e = g n r (ap (λ l. relation_named l n) (sym (append_assoc all (relation_of d ∷ []) (map relation_of ds))) ∙ e)
+pub given_more : (T : Signature) (all : List Relation) (d : RawDefinitionView) (ds : List RawDefinitionView) → GivesColumns T all (d ∷ ds) → GivesColumns T (all ++ defined_relation d ∷ []) ds
+given_more T all d ds g n r e = g n r (ap (λ l. relation_named l n) (sym (append_assoc all (defined_relation d ∷ []) (map defined_relation ds))) ∙ e)
 
 -- ---- whole files
 
@@ -213,9 +214,9 @@ pub record IsKnownDefinition (all : List Relation) (d : RawDefinitionView) : Typ
 -- each definition is known beside those before it, and the query beside them all
 abbrev pub AreKnownTexts : List Relation → List RawDefinitionView → RawQuestion → Type 0
 AreKnownTexts all [] q = IsKnownText all q
-AreKnownTexts all (d ∷ ds) q = IsKnownDefinition all d × AreKnownTexts (all ++ relation_of d ∷ []) ds q
+AreKnownTexts all (d ∷ ds) q = IsKnownDefinition all d × AreKnownTexts (all ++ defined_relation d ∷ []) ds q
 
-module _ (x : Sort × Text) (db : List Relation) (T : Signature) (q : RawQuestion) (s : Setting) (cs : Binders) (sorts : HasSorts s.name (reverse q.head) cs) where
+module _ (x : Sort × Text) (db : List Relation) (T : Signature) (q : RawQuestion) (s : UseSetting) (cs : Binders) (sorts : HasSorts s.name (reverse q.head) cs) where
   abbrev pub QueryBrings : List Known → List RawDefinitionView → Type 0
   QueryBrings ks ds =
       BindsFresh (inlined db ks (expanded_question q).body s) cs → Says x (own_columns db) Nothing (inlined db ks (expanded_question q).body s) cs ↔ (Among x (own_texts q.body T (reverse q.head)) ⊎ Brings x T ds (atom_names q.body))
@@ -226,41 +227,37 @@ module _ (x : Sort × Text) (db : List Relation) (T : Signature) (q : RawQuestio
       let turned : reverse ds ++ d ∷ before ≡ reverse (d ∷ ds) ++ before = sym (ap (λ l. l ++ before) (reverse-append (d ∷ []) ds) ∙ append_assoc (reverse ds) (d ∷ []) before) in
       let more = brought_more x db T all ks before h (columns_given T all (d ∷ ds) g) d t.0.fresh t.0.distinct t.0.text (own_given T all d ds g t.0.fresh) in
       subst (QueryBrings (known_of db (ks ++ known_with db ks d ∷ []) ds)) turned
-      (query_brings (all ++ relation_of d ∷ []) (ks ++ known_with db ks d ∷ []) (d ∷ before) ds more t.1 (given_more T all d ds g))
+      (query_brings (all ++ defined_relation d ∷ []) (ks ++ known_with db ks d ∷ []) (d ∷ before) ds more t.1 (given_more T all d ds g))
 
 -- ---- the columns of a file's names
 
 columns_kept : (db : List Relation) (n : Identifier) (ds : List RawDefinitionView) (all : List Relation) (r : Relation) → relation_named all n ≡ Some r → (q : RawQuestion) → AreKnownTexts all ds q → signature db ds n ≡ columns_in (relation_named db n)
 columns_kept db n [] all r e q t = refl
-columns_kept db n (d ∷ ds) all r e q t = by (bytes_eq d.name n) refl (columns_kept db n ds (all ++ relation_of d ∷ []) r (find_front (λ r. bytes_eq r.name n) all (relation_of d ∷ []) r e) q t.1)
+columns_kept db n (d ∷ ds) all r e q t = by (bytes_eq d.name n) refl (columns_kept db n ds (all ++ defined_relation d ∷ []) r (find_front (λ r. bytes_eq r.name n) all (defined_relation d ∷ []) r e) q t.1)
   where
     by : (b : Bool) → bytes_eq d.name n ≡ b → signature db ds n ≡ columns_in (relation_named db n) → columns_where b (map column_of d.columns) (signature db ds n) ≡ columns_in (relation_named db n)
     by true s k = let free : relation_named all n ≡ None = subst (λ m. relation_named all m ≡ None) ((bytes_decides d.name n).0 s) t.0.fresh in cc
     by false s k = k
 
-columns_met : (db : List Relation) (n : Identifier) (r : Relation) (ds : List RawDefinitionView) → relation_named (map relation_of ds) n ≡ Some r → signature db ds n ≡ r.columns
+columns_met : (db : List Relation) (n : Identifier) (r : Relation) (ds : List RawDefinitionView) → relation_named (map defined_relation ds) n ≡ Some r → signature db ds n ≡ r.columns
 columns_met db n r [] e = cc
 columns_met db n r (d ∷ ds) e = by (bytes_eq d.name n) e (λ k. columns_met db n r ds k)
   where
-    by : (b : Bool) → cond b (Some (relation_of d)) (relation_named (map relation_of ds) n) ≡ Some r → (relation_named (map relation_of ds) n ≡ Some r → signature db ds n ≡ r.columns) → columns_where b (map column_of d.columns) (signature db ds n) ≡ r.columns
-    by true e k = let is : relation_of d ≡ r = cc in ap (λ z. z.columns) is
+    by : (b : Bool) → cond b (Some (defined_relation d)) (relation_named (map defined_relation ds) n) ≡ Some r → (relation_named (map defined_relation ds) n ≡ Some r → signature db ds n ≡ r.columns) → columns_where b (map column_of d.columns) (signature db ds n) ≡ r.columns
+    by true e k = let is : defined_relation d ≡ r = cc in ap (λ z. z.columns) is
     by false e k = k e
 
 pub file_columns : (db : List Relation) (ds : List RawDefinitionView) (q : RawQuestion) → AreKnownTexts db ds q → GivesColumns (signature db ds) db ds
 file_columns db ds q t n r e = by (relation_named db n) refl
   where
     by : (o : Option Relation) → relation_named db n ≡ o → signature db ds n ≡ r.columns
-    by None k = columns_met db n r ds (sym (find_behind (λ r. bytes_eq r.name n) db (map relation_of ds) k) ∙ e)
+    by None k = columns_met db n r ds (sym (find_behind (λ r. bytes_eq r.name n) db (map defined_relation ds) k) ∙ e)
     by (Some z) k =
-        let there : relation_named (db ++ map relation_of ds) n ≡ Some z = find_front (λ r. bytes_eq r.name n) db (map relation_of ds) z k in
+        let there : relation_named (db ++ map defined_relation ds) n ≡ Some z = find_front (λ r. bytes_eq r.name n) db (map defined_relation ds) z k in
         let is : z ≡ r = cc in
         columns_kept db n ds db z k q t ∙ ap columns_in k ∙ ap (λ z. z.columns) is
 
 -- ---- a formula without places
-
--- columns that give each name the sort that it has among the binders
-abbrev pub AgreeOn : List Column → Binders → Type 0
-AgreeOn columns bs = (n : Identifier) → option_map (λ c. c.sort) (find (λ c. bytes_eq c.name n) columns) ≡ binder_sort bs n
 
 module _ (columns : List Column) (bs : Binders) (h : AgreeOn columns bs) where
   beside_agrees : (t : DataTerm) → sort_beside (map column_of bs) t ≡ sort_beside columns t
@@ -274,13 +271,6 @@ module _ (columns : List Column) (bs : Binders) (h : AgreeOn columns bs) where
   shown_agrees : (f : Bool) (a b : DataTerm) → shown f (map column_of bs) a b ≡ shown f columns a b
   shown_agrees true a b = ap₂ (λ xs ys. xs ++ ys) (text_agrees b a) (text_agrees a b)
   shown_agrees false a b = refl
-
-agree_more : (columns : List Column) (bs : Binders) → AgreeOn columns bs → (c : RawColumn) → AgreeOn (column_of c ∷ columns) (c ∷ bs)
-agree_more columns bs h c n = by (bytes_eq c.name n)
-  where
-    by : (b : Bool) → option_map (λ (d : Column). d.sort) (cond b (Some (column_of c)) (find (λ d. bytes_eq d.name n) columns)) ≡ option_map (λ (d : RawColumn). d.sort) (cond b (Some c) (find (λ d. bytes_eq d.name n) bs))
-    by true = refl
-    by false = h n
 
 mutual
   pub plain_texts : (db : List Relation) (f : RawForm) (bs : Binders) (columns : List Column) → HasNoOperator f → AgreeOn columns bs → own_texts f (own_columns db) bs ≡ form_texts (plain f bs) db columns

@@ -1,7 +1,6 @@
 -- When a data text stands in a formula with a sort, and in one whose names bring texts of their own.
-use Rattle.std.proofs.Common.{◌≡◌, ◌↔◌, ◌⊎◌, inl, inr, ⊎_elim, Bool, true, false, List, [], ◌∷◌, ◌++◌, Option, Some, None, map, refl, sym, ap, ap₂, subst, ◌∙◌, if◌then◌else◌, cond}
-use Rattle.std.specs.Prelude.{◌&&◌, option_map, find, unwrap_or}
-use Rattle.std.specs.Str.{bytes_eq}
+use Rattle.std.proofs.Common.{◌≡◌, ◌↔◌, ◌⊎◌, inl, inr, ⊎_elim, Bool, true, false, List, [], ◌∷◌, ◌++◌, Option, Some, None, map, refl, sym, ap, ap₂, subst, ◌∙◌, if◌then◌else◌}
+use Rattle.std.specs.Prelude.{◌&&◌, unwrap_or}
 use Rattle.lrp_model.specs.Texts.{Text, Identifier}
 use Rattle.lrp_model.specs.DatabaseMeaning.{column_of}
 use Rattle.lrp_model.specs.RawTerms.{time_of, data_of, term_by, is_equality}
@@ -15,10 +14,10 @@ use Rattle.lrp_model.specs.declared.relations.Column.{Column}
 use Rattle.lrp_model.specs.declared.formulas.Op.{Op}
 use Rattle.lrp_model.specs.declared.formulas.DataTerm.{DataTerm}
 use Rattle.lrp_model.specs.declared.formulas.Test.TheVariants.{Compare, Equal}
-use Rattle.lrp_model.specs.declared.raw.RawColumn.{RawColumn}
 use Rattle.lrp_model.specs.declared.raw.RawTerm.{RawTerm}
 use Rattle.lrp_model.specs.declared.raw.RawTermKind.{RawTermKind}
 use Rattle.lrp_model.specs.declared.raw.RawTermKind.TheVariants.{Int, Text as text_kind, Var, Shifted}
+use Rattle.lrp_tense.proofs.HeadNames.{sort_among}
 use Rattle.lrp_tense.specs.Meaning.{operator_variable}
 use Rattle.lrp_wide.specs.Meaning.{Signature, own_texts, own_texts_each, atom_names, atom_names_each}
 
@@ -181,16 +180,6 @@ shown_is false cs k j op = refl
 
 pub compare_shown : (bs : Binders) (l : RawTerm) (op : Op) (r : RawTerm) → test_texts (map column_of bs) (compare_of bs l op r) ≡ shown (are_data bs l.kind op r.kind) (map column_of bs) (data_of l.kind) (data_of r.kind)
 compare_shown bs l op r = shown_is (are_data bs l.kind op r.kind) (map column_of bs) l.kind r.kind op
-
--- the sort of a name among columns
-pub sort_among : (bs : Binders) (n : Identifier) → option_map (λ c. c.sort) (find (λ c. bytes_eq c.name n) (map column_of bs)) ≡ binder_sort bs n
-sort_among [] n = refl
-sort_among (b ∷ bs) n = by (bytes_eq b.name n) (sort_among bs n)
-  where
-    by : (t : Bool) → option_map (λ c. c.sort) (find (λ c. bytes_eq c.name n) (map column_of bs)) ≡ binder_sort bs n
-        → option_map (λ (c : Column). c.sort) (cond t (Some (column_of b)) (find (λ c. bytes_eq c.name n) (map column_of bs))) ≡ option_map (λ (c : RawColumn). c.sort) (cond t (Some b) (find (λ c. bytes_eq c.name n) bs))
-    by true r = refl
-    by false r = r
 
 -- a term with another name
 abbrev pub put_name : (Identifier → Identifier) → RawTermKind → RawTermKind

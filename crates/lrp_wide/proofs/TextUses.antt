@@ -30,13 +30,14 @@ use Rattle.lrp_model.proofs.NoFaults.{not_false, same_sorts, no_time}
 use Rattle.lrp_model.proofs.Logic.{all_append}
 use Rattle.lrp_tense.specs.Expanding.{name_term}
 use Rattle.lrp_tense.proofs.Scoping.{own_name, other_name, bound_here, bound_further}
+use Rattle.lrp_tense.proofs.HeadNames.{sort_among}
 use Rattle.lrp_wide.specs.Meaning.{Signature, is_star, is_star_kind, atom_names, atom_names_each}
-use Rattle.lrp_wide.specs.Inlining.{Setting, Known, Passed, itself, equal, set_kind, set_term, set_column, added, some_each, star_variable, inner_name, star_total, star_columns, star_terms, starred_atom, variable_of, pass_variable, passed, passed_name, compared_columns, with_comparisons, compared_form, counted_from, use_form, atom_form, meant_by, inlined, inlined_each}
+use Rattle.lrp_wide.specs.Inlining.{UseSetting, Known, Passed, itself, equal, set_kind, set_term, set_column, column_added, some_each, star_variable, inner_name, star_total, star_columns, star_terms, starred_atom, plain_variable, pass_variable, passed, passed_name, compared_columns, with_comparisons, compared_form, counted_from, use_form, inlined_atom, meant_by, inlined, inlined_each}
 use Rattle.lrp_wide.proofs.SatisfyNotions.{Unless, FitsColumn, FitColumns, IsFit, AreFit, BindsFresh, BindFresh}
 use Rattle.lrp_wide.proofs.SatisfyNames.{NamedColumn, NamedBy, variable_passed, named}
 use Rattle.lrp_wide.proofs.SatisfyTerms.{bound_of}
 use Rattle.lrp_wide.proofs.SortedTexts.{inside_each}
-use Rattle.lrp_wide.proofs.TextSays.{Among, Says, SaysOne, argument_texts, text_in, put_name, SameSort, same_compare, shifted_is_time, sort_among, either, no_first, no_second, regroup, same_iff, by_list, iff_then, turned_iff}
+use Rattle.lrp_wide.proofs.TextSays.{Among, Says, SaysOne, argument_texts, text_in, put_name, SameSort, same_compare, shifted_is_time, either, no_first, no_second, regroup, same_iff, by_list, iff_then, turned_iff}
 
 -- ---- variables that are bound
 
@@ -78,7 +79,7 @@ module _ (p : Place) (g : RawForm) where
 
 -- ---- terms
 
-set_puts : (s : Setting) (k : RawTermKind) → set_kind s k ≡ put_name s.name k
+set_puts : (s : UseSetting) (k : RawTermKind) → set_kind s k ≡ put_name s.name k
 set_puts s (Int x) = refl
 set_puts s (text_kind t) = refl
 set_puts s (Var v) = refl
@@ -97,14 +98,14 @@ star_text s (text_kind t) rest e = cc
 star_text s (Var v) rest e = refl
 star_text s (Shifted v plus) rest e = refl
 
-set_text : (s : Setting) (sort : Sort) (k : RawTermKind) (xs ys : List (Sort × Text)) → xs ≡ ys → text_in sort (set_kind s k) xs ≡ text_in sort k ys
+set_text : (s : UseSetting) (sort : Sort) (k : RawTermKind) (xs ys : List (Sort × Text)) → xs ≡ ys → text_in sort (set_kind s k) xs ≡ text_in sort k ys
 set_text s sort (Int x) xs ys e = e
 set_text s sort (text_kind t) xs ys e = ap (λ l. (sort, t) ∷ l) e
 set_text s sort (Var v) xs ys e = e
 set_text s sort (Shifted v plus) xs ys e = e
 
 -- an atom of a relation has the texts that it had
-star_texts : (s : Setting) (p : Place) (cs : List Column) (ts : List RawTerm) (k : ℕ) → argument_texts cs (star_terms s p k cs ts) ≡ argument_texts cs ts
+star_texts : (s : UseSetting) (p : Place) (cs : List Column) (ts : List RawTerm) (k : ℕ) → argument_texts cs (star_terms s p k cs ts) ≡ argument_texts cs ts
 star_texts s p [] ts k = refl
 star_texts s p (c ∷ cs) [] k = refl
 star_texts s p (c ∷ cs) (t ∷ ts) k = by (is_star t) refl (λ i. star_texts s p cs ts i)
@@ -115,7 +116,7 @@ star_texts s p (c ∷ cs) (t ∷ ts) k = by (is_star t) refl (λ i. star_texts s
     by false e r = set_text s c.sort t.kind (argument_texts cs (star_terms s p k cs ts)) (argument_texts cs ts) (r k)
 
 -- a variable that stands for a column has its sort
-variable_sort : (bs : Binders) (s : Sort) (q : Place) (v : Identifier) (k : RawTermKind) → variable_of k ≡ Some v → kind_faults bs k q ≡ [] → differs (kind_sort bs k) s ≡ false → binder_sort bs v ≡ Some s
+variable_sort : (bs : Binders) (s : Sort) (q : Place) (v : Identifier) (k : RawTermKind) → plain_variable k ≡ Some v → kind_faults bs k q ≡ [] → differs (kind_sort bs k) s ≡ false → binder_sort bs v ≡ Some s
 variable_sort bs s q v (Int x) e f d = cc
 variable_sort bs s q v (text_kind t) e f d = cc
 variable_sort bs s q v (Var u) e f d =
@@ -143,7 +144,7 @@ one_text last n p q u s e d =
 abbrev pub Nothing : Identifier → Type 0
 Nothing n = ⊥
 
-module _ (x : Sort × Text) (T : Signature) (s : Setting) (p : Place) (k : ℕ) (bs last : Binders) (f : RawForm) where
+module _ (x : Sort × Text) (T : Signature) (s : UseSetting) (p : Place) (k : ℕ) (bs last : Binders) (f : RawForm) where
   -- the comparisons say the texts of the atom
   compared_said : (columns : List Column) (ts : List RawTerm) (j : ℕ) → FitColumns bs columns ts → AllByRecursion (λ c. binder_sort last c.name ≡ Some c.sort) (compared_columns (passed s p k j columns ts))
       → SaysOne x T Nothing (with_comparisons p (passed s p k j columns ts) f) last ↔ (Among x (argument_texts columns ts) ⊎ Says x T Nothing f last)
@@ -156,12 +157,12 @@ module _ (x : Sort × Text) (T : Signature) (s : Setting) (p : Place) (k : ℕ) 
 
       -- a column that is compared
       own : RawColumn
-      own = added p (inner_name k c.name) c.sort
+      own = column_added p (inner_name k c.name) c.sort
 
       by : (b : Bool) (kind : RawTermKind) → is_star_kind kind ≡ b → Unless b (FitsColumn bs c (record { kind = kind; place = t.place }))
-          → AllByRecursion (λ c. binder_sort last c.name ≡ Some c.sort) (compared_columns (if b then itself c.name (star_variable j) ∷ passed s p k (suc j) columns ts else pass_variable s p k c (record { kind = kind; place = t.place }) (variable_of kind) ∷ passed s p k j columns ts))
+          → AllByRecursion (λ c. binder_sort last c.name ≡ Some c.sort) (compared_columns (if b then itself c.name (star_variable j) ∷ passed s p k (suc j) columns ts else pass_variable s p k c (record { kind = kind; place = t.place }) (plain_variable kind) ∷ passed s p k j columns ts))
           → ((n : ℕ) → AllByRecursion (λ c. binder_sort last c.name ≡ Some c.sort) (compared_columns (passed s p k n columns ts)) → SaysOne x T Nothing (with_comparisons p (passed s p k n columns ts) f) last ↔ (Among x rest ⊎ Says x T Nothing f last))
-          → SaysOne x T Nothing (with_comparisons p (if b then itself c.name (star_variable j) ∷ passed s p k (suc j) columns ts else pass_variable s p k c (record { kind = kind; place = t.place }) (variable_of kind) ∷ passed s p k j columns ts) f) last
+          → SaysOne x T Nothing (with_comparisons p (if b then itself c.name (star_variable j) ∷ passed s p k (suc j) columns ts else pass_variable s p k c (record { kind = kind; place = t.place }) (plain_variable kind) ∷ passed s p k j columns ts) f) last
           ↔ (Among x (text_in c.sort kind rest) ⊎ Says x T Nothing f last)
       by true kind e i h r = iff_then (r (suc j) h) (either (by_list x rest (text_in c.sort kind rest) (sym (star_text c.sort kind rest e))) same_iff)
       by false (Int z) e i h r = iff_then (iff_then (either (by_list x _ [] (no_texts last own.name p (s.place t.place) (Int z) refl)) same_iff) (no_first (λ n. n))) (r j h.1)
@@ -188,15 +189,15 @@ last_fresh p (equal b c t ∷ ps) f cs h = last_fresh p ps f cs h.1
 abbrev pub HaveSorts : (Identifier → Identifier) → Binders → List Column → Type 0
 HaveSorts name cs columns = AllByRecursion (λ c. binder_sort cs (name c.name) ≡ Some c.sort) columns
 
-module _ (name : Identifier → Identifier) (s : Setting) (p : Place) (k : ℕ) (bs last : Binders) (h : HasSorts s.name bs last) where
+module _ (name : Identifier → Identifier) (s : UseSetting) (p : Place) (k : ℕ) (bs last : Binders) (h : HasSorts s.name bs last) where
   columns_sorted : (columns : List Column) (ts : List RawTerm) (j : ℕ) → FitColumns bs columns ts → NamedBy name s k j columns ts → AllByRecursion (λ c. binder_sort last c.name ≡ Some c.sort) (star_columns p j columns ts)
       → AllByRecursion (λ c. binder_sort last c.name ≡ Some c.sort) (compared_columns (passed s p k j columns ts)) → HaveSorts name last columns
   columns_sorted [] ts j f n stars owns = tt
   columns_sorted (c ∷ columns) [] j f n stars owns = absurd f
-  columns_sorted (c ∷ columns) (t ∷ ts) j f n stars owns = by (is_star t) (variable_of t.kind) refl f.0 n stars owns (λ i. columns_sorted columns ts i f.1)
+  columns_sorted (c ∷ columns) (t ∷ ts) j f n stars owns = by (is_star t) (plain_variable t.kind) refl f.0 n stars owns (λ i. columns_sorted columns ts i f.1)
     where
-      by : (b : Bool) (o : Option Identifier) → variable_of t.kind ≡ o → Unless b (FitsColumn bs c t) → NamedColumn name j c (variable_passed s k c o) b (λ i. NamedBy name s k i columns ts)
-          → AllByRecursion (λ c. binder_sort last c.name ≡ Some c.sort) (if b then added p (star_variable j) c.sort ∷ star_columns p (suc j) columns ts else star_columns p j columns ts)
+      by : (b : Bool) (o : Option Identifier) → plain_variable t.kind ≡ o → Unless b (FitsColumn bs c t) → NamedColumn name j c (variable_passed s k c o) b (λ i. NamedBy name s k i columns ts)
+          → AllByRecursion (λ c. binder_sort last c.name ≡ Some c.sort) (if b then column_added p (star_variable j) c.sort ∷ star_columns p (suc j) columns ts else star_columns p j columns ts)
           → AllByRecursion (λ c. binder_sort last c.name ≡ Some c.sort) (compared_columns (if b then itself c.name (star_variable j) ∷ passed s p k (suc j) columns ts else pass_variable s p k c t o ∷ passed s p k j columns ts))
           → ((i : ℕ) → NamedBy name s k i columns ts → AllByRecursion (λ c. binder_sort last c.name ≡ Some c.sort) (star_columns p i columns ts)
           → AllByRecursion (λ c. binder_sort last c.name ≡ Some c.sort) (compared_columns (passed s p k i columns ts)) → HaveSorts name last columns)
@@ -212,14 +213,14 @@ own_columns db n = columns_in (relation_named db n)
 module _ (x : Sort × Text) (db : List Relation) (T : Signature) (B : Identifier → Type 0) where
   -- what a definition says in each use
   abbrev pub SaysInUse : Identifier → Known → Type 0
-  SaysInUse n d = (s : Setting) (cs : Binders) → BindsFresh (d.form s) cs → HaveSorts s.name cs d.columns → Says x (own_columns db) Nothing (d.form s) cs ↔ B n
+  SaysInUse n d = (s : UseSetting) (cs : Binders) → BindsFresh (d.form s) cs → HaveSorts s.name cs d.columns → Says x (own_columns db) Nothing (d.form s) cs ↔ B n
 
   -- a name is a relation's, which brings nothing, or a definition's, which brings what it says
   abbrev pub IsMet : Identifier → Option Known → Type 0
   IsMet n None = (own_columns db n ≡ T n) × (B n → ⊥)
   IsMet n (Some d) = (d.columns ≡ T n) × (HaveDistinctNames d.columns × SaysInUse n d)
 
-  module _ (s : Setting) (p : Place) (k : ℕ) (n : Identifier) (bs cs : Binders) (h : HasSorts s.name bs cs) where
+  module _ (s : UseSetting) (p : Place) (k : ℕ) (n : Identifier) (bs cs : Binders) (h : HasSorts s.name bs cs) where
     -- an atom of a relation
     relation_says : (columns : List Column) (ts : List RawTerm) → own_columns db n ≡ columns → (B n → ⊥) → Says x (own_columns db) Nothing (starred_atom s p k n columns ts) cs ↔ (Among x (argument_texts columns ts) ⊎ B n)
     relation_says columns ts e none =
@@ -235,7 +236,7 @@ module _ (x : Sort × Text) (db : List Relation) (T : Signature) (B : Identifier
         ps : List Passed
         ps = passed s p k (suc k) d.columns ts
 
-        inside : Setting
+        inside : UseSetting
         inside = record { name = passed_name ps k; place = λ q. p; number = counted_from (suc k + star_total d.columns ts) d.counted }
 
         stars : List RawColumn
@@ -272,8 +273,8 @@ module _ (x : Sort × Text) (db : List Relation) (T : Signature) (B : Identifier
             iff_then (says_inside p g x (own_columns db) Nothing (c ∷ l) around) (there last (kept_inside p g (c ∷ l) around f) owns (last_fresh p ps (d.form inside) last b))
 
     -- an atom
-    atom_says : (o : Option Known) (ts : List RawTerm) → IsMet n o → FitColumns bs (T n) ts → BindsFresh (atom_form s p k n (own_columns db n) ts o) cs
-        → Says x (own_columns db) Nothing (atom_form s p k n (own_columns db n) ts o) cs ↔ (Among x (argument_texts (T n) ts) ⊎ B n)
+    atom_says : (o : Option Known) (ts : List RawTerm) → IsMet n o → FitColumns bs (T n) ts → BindsFresh (inlined_atom s p k n (own_columns db n) ts o) cs
+        → Says x (own_columns db) Nothing (inlined_atom s p k n (own_columns db n) ts o) cs ↔ (Among x (argument_texts (T n) ts) ⊎ B n)
     atom_says None ts m fits fresh = iff_then (relation_says (own_columns db n) ts refl m.1) (either (by_list x _ _ (ap (λ c. argument_texts c ts) m.0)) same_iff)
     atom_says (Some d) ts m fits fresh =
         iff_then (use_says d ts (subst (λ c. FitColumns bs c ts) (sym m.0) fits) m.1.0 m.1.1 fresh) (either (by_list x _ _ (ap (λ c. argument_texts c ts) m.0)) same_iff)
@@ -292,7 +293,7 @@ module _ (x : Sort × Text) (db : List Relation) (ks : List Known) (S T : Signat
   back ms ns h = ((all_append IsMeant ms ns).0 h).1
 
   mutual
-    pub inlined_says : (f : RawForm) (s : Setting) (bs cs : Binders) → HasNoOperator f → IsFit f S bs → AllByRecursion IsMeant (atom_names f) → HasSorts s.name bs cs → BindsFresh (inlined db ks f s) cs
+    pub inlined_says : (f : RawForm) (s : UseSetting) (bs cs : Binders) → HasNoOperator f → IsFit f S bs → AllByRecursion IsMeant (atom_names f) → HasSorts s.name bs cs → BindsFresh (inlined db ks f s) cs
         → Says x (own_columns db) Nothing (inlined db ks f s) cs ↔ Says x T B f bs
     inlined_says (raw_atom p n ts) s bs cs o i m h f = atom_says x db T B s (s.place p) (s.number p) n bs cs h (meant_by db ks n) ts m.0.1 (subst (λ c. FitColumns bs c ts) m.0.0 i) f
     inlined_says (raw_compare p l op r) s bs cs o i m h f =
@@ -309,7 +310,7 @@ module _ (x : Sort × Text) (db : List Relation) (ks : List Known) (S T : Signat
     inlined_says (raw_ranged word a from to g) s bs cs o i m h f = absurd o
     inlined_says (raw_paired word a g j) s bs cs o i m h f = absurd o
 
-    inlined_says_each : (fs : RawForms) (s : Setting) (bs cs : Binders) → HaveNoOperator fs → AreFit fs S bs → AllByRecursion IsMeant (atom_names_each fs) → HasSorts s.name bs cs → BindFresh (inlined_each db ks fs s) cs
+    inlined_says_each : (fs : RawForms) (s : UseSetting) (bs cs : Binders) → HaveNoOperator fs → AreFit fs S bs → AllByRecursion IsMeant (atom_names_each fs) → HasSorts s.name bs cs → BindFresh (inlined_each db ks fs s) cs
         → SaysOne x (own_columns db) Nothing (inlined_each db ks fs s) cs ↔ SaysOne x T B fs bs
     inlined_says_each no_raws s bs cs o i m h f = same_iff
     inlined_says_each (raw g fs) s bs cs o i m h f =

@@ -16,15 +16,15 @@ abbrev pub AreRowless : Defined → RawFileView → Type 0
 AreRowless d f = d.definitions ≡ map (λ written. rowless written.name written.columns) f.definitions
 
 -- the first definitions, as relations without rows and with their numbers, are these
-pub record IsNumbered (k : Known) (entry : Relation × List Counted) : Type 0 where
+pub record IsRelationNumbered (k : Known) (entry : Relation × List Counted) : Type 0 where
   pub name : entry.0.name ≡ k.name
   pub columns : entry.0.columns ≡ k.columns
   pub counted : entry.1 ≡ k.counted
 
-abbrev pub AreNumbered : List Known → List Relation → List (List Counted) → Type 0
-AreNumbered [] definitions numbers = numbers ≡ []
-AreNumbered (k ∷ ks) (d ∷ ds) (n ∷ ns) = IsNumbered k (d, n) × AreNumbered ks ds ns
-AreNumbered (k ∷ ks) _ _ = ⊥
+abbrev pub AreRelationsNumbered : List Known → List Relation → List (List Counted) → Type 0
+AreRelationsNumbered [] definitions numbers = numbers ≡ []
+AreRelationsNumbered (k ∷ ks) (d ∷ ds) (n ∷ ns) = IsRelationNumbered k (d, n) × AreRelationsNumbered ks ds ns
+AreRelationsNumbered (k ∷ ks) _ _ = ⊥
 
 -- ---- numbers as they are kept
 
@@ -49,7 +49,7 @@ end_before [] p = true
 end_before (a ∷ []) p = is_before a.place p
 end_before (a ∷ (b ∷ atoms)) p = end_before (b ∷ atoms) p
 
--- so many of the first stand before a place, and none behind them does
+-- so many of the first stand before a place, and none after them does
 pub record IsFirstBehind (atoms : List CountedAtom) (p : Place) (n : ℕ) : Type 0 where
   pub bound : n ≤ length atoms
   pub before : AllWithin (λ a. is_before a.place p ≡ true) atoms 0 n

@@ -38,32 +38,32 @@ abbrev pub inner_name : ℕ → Identifier → Identifier
 inner_name k v = v ++ star_variable k
 
 -- what is made of the names and the places of a text: in a definition that is used, the names inside and the place of the atom; and the number of the first use or `*` of the atom at a place
-pub record Setting : Type 0 where
+pub record UseSetting : Type 0 where
   pub name : Identifier → Identifier
   pub place : Place → Place
   pub number : Place → ℕ
 
 -- the query's own text stays
-abbrev pub own_setting : (Place → ℕ) → Setting
+abbrev pub own_setting : (Place → ℕ) → UseSetting
 own_setting number = record { name = λ v. v; place = λ p. p; number = number }
 
-abbrev pub set_kind : Setting → RawTermKind → RawTermKind
+abbrev pub set_kind : UseSetting → RawTermKind → RawTermKind
 set_kind s (Int x) = Int x
 set_kind s (Text t) = Text t
 set_kind s (Var v) = Var (s.name v)
 set_kind s (Shifted v plus) = Shifted (s.name v) plus
 
-abbrev pub set_term : Setting → RawTerm → RawTerm
+abbrev pub set_term : UseSetting → RawTerm → RawTerm
 set_term s t = record { kind = set_kind s t.kind; place = s.place t.place }
 
-abbrev pub set_column : Setting → RawColumn → RawColumn
+abbrev pub set_column : UseSetting → RawColumn → RawColumn
 set_column s c = record { name = s.name c.name; place = s.place c.place; sort = c.sort; sort_place = s.place c.sort_place }
 
 -- ---- `*`
 
 -- a variable that is added at an atom
-abbrev pub added : Place → Identifier → Sort → RawColumn
-added p v s = record { name = v; place = p; sort = s; sort_place = p }
+abbrev pub column_added : Place → Identifier → Sort → RawColumn
+column_added p v s = record { name = v; place = p; sort = s; sort_place = p }
 
 -- an `exists` for each of these, the first outermost
 abbrev pub some_each : Place → List RawColumn → RawForm → RawForm
@@ -77,27 +77,27 @@ star_total _ _ = 0
 
 -- the variables of these `*`, which are counted from k
 abbrev pub star_columns : Place → ℕ → List Column → List RawTerm → List RawColumn
-star_columns p k (c ∷ cs) (t ∷ ts) = if is_star t then added p (star_variable k) c.sort ∷ star_columns p (suc k) cs ts else star_columns p k cs ts
+star_columns p k (c ∷ cs) (t ∷ ts) = if is_star t then column_added p (star_variable k) c.sort ∷ star_columns p (suc k) cs ts else star_columns p k cs ts
 star_columns p k _ _ = []
 
--- the terms of an atom with these variables; terms behind the last column stay
-abbrev pub star_terms : Setting → Place → ℕ → List Column → List RawTerm → List RawTerm
+-- the terms of an atom with these variables; terms after the last column stay
+abbrev pub star_terms : UseSetting → Place → ℕ → List Column → List RawTerm → List RawTerm
 star_terms s p k [] ts = map (set_term s) ts
 star_terms s p k (c ∷ cs) [] = []
 star_terms s p k (c ∷ cs) (t ∷ ts) = if is_star t then name_term p (star_variable k) ∷ star_terms s p (suc k) cs ts else set_term s t ∷ star_terms s p k cs ts
 
 -- an atom of a relation
-abbrev pub starred_atom : Setting → Place → ℕ → Identifier → List Column → List RawTerm → RawForm
+abbrev pub starred_atom : UseSetting → Place → ℕ → Identifier → List Column → List RawTerm → RawForm
 starred_atom s p k n cs ts = some_each p (star_columns p k cs ts) (raw_atom p n (star_terms s p k cs ts))
 
 -- ---- uses of definitions
 
 -- a term that is a variable without an offset
-abbrev pub variable_of : RawTermKind → Option Identifier
-variable_of (Int x) = None
-variable_of (Text t) = None
-variable_of (Var v) = Some v
-variable_of (Shifted v plus) = None
+abbrev pub plain_variable : RawTermKind → Option Identifier
+plain_variable (Int x) = None
+plain_variable (Text t) = None
+plain_variable (Var v) = Some v
+plain_variable (Shifted v plus) = None
 
 -- a column with the variable that it is, or with a variable of its own that is compared with a term
 pub data Passed : Type 0 where
@@ -105,12 +105,12 @@ pub data Passed : Type 0 where
   equal : RawColumn → Identifier → RawTerm → Passed
 
 -- a term for a column in the use that has number k, where the next `*` has number j
-abbrev pub pass_variable : Setting → Place → ℕ → Column → RawTerm → Option Identifier → Passed
+abbrev pub pass_variable : UseSetting → Place → ℕ → Column → RawTerm → Option Identifier → Passed
 pass_variable s p k c t (Some v) = itself c.name (s.name v)
-pass_variable s p k c t None = equal (added p (inner_name k c.name) c.sort) c.name (set_term s t)
+pass_variable s p k c t None = equal (column_added p (inner_name k c.name) c.sort) c.name (set_term s t)
 
-abbrev pub passed : Setting → Place → ℕ → ℕ → List Column → List RawTerm → List Passed
-passed s p k j (c ∷ cs) (t ∷ ts) = if is_star t then itself c.name (star_variable j) ∷ passed s p k (suc j) cs ts else pass_variable s p k c t (variable_of t.kind) ∷ passed s p k j cs ts
+abbrev pub passed : UseSetting → Place → ℕ → ℕ → List Column → List RawTerm → List Passed
+passed s p k j (c ∷ cs) (t ∷ ts) = if is_star t then itself c.name (star_variable j) ∷ passed s p k (suc j) cs ts else pass_variable s p k c t (plain_variable t.kind) ∷ passed s p k j cs ts
 passed s p k j _ _ = []
 
 -- the name that stands for a variable of the definition
@@ -146,7 +146,7 @@ pub record Known : Type 0 where
   pub name : Identifier
   pub columns : List Column
   pub counted : List Counted
-  pub form : Setting → RawForm
+  pub form : UseSetting → RawForm
 
 -- how many numbers all atoms of a text take, and how many those before a place
 abbrev pub numbers_of : List Counted → ℕ
@@ -168,15 +168,15 @@ atom_numbers columns ts None = star_total columns ts
 atom_numbers columns ts (Some d) = suc (star_total d.columns ts + numbers_of d.counted)
 
 -- an atom where the next number is k
-abbrev pub use_form : Setting → Place → ℕ → Known → List RawTerm → RawForm
+abbrev pub use_form : UseSetting → Place → ℕ → Known → List RawTerm → RawForm
 use_form s p k d ts =
     let ps = passed s p k (suc k) d.columns ts in
-    let inside : Setting = record { name = passed_name ps k; place = λ q. p; number = counted_from (suc k + star_total d.columns ts) d.counted } in
+    let inside : UseSetting = record { name = passed_name ps k; place = λ q. p; number = counted_from (suc k + star_total d.columns ts) d.counted } in
     some_each p (star_columns p (suc k) d.columns ts) (compared_form p (compared_columns ps) ps (d.form inside))
 
-abbrev pub atom_form : Setting → Place → ℕ → Identifier → List Column → List RawTerm → Option Known → RawForm
-atom_form s p k n columns ts None = starred_atom s p k n columns ts
-atom_form s p k n columns ts (Some d) = use_form s p k d ts
+abbrev pub inlined_atom : UseSetting → Place → ℕ → Identifier → List Column → List RawTerm → Option Known → RawForm
+inlined_atom s p k n columns ts None = starred_atom s p k n columns ts
+inlined_atom s p k n columns ts (Some d) = use_form s p k d ts
 
 -- a definition that no relation hides
 abbrev pub without_relation : Option Relation → Option Known → Option Known
@@ -210,8 +210,8 @@ module _ (db : List Relation) (ks : List Known) where
 
   -- the formula in a setting; one that is inlined has no operators
   abbrev mutual
-    pub inlined : RawForm → Setting → RawForm
-    inlined (raw_atom p n ts) s = atom_form s (s.place p) (s.number p) n (columns_in (relation_named db n)) ts (meant_by db ks n)
+    pub inlined : RawForm → UseSetting → RawForm
+    inlined (raw_atom p n ts) s = inlined_atom s (s.place p) (s.number p) n (columns_in (relation_named db n)) ts (meant_by db ks n)
     inlined (raw_compare p l op r) s = raw_compare (s.place p) (set_term s l) op (set_term s r)
     inlined (raw_member p t point) s = raw_member (s.place p) (set_term s t) point
     inlined (raw_not p f) s = raw_not (s.place p) (inlined f s)
@@ -224,7 +224,7 @@ module _ (db : List Relation) (ks : List Known) where
     inlined (raw_ranged word o from to f) s = raw_ranged word o from to (inlined f s)
     inlined (raw_paired word o f g) s = raw_paired word o (inlined f s) (inlined g s)
 
-    pub inlined_each : RawForms → Setting → RawForms
+    pub inlined_each : RawForms → UseSetting → RawForms
     inlined_each no_raws s = no_raws
     inlined_each (raw f fs) s = raw (inlined f s) (inlined_each fs s)
 

@@ -12,7 +12,7 @@ use Rattle.lrp_model.specs.declared.relations.Column.{Column}
 use Rattle.lrp_model.specs.declared.relations.Relation.{Relation}
 use Rattle.lrp_model.specs.declared.tokens.Place.{Place}
 use Rattle.lrp_tense.specs.Expanding.{name_term}
-use Rattle.lrp_wide.specs.Inlining.{Known, Passed, Setting, added, atom_form, compared_columns, inlined, inlined_each, itself, equal, known_of, meant_by, passed, plain_definition, star_columns, star_total, star_variable, use_form}
+use Rattle.lrp_wide.specs.Inlining.{Known, Passed, UseSetting, column_added, inlined_atom, compared_columns, inlined, inlined_each, itself, equal, known_of, meant_by, passed, plain_definition, star_columns, star_total, star_variable, use_form}
 use Rattle.lrp_wide.specs.Counts.{AreRowless, file_numbers}
 use Rattle.lrp_wide.specs.Settings.{IsPassedToo, passed_of, setting_of}
 use Rattle.lrp_wide.specs.declared.atoms.Met.{Met}
@@ -20,7 +20,7 @@ use Rattle.lrp_wide.specs.declared.inlining.Named.{Named}
 use Rattle.lrp_wide.specs.declared.inlining.Scene.{Scene}
 use Rattle.lrp_wide.specs.declared.inlining.Written.{Written}
 use Rattle.lrp_wide.specs.declared.passing.Arguments.{Arguments}
-use Rattle.lrp_wide.specs.declared.uses.Setting.{Setting as SettingOf}
+use Rattle.lrp_wide.specs.declared.uses.UseSetting.{UseSetting as SettingOf}
 
 -- ---- definitions
 
@@ -28,14 +28,14 @@ abbrev pub HasPlainBody : RawDefinition → Type 0
 HasPlainBody d = HasNoOperator (raw_form_of d.body)
 
 -- no definition has an operator, and each has its name and its numbers, the query beside them too
-pub record IsWhole (w : Written) : Type 0 where
+pub record IsWholeWritten (w : Written) : Type 0 where
   pub operators : AllByRecursion HasPlainBody w.plain.now
   pub definitions : length w.definitions.now.definitions ≡ length w.plain.now
   pub numbers : length w.numbers.now ≡ suc (length w.plain.now)
 
-abbrev pub AreWhole : Option Written → Type 0
-AreWhole None = Unit {0}
-AreWhole (Some w) = IsWhole w
+abbrev pub IsWholeIfAny : Option Written → Type 0
+IsWholeIfAny None = Unit {0}
+IsWholeIfAny (Some w) = IsWholeWritten w
 
 -- the definitions of the file, by their names, without operators, and with their numbers
 pub record AreWrittenBy (w : Written) (f : RawFileView) : Type 0 where
@@ -65,7 +65,7 @@ abbrev pub known_by : Scene → RawFileView → List Known
 known_by s f = known_here s.catalog.now s.written f s.setting.before
 
 -- the definition is one of those
-pub record IsNamed (s : Scene) (d : Named) : Type 0 where
+pub record IsNamedIn (s : Scene) (d : Named) : Type 0 where
   pub written : s.written ≡ Some d.written
   pub before : d.number < s.setting.before
   pub there : d.number < length d.written.plain.now
@@ -76,7 +76,7 @@ meant_at ks None = None
 meant_at ks (Some d) = slice_get ks d.number
 
 pub record IsMeant (s : Scene) (n : Identifier) (d : Option Named) : Type 0 where
-  pub named : IfSome d (IsNamed s)
+  pub named : IfSome d (IsNamedIn s)
   pub meaning : (f : RawFileView) → IsAround s f → meant_by s.catalog.now (known_by s f) n ≡ meant_at (known_of s.catalog.now [] f.definitions) d
 
 -- ---- formulas
@@ -91,7 +91,7 @@ each_inlined_here s f forms = inlined_each s.catalog.now (known_by s f) forms (s
 -- an atom as it is met
 abbrev pub met_form : Scene → RawFileView → Met → RawForm
 met_form s f met =
-    atom_form (setting_of s.setting) met.place met.number met.name.now (columns_in (relation_named s.catalog.now met.name.now)) met.terms.now (meant_by s.catalog.now (known_by s f) met.name.now)
+    inlined_atom (setting_of s.setting) met.place met.number met.name.now (columns_in (relation_named s.catalog.now met.name.now)) met.terms.now (meant_by s.catalog.now (known_by s f) met.name.now)
 
 -- what a use of the definition that has a number becomes
 pub record IsUsed (s : Scene) (f : RawFileView) (met : Met) (number : ℕ) (form : RawForm) : Type 0 where
@@ -102,7 +102,7 @@ pub record IsUsed (s : Scene) (f : RawFileView) (met : Met) (number : ℕ) (form
 -- a column more whose term is a `*`, which takes the next number
 pub record IsStar (old : Arguments) (p : Place) (c : Column) (new : Arguments) : Type 0 where
   pub next : new.next ≡ suc old.next
-  pub stars : new.stars.items ≡ old.stars.items ++ added p (star_variable old.next) c.sort ∷ []
+  pub stars : new.stars.items ≡ old.stars.items ++ column_added p (star_variable old.next) c.sort ∷ []
   pub columns : new.columns.items ≡ old.columns.items
   pub comparisons : map raw_form_of new.comparisons.items ≡ map raw_form_of old.comparisons.items
   pub passed : IsPassedToo old.passed.items c.name (star_variable old.next) new.passed.items
@@ -116,7 +116,7 @@ pub record IsItself (old : Arguments) (c : Column) (n : Identifier) (new : Argum
   pub passed : IsPassedToo old.passed.items c.name n new.passed.items
 
 -- a column more that is compared with this term
-pub record IsCompared (old : Arguments) (b : RawColumn) (t : RawTerm) (new : Arguments) : Type 0 where
+pub record IsArgumentCompared (old : Arguments) (b : RawColumn) (t : RawTerm) (new : Arguments) : Type 0 where
   pub next : new.next ≡ old.next
   pub stars : new.stars.items ≡ old.stars.items
   pub columns : new.columns.items ≡ old.columns.items ++ b ∷ []
@@ -130,7 +130,7 @@ comparisons_of p (itself c n ∷ rest) = comparisons_of p rest
 comparisons_of p (equal b c t ∷ rest) = raw_compare p (name_term p b.name) Eq t ∷ comparisons_of p rest
 
 -- what the terms of an atom bring for these columns
-pub record AreArguments (s : Setting) (met : Met) (cs : List Column) (made : Arguments) : Type 0 where
+pub record AreArguments (s : UseSetting) (met : Met) (cs : List Column) (made : Arguments) : Type 0 where
   pub next : made.next ≡ suc met.number + star_total cs met.terms.now
   pub stars : made.stars.items ≡ star_columns met.place (suc met.number) cs met.terms.now
   pub columns : made.columns.items ≡ compared_columns (passed s met.place met.number (suc met.number) cs met.terms.now)

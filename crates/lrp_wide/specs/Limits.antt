@@ -40,6 +40,6 @@ pub record IsTooDeep (db : List Relation) (f : RawFileView) : Type 0 where
   pub deep : most_depth < depth_of (expanded_file db f).body
 
 -- it is within the limits
-pub record IsSmall (db : List Relation) (f : RawFileView) : Type 0 where
+pub record IsSmallFile (db : List Relation) (f : RawFileView) : Type 0 where
   pub few : HasTooMany db f → ⊥
   pub shallow : most_depth < depth_of (expanded_file db f).body → ⊥

@@ -6,7 +6,7 @@ use Rattle.lrp_model.specs.Satisfaction.{Either}
 use Rattle.lrp_model.specs.declared.raw.RawQuery.{RawQuery}
 use Rattle.lrp_model.specs.declared.relations.Relation.{Relation}
 use Rattle.lrp_tense.specs.Expanding.{IsExpandable}
-use Rattle.lrp_wide.specs.Limits.{HasTooMany, IsSmall, IsTooDeep, most_depth, most_formulas}
+use Rattle.lrp_wide.specs.Limits.{HasTooMany, IsSmallFile, IsTooDeep, most_depth, most_formulas}
 use Rattle.lrp_wide.specs.Stars.{NamesNoStar}
 use Rattle.lrp_wide.specs.WideSorting.{IsOwnFault, query_of}
 use Rattle.lrp_wide.specs.declared.checking.WideRead.{WideRead}
@@ -25,7 +25,7 @@ pub record IsExpandableFile (f : RawFileView) : Type 0 where
 
 -- why a file is refused: a limit, a fault of its own texts, or want of memory
 abbrev pub IsFileRefused : List Relation → RawFileView → WideRead → Type 0
-IsFileRefused db f (Fault told) = IsSmall db f × IsOwnFault db f told
+IsFileRefused db f (Fault told) = IsSmallFile db f × IsOwnFault db f told
 IsFileRefused db f Formulas = HasTooMany db f
 IsFileRefused db f Depth = IsTooDeep db f
 IsFileRefused db f Memory = Unit {0}

@@ -12,8 +12,8 @@ use Rattle.lrp_tense.specs.Expanding.{expanded_question}
 use Rattle.lrp_wide.specs.Inlining.{expanded_file, inlined, own_setting}
 
 -- a definition as a relation without rows, by which atoms of it are checked
-abbrev pub relation_of : RawDefinitionView → Relation
-relation_of d = rowless d.name d.columns
+abbrev pub defined_relation : RawDefinitionView → Relation
+defined_relation d = rowless d.name d.columns
 
 -- a text with operators and its `*` written out alone: each use of a definition stays an atom
 abbrev pub starred_plain : List Relation → RawQuestion → RawQuestion
@@ -29,12 +29,12 @@ query_of d = record { head = d.columns; body = d.body }
 -- Defined at each name of a definition that is a relation's or an earlier definition's
 abbrev pub name_faults : List Relation → List RawDefinitionView → List QueryFault
 name_faults db [] = []
-name_faults db (d ∷ ds) = fault_if (is_named_in (map (λ r. r.name) db) d.name) (query_fault Defined d.place) ++ name_faults (db ++ relation_of d ∷ []) ds
+name_faults db (d ∷ ds) = fault_if (is_named_in (map (λ r. r.name) db) d.name) (query_fault Defined d.place) ++ name_faults (db ++ defined_relation d ∷ []) ds
 
 -- the faults of each definition beside the ones before it, and of the query beside them all
 abbrev pub faults_beside : List Relation → List RawDefinitionView → RawQuestion → List QueryFault
 faults_beside db [] q = query_faults db (starred db q)
-faults_beside db (d ∷ ds) q = query_faults db (starred db (query_of d)) ++ faults_beside (db ++ relation_of d ∷ []) ds q
+faults_beside db (d ∷ ds) q = query_faults db (starred db (query_of d)) ++ faults_beside (db ++ defined_relation d ∷ []) ds q
 
 abbrev pub text_faults : List Relation → RawFileView → List QueryFault
 text_faults db f = faults_beside db f.definitions f.query
@@ -44,13 +44,13 @@ abbrev pub own_faults : List Relation → RawFileView → List QueryFault
 own_faults db f = name_faults db f.definitions ++ text_faults db f
 
 -- the faults of the second list where the first has none
-abbrev pub or_else : List QueryFault → List QueryFault → List QueryFault
-or_else [] others = others
-or_else (f ∷ fs) others = f ∷ fs
+abbrev pub faults_or_later : List QueryFault → List QueryFault → List QueryFault
+faults_or_later [] others = others
+faults_or_later (f ∷ fs) others = f ∷ fs
 
 -- the faults of a file: those of its own texts, and where they have none those of the expanded query, in which formulas may be too wide
 abbrev pub file_faults : List Relation → RawFileView → List QueryFault
-file_faults db f = or_else (own_faults db f) (query_faults db (expanded_file db f))
+file_faults db f = faults_or_later (own_faults db f) (query_faults db (expanded_file db f))
 
 abbrev pub IsFileSortFault : List Relation → RawFileView → QueryFault → Type 0
 IsFileSortFault db f fault = earliest query_standing (file_faults db f) ≡ Some fault

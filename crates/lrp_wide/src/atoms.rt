@@ -3,12 +3,12 @@ ghost use Rattle.std.specs.Prelude.{◌≡◌, None, IfOk};
 ghost use Rattle.lrp_model.specs.RawQueries.{raw_compare, raw_form_of, raw_kind, raw_member};
 ghost use Rattle.lrp_model.specs.Rows.{columns_in, relation_named};
 ghost use Rattle.lrp_model.specs.declared.tokens.Place.{Place as PlaceOf};
-ghost use Rattle.lrp_wide.specs.Inlining.{atom_form, set_term, star_columns, star_terms};
+ghost use Rattle.lrp_wide.specs.Inlining.{inlined_atom, set_term, star_columns, star_terms};
 ghost use Rattle.lrp_wide.specs.Settings.{setting_of};
 
 use crate::names::{NameText, is_star};
 use crate::numbering::plus;
-use crate::uses::{Setting, added, some_each, variable};
+use crate::uses::{UseSetting, added, some_each, variable};
 use lrp_model::{
     Column, List, Memory, Name, Op, Place, RawColumn, RawFormula, RawKind, RawTerm, RowPoint,
 };
@@ -36,7 +36,7 @@ struct Starred {
 pub fn comparison(
     alloc: Global,
     text: &mut NameText,
-    setting: &Setting<'_>,
+    setting: &UseSetting<'_>,
     op: Op,
     sides: (&RawTerm, &RawTerm),
 ) -> Result<RawKind, Memory>
@@ -55,7 +55,7 @@ pub fn comparison(
 pub fn membership(
     alloc: Global,
     text: &mut NameText,
-    setting: &Setting<'_>,
+    setting: &UseSetting<'_>,
     term: &RawTerm,
     point: RowPoint,
 ) -> Result<RawKind, Memory>
@@ -72,11 +72,11 @@ pub fn starred_atom(
     alloc: Global,
     text: &mut NameText,
     catalog: &Catalog<'_>,
-    setting: &Setting<'_>,
+    setting: &UseSetting<'_>,
     met: Met<'_>,
 ) -> Result<Box<RawFormula>, Memory>
     ensures { IfOk result (λ made. raw_form_of made.value
-        ≡ atom_form (setting_of setting.now) met.entry.place met.entry.number met.entry.name.now
+        ≡ inlined_atom (setting_of setting.now) met.entry.place met.entry.number met.entry.name.now
         (columns_in (relation_named catalog.now met.entry.name.now)) met.entry.terms.now None) }
 {
     let columns = match catalog.relation(met.name) {
@@ -89,11 +89,11 @@ pub fn starred_atom(
     some_each(alloc, met.place, binders, atom)
 }
 
-// Terms behind the last column stay as they are.
+// Terms after the last column stay as they are.
 fn starred_terms(
     alloc: Global,
     text: &mut NameText,
-    setting: &Setting<'_>,
+    setting: &UseSetting<'_>,
     met: Met<'_>,
     columns: &[Column],
 ) -> Result<Starred, Memory>

@@ -6,10 +6,10 @@ ghost use Rattle.lrp_model.specs.RawQueries.{HasNoOperator, RawFileView, raw_def
 ghost use Rattle.lrp_model.specs.Sorting.{query_faults, query_standing};
 ghost use Rattle.lrp_wide.specs.Inlining.{expanded_file, plain_file};
 ghost use Rattle.lrp_wide.specs.Inside.{HasPlainBody};
-ghost use Rattle.lrp_wide.specs.Limits.{IsSmall, most_depth, most_formulas};
+ghost use Rattle.lrp_wide.specs.Limits.{IsSmallFile, most_depth, most_formulas};
 ghost use Rattle.lrp_wide.specs.Outcomes.{IsAboveLimit, IsExpandableFile, IsFileRefused, IsRefusedOrMemory, IsWrittenOrMemory};
 ghost use Rattle.lrp_wide.specs.Counts.{AreRowless};
-ghost use Rattle.lrp_wide.specs.WideSorting.{name_faults, own_faults, relation_of, starred_plain, text_faults};
+ghost use Rattle.lrp_wide.specs.WideSorting.{name_faults, own_faults, defined_relation, starred_plain, text_faults};
 ghost use Rattle.lrp_wide.specs.declared.checking.WideRead.{WideRead as WideReadOf};
 
 use crate::inlining::{Written, expand, starred};
@@ -65,13 +65,13 @@ pub fn expand_file(alloc: Global, file: RawFile, db: &Database) -> Result<RawQue
     // An answer is the expanded query, and the file is within the limits and has no fault of its own.
     ensures query { IfOk result (λ made. raw_question_of made
         ≡ expanded_file db.now (raw_file_of file)) }
-    ensures small { OnOk result (IsSmall db.now (raw_file_of file)) }
+    ensures small { OnOk result (IsSmallFile db.now (raw_file_of file)) }
     ensures sorted { OnOk result (own_faults db.now (raw_file_of file) ≡ []) }
     ensures plain { IfOk result (λ made. HasNoOperator (raw_form_of made.body)) }
     // A refusal is a limit, or the fault.
     ensures refused { IfErr result (IsFileRefused db.now (raw_file_of file)) }
     // Each file is answered, or refused for its one reason.
-    ensures every_file { IsSmall db.now (raw_file_of file) → own_faults db.now (raw_file_of file) ≡ []
+    ensures every_file { IsSmallFile db.now (raw_file_of file) → own_faults db.now (raw_file_of file) ≡ []
         → IsWrittenOrMemory (expanded_file db.now (raw_file_of file)) result }
     ensures every_refusal { (read : WideReadOf) → IsFileRefused db.now (raw_file_of file) read
         → IsRefusedOrMemory read result }
@@ -84,7 +84,7 @@ fn answer(alloc: Global, file: RawFile, db: &Database) -> Result<RawQuery, WideR
     requires { IsExpandableFile (raw_file_of file) }
     ensures query { IfOk result (λ made. raw_question_of made
         ≡ expanded_file db.now (raw_file_of file)) }
-    ensures small { OnOk result (IsSmall db.now (raw_file_of file)) }
+    ensures small { OnOk result (IsSmallFile db.now (raw_file_of file)) }
     ensures sorted { OnOk result (own_faults db.now (raw_file_of file) ≡ []) }
     ensures refused { IfErr result (IsFileRefused db.now (raw_file_of file)) }
 {
@@ -126,7 +126,7 @@ fn definitions_of<'a>(
 ) -> Result<(Definitions<'a>, Option<QueryFault>), Memory>
     ensures definitions { IfOk result (λ made. made.0 ≡ record {
       relations = db.now;
-      definitions = map relation_of (map raw_definition_of written.now);
+      definitions = map defined_relation (map raw_definition_of written.now);
     }) }
     ensures fault { IfOk result (λ made. made.1
         ≡ earliest query_standing (name_faults db.now (map raw_definition_of written.now))) }

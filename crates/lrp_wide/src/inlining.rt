@@ -4,7 +4,7 @@
 ghost use Rattle.std.specs.Prelude.{◌≡◌, [], IfOk};
 ghost use Rattle.lrp_model.specs.RawQueries.{HasNoOperator, HaveNoOperator, RawFileView, raw_form_of, raw_forms_of, raw_group, raw_implies, raw_not, raw_question_of};
 ghost use Rattle.lrp_wide.specs.Inlining.{expanded_file, inlined, own_setting, set_column};
-ghost use Rattle.lrp_wide.specs.Inside.{AreBeside, AreWhole, AreWrittenBy, IsAround, IsMeant, IsNamed, IsUsed, IsWhole, each_inlined_here, inlined_here, met_form};
+ghost use Rattle.lrp_wide.specs.Inside.{AreBeside, IsWholeIfAny, AreWrittenBy, IsAround, IsMeant, IsNamedIn, IsUsed, IsWholeWritten, each_inlined_here, inlined_here, met_form};
 ghost use Rattle.lrp_tense.specs.Expanding.{expanded_question};
 ghost use Rattle.lrp_tense.specs.Written.{joined_form, quantified_form};
 ghost use Rattle.lrp_wide.specs.Settings.{setting_of};
@@ -13,12 +13,12 @@ use crate::atoms::{Met, comparison, membership, starred_atom};
 use crate::names::NameText;
 use crate::numbering::Numbers;
 use crate::passing::{Arguments, arguments_of};
-use crate::uses::{Setting, Use, some_each, with_comparisons};
+use crate::uses::{Use, UseSetting, some_each, with_comparisons};
 use lrp_model::{
     Copies, List, Memory, Name, Place, RawColumn, RawDefinition, RawFormula, RawKind, RawQuery,
 };
 use lrp_sorts::{Catalog, Definitions};
-use lrp_tense::{Connective, Quantifier, boxed, denied, grouped, implied, joined, quantified};
+use lrp_tense::{Connective, QuantifierKind, boxed, denied, grouped, implied, joined, quantified};
 use std::alloc::Global;
 
 /// Definitions that are written out: by their names, without operators, and with the numbers of their texts.
@@ -35,7 +35,7 @@ pub struct Written<'a> {
 struct Scene<'a> {
     catalog: &'a Catalog<'a>,
     written: Option<Written<'a>>,
-    setting: Setting<'a>,
+    setting: UseSetting<'a>,
 }
 
 // The definition that an atom names, by its number.
@@ -49,14 +49,14 @@ struct Named<'a> {
 #[derive(Clone, Copy)]
 struct Binding<'a> {
     place: Place,
-    quantifier: Quantifier,
+    quantifier: QuantifierKind,
     binder: &'a RawColumn,
 }
 
 /// The query that stands for a file: for this query without operators, beside these definitions.
 pub fn expand(alloc: Global, written: Written<'_>, query: &RawQuery) -> Result<RawQuery, Memory>
     requires plain { HasNoOperator (raw_form_of query.now.body) }
-    requires definitions { IsWhole written }
+    requires definitions { IsWholeWritten written }
     ensures { IfOk result (λ made. (file : RawFileView) → AreWrittenBy written.entry file
         → raw_question_of query.now ≡ expanded_question file.query
         → raw_question_of made ≡ expanded_file written.entry.definitions.now.relations file) }
@@ -73,13 +73,13 @@ fn expand_beside(
     query: &RawQuery,
 ) -> Result<RawQuery, Memory>
     requires plain { HasNoOperator (raw_form_of query.now.body) }
-    requires definitions { IsWhole written }
+    requires definitions { IsWholeWritten written }
     ensures { IfOk result (λ made. (file : RawFileView)
         → AreBeside catalog.now written.entry file
         → raw_question_of query.now ≡ expanded_question file.query
         → raw_question_of made ≡ expanded_file written.entry.definitions.now.relations file) }
 {
-    let setting = Setting {
+    let setting = UseSetting {
         used: None,
         before: written.plain.len(),
         first: 1,
@@ -106,7 +106,7 @@ pub fn starred(
       body = inlined catalog.now [] (raw_form_of body.now) (own_setting (λ p. 1));
     }) }
 {
-    let setting = Setting {
+    let setting = UseSetting {
         used: None,
         before: 0,
         first: 1,
@@ -128,7 +128,7 @@ fn written_out(
     body: &RawFormula,
 ) -> Result<RawQuery, Memory>
     requires plain { HasNoOperator (raw_form_of body.now) }
-    requires definitions { AreWhole scene.now.written }
+    requires definitions { IsWholeIfAny scene.now.written }
     ensures head { IfOk result (λ made. made.head ≡ head.now) }
     ensures body { IfOk result (λ made. (file : RawFileView) → IsAround scene.now file
         → raw_form_of made.body ≡ inlined_here scene.now file (raw_form_of body.now)) }
@@ -149,7 +149,7 @@ fn inline(
     f: &RawFormula,
 ) -> Result<Box<RawFormula>, Memory>
     requires plain { HasNoOperator (raw_form_of f.now) }
-    requires definitions { AreWhole scene.now.written }
+    requires definitions { IsWholeIfAny scene.now.written }
     ensures { IfOk result (λ made. (file : RawFileView) → IsAround scene.now file
         → raw_form_of made.value ≡ inlined_here scene.now file (raw_form_of f.now)) }
 {
@@ -184,7 +184,7 @@ fn inline(
         RawKind::Exists { binder, of } => {
             let at = Binding {
                 place,
-                quantifier: Quantifier::Exists,
+                quantifier: QuantifierKind::Exists,
                 binder,
             };
             inline_quantified(alloc, text, scene, at, of)
@@ -192,7 +192,7 @@ fn inline(
         RawKind::Forall { binder, of } => {
             let at = Binding {
                 place,
-                quantifier: Quantifier::Forall,
+                quantifier: QuantifierKind::Forall,
                 binder,
             };
             inline_quantified(alloc, text, scene, at, of)
@@ -211,7 +211,7 @@ fn inline_negation(
     of: &RawFormula,
 ) -> Result<Box<RawFormula>, Memory>
     requires plain { HasNoOperator (raw_form_of of.now) }
-    requires definitions { AreWhole scene.now.written }
+    requires definitions { IsWholeIfAny scene.now.written }
     ensures { IfOk result (λ made. (file : RawFileView) → IsAround scene.now file
         → raw_form_of made.value
         ≡ raw_not place (inlined_here scene.now file (raw_form_of of.now))) }
@@ -229,7 +229,7 @@ fn inline_group(
     of: &RawFormula,
 ) -> Result<Box<RawFormula>, Memory>
     requires plain { HasNoOperator (raw_form_of of.now) }
-    requires definitions { AreWhole scene.now.written }
+    requires definitions { IsWholeIfAny scene.now.written }
     ensures { IfOk result (λ made. (file : RawFileView) → IsAround scene.now file
         → raw_form_of made.value
         ≡ raw_group place (inlined_here scene.now file (raw_form_of of.now))) }
@@ -248,7 +248,7 @@ fn inline_implication(
 ) -> Result<Box<RawFormula>, Memory>
     requires left { HasNoOperator (raw_form_of sides.0.now) }
     requires right { HasNoOperator (raw_form_of sides.1.now) }
-    requires definitions { AreWhole scene.now.written }
+    requires definitions { IsWholeIfAny scene.now.written }
     ensures { IfOk result (λ made. (file : RawFileView) → IsAround scene.now file
         → raw_form_of made.value ≡ raw_implies place
         (inlined_here scene.now file (raw_form_of sides.entry.0.now))
@@ -269,7 +269,7 @@ fn inline_joined(
     of: &[RawFormula],
 ) -> Result<Box<RawFormula>, Memory>
     requires plain { HaveNoOperator (raw_forms_of of.now) }
-    requires definitions { AreWhole scene.now.written }
+    requires definitions { IsWholeIfAny scene.now.written }
     ensures { IfOk result (λ made. (file : RawFileView) → IsAround scene.now file
         → raw_form_of made.value ≡ joined_form at.1 at.0
         (each_inlined_here scene.now file (raw_forms_of of.now))) }
@@ -287,7 +287,7 @@ fn inline_each(
     fs: &[RawFormula],
 ) -> Result<Vec<RawFormula>, Memory>
     requires plain { HaveNoOperator (raw_forms_of fs.now) }
-    requires definitions { AreWhole scene.now.written }
+    requires definitions { IsWholeIfAny scene.now.written }
     ensures { IfOk result (λ made. (file : RawFileView) → IsAround scene.now file
         → raw_forms_of made.items
         ≡ each_inlined_here scene.now file (raw_forms_of fs.now)) }
@@ -310,7 +310,7 @@ fn inline_quantified(
     of: &RawFormula,
 ) -> Result<Box<RawFormula>, Memory>
     requires plain { HasNoOperator (raw_form_of of.now) }
-    requires definitions { AreWhole scene.now.written }
+    requires definitions { IsWholeIfAny scene.now.written }
     ensures { IfOk result (λ made. (file : RawFileView) → IsAround scene.now file
         → raw_form_of made.value ≡ quantified_form at.entry.quantifier at.entry.place
         (set_column (setting_of scene.now.setting) at.entry.binder.now)
@@ -323,7 +323,7 @@ fn inline_quantified(
 
 // The definition that a name means, among those that an atom of the scene may name.
 fn meaning_of<'a>(scene: &Scene<'a>, name: &Name) -> Option<Named<'a>>
-    requires { AreWhole scene.now.written }
+    requires { IsWholeIfAny scene.now.written }
     ensures { IsMeant scene.now name.now result }
 {
     let written = scene.written?;
@@ -340,7 +340,7 @@ fn inline_atom(
     scene: &Scene<'_>,
     met: Met<'_>,
 ) -> Result<Box<RawFormula>, Memory>
-    requires { AreWhole scene.now.written }
+    requires { IsWholeIfAny scene.now.written }
     ensures { IfOk result (λ made. (file : RawFileView) → IsAround scene.now file
         → raw_form_of made.value ≡ met_form scene.now file met.entry) }
 {
@@ -359,8 +359,8 @@ fn inline_use(
     met: Met<'_>,
     named: Named<'_>,
 ) -> Result<Box<RawFormula>, Memory>
-    requires named { IsNamed scene.now named }
-    requires definitions { AreWhole scene.now.written }
+    requires named { IsNamedIn scene.now named }
+    requires definitions { IsWholeIfAny scene.now.written }
     ensures { IfOk result (λ made. (file : RawFileView) → IsAround scene.now file
         → IsUsed scene.now file met.entry named.entry.number (raw_form_of made.value)) }
 {
@@ -374,7 +374,7 @@ fn inline_use(
         comparisons,
         passed,
     } = given;
-    let setting = Setting {
+    let setting = UseSetting {
         used: Some(Use {
             number: met.number,
             place: met.place,

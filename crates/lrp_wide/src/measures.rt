@@ -6,10 +6,10 @@ ghost use Rattle.lrp_model.specs.Texts.{Identifier};
 ghost use Rattle.lrp_model.specs.declared.raw.RawTerm.{RawTerm as RawTermOf};
 ghost use Rattle.lrp_model.specs.declared.tokens.Place.{Place as PlaceOf};
 ghost use Rattle.lrp_tense.specs.Expanding.{form_of_pair, form_of_range};
-ghost use Rattle.lrp_wide.specs.Inlining.{Known, Setting as SettingOf, expanded_file, use_form};
+ghost use Rattle.lrp_wide.specs.Inlining.{Known, UseSetting as SettingOf, expanded_file, use_form};
 ghost use Rattle.lrp_wide.specs.Counts.{AreRowless};
 ghost use Rattle.lrp_wide.specs.Stars.{NamesNoStar};
-ghost use Rattle.lrp_wide.specs.Sizes.{AreCounted, AreMeasured, IsKnownSize, IsSizeIn, IsSizeInEach, IsSizeOf, is_compared};
+ghost use Rattle.lrp_wide.specs.Sizes.{AreTermsCounted, AreMeasured, IsKnownSize, IsSizeIn, IsSizeInEach, IsSizeOf, is_compared};
 
 use crate::names::is_star;
 use lrp_model::{
@@ -112,7 +112,7 @@ impl Terms {
 
 /// The terms of an atom that has these columns.
 pub fn terms_of(columns: &[Column], terms: &[RawTerm]) -> Terms
-    ensures { AreCounted result columns.now terms.now }
+    ensures { AreTermsCounted result columns.now terms.now }
 {
     let mut found = Terms {
         stars: 0,
@@ -227,7 +227,7 @@ pub fn columns_of<'a>(definitions: &'a Definitions<'_>, name: &Name) -> &'a [Col
 
 // A use of a definition whose formula has this size.
 fn use_size(terms: Terms, inner: Size) -> Size
-    ensures { (d : Known) (ts : ListOf RawTermOf) → AreCounted terms d.columns ts
+    ensures { (d : Known) (ts : ListOf RawTermOf) → AreTermsCounted terms d.columns ts
         → IsKnownSize d inner → (s : SettingOf) (p : PlaceOf) (k : ℕ)
         → IsSizeOf result (use_form s p k d ts) }
 {

@@ -46,7 +46,7 @@ impl NameText {
         self.numbered(alloc, number)
     }
 
-    // The text with a number behind it.
+    // The text with a number after it.
     fn numbered(&mut self, alloc: Global, number: u64) -> Result<Name, Memory>
         ensures { IfOk result (λ made. made
             ≡ string_bytes self.old.text ++ star_variable number) }

@@ -3,7 +3,7 @@ ghost use Rattle.std.specs.Prelude.{◌≡◌, ◌<◌, ◌+◌, ◌++◌, ◌^�
 ghost use Rattle.lrp_model.specs.RawQueries.{raw_file_of, raw_form_of, raw_forms_of};
 ghost use Rattle.lrp_model.specs.Rows.{columns_in, relation_named};
 ghost use Rattle.lrp_wide.specs.Inlining.{Known, atom_numbers as numbers_of_atom, counted_each, counted_in, meant_by, numbers_before};
-ghost use Rattle.lrp_wide.specs.Counts.{AreAscending, AreNumbered, AreRowless, IsFirstBehind, counted_of, end_before, file_numbers};
+ghost use Rattle.lrp_wide.specs.Counts.{AreAscending, AreRelationsNumbered, AreRowless, IsFirstBehind, counted_of, end_before, file_numbers};
 ghost use Rattle.lrp_tense.specs.Expanding.{is_before as is_before_of};
 
 use crate::measures::terms_of;
@@ -199,7 +199,7 @@ fn number_text(
     f: &RawFormula,
 ) -> Result<Numbers, Memory>
     ensures { IfOk result (λ made. (ks : ListOf Known)
-        → AreNumbered ks definitions.now.definitions known.now
+        → AreRelationsNumbered ks definitions.now.definitions known.now
         → made ≡ counted_in definitions.now.relations ks (raw_form_of f.now)) }
 {
     let mut numbers = Numbers::new(alloc);
@@ -216,7 +216,7 @@ fn count_in(
     f: &RawFormula,
 ) -> Result<(), Memory>
     ensures { OnOk result ((ks : ListOf Known)
-        → AreNumbered ks definitions.now.definitions known.now → numbers.new
+        → AreRelationsNumbered ks definitions.now.definitions known.now → numbers.new
         ≡ numbers.old ++ counted_in definitions.now.relations ks (raw_form_of f.now)) }
 {
     match &f.kind {
@@ -252,7 +252,7 @@ fn count_each(
     fs: &[RawFormula],
 ) -> Result<(), Memory>
     ensures { OnOk result ((ks : ListOf Known)
-        → AreNumbered ks definitions.now.definitions known.now → numbers.new
+        → AreRelationsNumbered ks definitions.now.definitions known.now → numbers.new
         ≡ numbers.old ++ counted_each definitions.now.relations ks (raw_forms_of fs.now)) }
 {
     for f in fs {
@@ -269,7 +269,7 @@ fn atom_numbers(
     terms: &[RawTerm],
 ) -> Result<u64, Memory>
     ensures { IfOk result (λ taken. (ks : ListOf Known)
-        → AreNumbered ks definitions.now.definitions known.now
+        → AreRelationsNumbered ks definitions.now.definitions known.now
         → taken ≡ numbers_of_atom (columns_in (relation_named definitions.now.relations name.now))
         terms.now
         (meant_by definitions.now.relations ks name.now)) }

@@ -1,14 +1,14 @@
 // What the terms of a use bring for the columns of its definition.
 ghost use Rattle.std.specs.Prelude.{◌≡◌, ◌<◌, ◌+◌, ◌++◌, [], ◌∷◌, suc, map, IfOk, OnOk};
 ghost use Rattle.lrp_model.specs.RawQueries.{raw_compare, raw_form_of};
-ghost use Rattle.lrp_wide.specs.Inlining.{variable_of as variable_in};
+ghost use Rattle.lrp_wide.specs.Inlining.{plain_variable as variable_in};
 ghost use Rattle.lrp_wide.specs.Inside.{AreArguments};
 ghost use Rattle.lrp_wide.specs.Settings.{setting_of};
 
 use crate::atoms::Met;
 use crate::names::{NameText, is_star};
 use crate::numbering::plus;
-use crate::uses::{Passed, Setting, added, equal};
+use crate::uses::{Passed, UseSetting, added, equal};
 use lrp_model::{Column, Memory, Name, Place, RawColumn, RawFormula, RawTerm, RawTermKind};
 use std::alloc::Global;
 
@@ -26,7 +26,7 @@ pub struct Arguments<'a> {
 impl<'a> Arguments<'a> {
     ghost use Rattle.std.specs.Prelude.{◌≡◌, ◌+◌, ◌++◌, [], ◌∷◌, map, OnOk};
     ghost use Rattle.lrp_model.specs.RawQueries.{raw_form_of};
-    ghost use Rattle.lrp_wide.specs.Inside.{IsCompared, IsItself, IsStar};
+    ghost use Rattle.lrp_wide.specs.Inside.{IsArgumentCompared, IsItself, IsStar};
 
     // None yet, where the next number is this.
     fn new(alloc: Global, next: u64) -> Self
@@ -75,7 +75,7 @@ impl<'a> Arguments<'a> {
 
     // A column that is compared with this term, by a variable of its own.
     fn compare(&mut self, alloc: Global, binder: RawColumn, term: RawTerm) -> Result<(), Memory>
-        ensures { OnOk result (IsCompared self.old binder term self.new) }
+        ensures { OnOk result (IsArgumentCompared self.old binder term self.new) }
     {
         let name = binder.name.copy(alloc)?;
         self.comparisons.push(equal(binder.place, name, term))?;
@@ -88,7 +88,7 @@ impl<'a> Arguments<'a> {
 pub fn arguments_of<'b>(
     alloc: Global,
     text: &mut NameText,
-    setting: &Setting<'_>,
+    setting: &UseSetting<'_>,
     met: Met<'_>,
     columns: &'b [Column],
 ) -> Result<Arguments<'b>, Memory>

@@ -3,7 +3,7 @@ ghost use Rattle.std.specs.Prelude.{◌≡◌, IfOk};
 ghost use Rattle.lrp_model.specs.RawQueries.{raw_compare, raw_form_of};
 ghost use Rattle.lrp_model.specs.declared.formulas.Op.TheVariants.{Eq};
 ghost use Rattle.lrp_tense.specs.Expanding.{name_term};
-ghost use Rattle.lrp_wide.specs.Inlining.{added as added_column, some_each as some_each_of};
+ghost use Rattle.lrp_wide.specs.Inlining.{column_added, some_each as some_each_of};
 ghost use Rattle.lrp_wide.specs.Settings.{and_behind};
 
 use crate::names::NameText;
@@ -11,7 +11,7 @@ use crate::numbering::{Numbers, plus};
 use lrp_model::{
     Copies, Memory, Name, Op, Place, RawColumn, RawFormula, RawKind, RawTerm, RawTermKind, Sort,
 };
-use lrp_tense::{Connective, Quantifier, joined, quantified};
+use lrp_tense::{Connective, QuantifierKind, joined, quantified};
 use std::alloc::Global;
 
 /// A column of a definition, and the variable that stands for it in a use.
@@ -31,7 +31,7 @@ pub struct Use<'a> {
 
 /// What is made of the names and places of a text: nothing in the query's own, and in a definition what its use says.
 #[derive(Clone, Copy)]
-pub struct Setting<'a> {
+pub struct UseSetting<'a> {
     pub used: Option<Use<'a>>,
     /// How many of the first definitions an atom may name.
     pub before: usize,
@@ -40,7 +40,7 @@ pub struct Setting<'a> {
     pub numbers: Option<&'a Numbers>,
 }
 
-impl<'a> Setting<'a> {
+impl<'a> UseSetting<'a> {
     ghost use Rattle.std.specs.Prelude.{◌≡◌, IfOk};
     ghost use Rattle.lrp_wide.specs.Inlining.{set_column, set_term};
     ghost use Rattle.lrp_wide.specs.Settings.{setting_of};
@@ -128,7 +128,7 @@ impl<'a> Setting<'a> {
 
 /// A variable that is added at an atom.
 pub fn added(alloc: Global, place: Place, name: Name, sort: &Sort) -> Result<RawColumn, Memory>
-    ensures { IfOk result (λ made. made ≡ added_column place name sort.now) }
+    ensures { IfOk result (λ made. made ≡ column_added place name sort.now) }
 {
     Ok(RawColumn {
         name,
@@ -175,12 +175,12 @@ pub fn some_each(
     let mut left = binders;
     let mut made = of;
     while let Some(binder) = left.pop() {
-        made = quantified(alloc, place, Quantifier::Exists, binder, made)?;
+        made = quantified(alloc, place, QuantifierKind::Exists, binder, made)?;
     }
     Ok(made)
 }
 
-/// The formula behind these comparisons, in one `and`, where there are some.
+/// The formula after these comparisons, in one `and`, where there are some.
 pub fn with_comparisons(
     alloc: Global,
     place: Place,

@@ -169,7 +169,7 @@ module _ (z : ZoneView) (valid : IsZone z) (k : ℕ) (low : 0 < k) (high : k ≤
       own i j il jl = (reach_small z (reach_of z) (omega (arith, count))).each i j (omega (arith, count)) (omega (arith, count))
 
   module _ (xs : List ℤ) (m : IsMember rest xs) where
-    -- column k is at most one behind the tuple
+    -- column k is at most one after the tuple
     enough : k ≤ length xs + 1
     enough = let c : length xs ≡ length rs = m.cell.count in omega (arith, count)
 

@@ -50,7 +50,7 @@ pub fn without(bounds: &BoundTable, k: usize, n: usize) -> BoundTable
     out
 }
 
-/// The residues without that of column k, and zeros behind them.
+/// The residues without that of column k, and zeros after them.
 pub fn residues_without(residues: &[i64], k: usize) -> [i64; 8]
     requires low { 0 < k }
     requires node { k ≤ length residues.now }

@@ -67,7 +67,7 @@ pub fn holds(xs: &[i64], residues: &[i64], bounds: &BoundTable, period: u64) -> 
     true
 }
 
-/// The values and zeros behind them.
+/// The values and zeros after them.
 pub fn padded(values: &[i64]) -> [i64; 8]
     requires { length values.now ≤ 8 }
     ensures { result ≡ values.now ++ replicate (8 - length values.now) (pos 0) }

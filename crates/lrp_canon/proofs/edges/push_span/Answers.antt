@@ -13,7 +13,7 @@ use Rattle.lrp_canon.specs.Edges.{AddsEdges}
 use Rattle.lrp_canon.proofs.PushLaws.{IsInTurns, turns_begin, turns_end, turns_next}
 use Rattle.lrp_canon.proofs.edges.push_span.Goals as goal
 
--- an end of a span is a word, and so is the turn behind it
+-- an end of a span is a word, and so is the turn after it
 end_word : (e : ℤ) → AtMost (2 ^ 62 + 2) (Some e) → to_z w64 (of_z w64 e) ≡ e
 end_word e a = let l : neg_ℤ (pos (2 ^ 62 + 2)) ≤ℤ e = a.0 in let h : e ≤ℤ pos (2 ^ 62 + 2) = a.1 in omega (arith, ints)
 
@@ -40,7 +40,7 @@ up_to s t n l e = omega (arith, ints)
 turn_number : (whole : ℕ) (span : Span) (first last t : ℤ) → span.first ≡ Some first → span.last ≡ Some last → first ≤ℤ t → t ≤ℤ last → SpansHaveNumber whole (span ∷ []) (pos span.residue +ℤ (pos whole *ℤ t))
 turn_number whole span first last t ef el l h = record { residue = span.residue; turn = t; is = refl; inside = record { span = span; listed = one_in span; is = record { residue = refl; low = subst (Above t) (sym ef) l; high = subst (Within t) (sym el) h } } }
 
--- behind the last turn
+-- after the last turn
 all_turns : (span : Span) (first last start t : ℤ) → IsSpan (2 ^ 62 + 2) span → span.first ≡ Some first → span.last ≡ Some last → start ≡ first → (t ≡ start) ⊎ Within (t -ℤ pos 1) span.last → (last +ℤ pos 1) ≤ℤ t → t ≡ last +ℤ pos 1
 all_turns span first last start t v ef el es high l = of high
   where

@@ -1,4 +1,4 @@
--- The rows from each start to the first stop behind it.
+-- The rows from each start to the first stop after it.
 use Rattle.std.proofs.Common.{◌+◌, ◌-◌, ◌^◌, arith, subst, sym}
 use Rattle.std.specs.Prelude.{AllPairs}
 use Rattle.std.proofs.lemmas.Result.{IfOk-weaker}

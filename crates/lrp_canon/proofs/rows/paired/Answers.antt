@@ -1,4 +1,4 @@
--- One more start, with the first stop behind it.
+-- One more start, with the first stop after it.
 use Rattle.std.proofs.Common.{None, arith, refl}
 use Rattle.lrp_canon.proofs.PairLaws.{count_more, here_left, rows_end, rows_more, still_before}
 use Rattle.lrp_canon.proofs.rows.paired.Goals as goal

@@ -9,7 +9,7 @@ use Rattle.lrp_cutting.proofs.NearLaws.{AreMetOf, met_all, met_more, met_same}
 use Rattle.lrp_cutting.proofs.cutters.met.Goals as goal
 use Rattle.lrp_cutting.proofs.cutters.met.Goals.{then-have_common+in_ok-push, else-have_common}
 
--- what the list has behind its end
+-- what the list has after its end
 abbrev nowhere : Window
 nowhere = record { least = None; most = None; place = 0 }
 

@@ -1,4 +1,4 @@
--- What starts a period behind the end of the other one.
+-- What starts a period after the end of the other one.
 use Rattle.std.proofs.Common.{◌≡◌, ◌+◌, ◌≤◌, ◌^◌, Some, subst, to_z, of_z, w64}
 use Rattle.std.specs.Prelude.{pos, nat_abs, ◌+ℤ◌, IfNone, IfSome}
 use Rattle.lrp_cutting.specs.Gaps.{IsGreaterOf, IsReversed}

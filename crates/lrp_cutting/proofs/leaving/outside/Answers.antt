@@ -11,7 +11,7 @@ use Rattle.lrp_cutting.proofs.HalfLaws.{stored_moved}
 use Rattle.lrp_cutting.proofs.LeavingLaws.{AtBound, IsLeaving, at_bound, leaving_none, leaving_same, leaving_more, leaving_early, leaving_late}
 use Rattle.lrp_cutting.proofs.leaving.outside.Goals as goal
 
--- what the list has behind its end
+-- what the list has after its end
 abbrev nought : Bound
 nought = record { left = 0; right = 0; most = pos 0 }
 

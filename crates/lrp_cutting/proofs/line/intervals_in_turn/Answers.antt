@@ -1,4 +1,4 @@
--- The last interval grows by the next zone's, or that comes behind it.
+-- The last interval grows by the next zone's, or that comes after it.
 use Rattle.std.proofs.Common.{[], ◌∷◌, ◌++◌, sym, subst}
 use Rattle.lrp_cutting.specs.Lines.{HaveNumbers}
 use Rattle.lrp_cutting.proofs.LineLaws.{word_pos}

@@ -1,4 +1,4 @@
--- One zone more is far behind the one before it.
+-- One zone more is far after the one before it.
 use Rattle.std.proofs.Common.{◌≡◌, ◌∷◌, refl, sym, subst, arith, to_z, of_z, w64}
 use Rattle.std.specs.Prelude.{ℤ, Contains}
 use Rattle.std.proofs.lemmas.Int.{ints}

@@ -1,4 +1,4 @@
--- Each zone is far behind the one before it.
+-- Each zone is far after the one before it.
 use Rattle.std.proofs.Common.{◌<◌, ◌∷◌, sym, subst, ◌∙◌, arith}
 use Rattle.std.specs.Prelude.{Contains}
 use Rattle.lrp_cutting.proofs.LineLaws.{word_pos}

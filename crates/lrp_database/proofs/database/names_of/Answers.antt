@@ -1,4 +1,4 @@
--- One name more goes behind the others, since it is none of them.
+-- One name more goes after the others, since it is none of them.
 use Rattle.std.proofs.Common.{◌≡◌, ◌∙◌, ap, sym, map, length, arith, get_or}
 use Rattle.std.proofs.lemmas.List.{length-map}
 use Rattle.std.proofs.Math.ListN.{get_or-map}

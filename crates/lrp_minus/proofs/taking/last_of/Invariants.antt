@@ -1,4 +1,4 @@
--- No place so far is behind the last one.
+-- No place so far is after the last one.
 use Rattle.std.proofs.Common.{ℕ, ◌<◌, ◌≤◌}
 use Rattle.std.specs.Prelude.{slice_index_or}
 use Rattle.lrp_minus.proofs.taking.last_of.Given as goal

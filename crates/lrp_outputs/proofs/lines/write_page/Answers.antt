@@ -1,4 +1,4 @@
--- The lines, and then the line behind them.
+-- The lines, and then the line after them.
 use Rattle.std.proofs.Common.{map}
 use Rattle.std.specs.Prelude.{flat_map}
 use Rattle.std.proofs.lemmas.Result.{err_from_is_err_and}

@@ -1,4 +1,4 @@
--- The bounds so far, and then those of the values left, behind the time columns so far.
+-- The bounds so far, and then those of the values left, after the time columns so far.
 use Rattle.std.proofs.Common.{◌≡◌, ◌++◌, ◌+◌, ◌≤◌, drop}
 use Rattle.lrp_model.specs.DatabaseMeaning.{instant_bounds}
 use Rattle.lrp_rel.specs.Times.{points_in}

@@ -1,4 +1,4 @@
--- A key behind the last one is missing there, and one that is equal to it stands there.
+-- A key after the last one is missing there, and one that is equal to it stands there.
 use Rattle.std.proofs.Common.{◌<◌, ◌≤◌, arith, sym, ◌∙◌, length}
 use Rattle.lrp_slots.proofs.Shortened.{all_between, end_gap, first_gap, key_equal}
 use Rattle.lrp_slots.proofs.line.search.Goals as goal

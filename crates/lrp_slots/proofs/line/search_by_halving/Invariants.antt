@@ -1,4 +1,4 @@
--- The key comes behind all before the one place, and before all from the other one on.
+-- The key comes after all before the one place, and before all from the other one on.
 use Rattle.std.proofs.Common.{◌-◌}
 use Rattle.lrp_slots.specs.Lines.{ComesBetween}
 use Rattle.lrp_slots.specs.Narrow.{wide, wide_entries}

@@ -1,4 +1,4 @@
--- One key more has become a cell, behind those before it.
+-- One key more has become a cell, after those before it.
 use Rattle.std.proofs.Common.{◌++◌, ap, sym, ◌∙◌}
 use Rattle.std.specs.BTreeMap.{insert_entry}
 use Rattle.lrp_slots.specs.Lists.{cell_cmp}

@@ -1,4 +1,4 @@
--- The next span comes behind the last, or joins it.
+-- The next span comes after the last, or joins it.
 use Rattle.std.proofs.Common.{◌≡◌, ℕ, ◌<◌, ◌∷◌, ◌∙◌, inr, List, None, get_or, length, take, sym, subst, arith}
 use Rattle.std.specs.Prelude.{AllPairs, Contains}
 use Rattle.lrp_spans.specs.declared.spans.Span.{Span}

@@ -1,4 +1,4 @@
--- What comes into the next turn, and behind it what stays in its turn.
+-- What comes into the next turn, and after it what stays in its turn.
 use Rattle.std.proofs.Common.{◌^◌, ◌-◌, ◌++◌, map, drop, length, take, ap, arith, subst, sym, ◌∙◌}
 use Rattle.std.specs.Prelude.{Contains}
 use Rattle.lrp_spans.specs.Spans.{AreShifted, moved_past, moved_within}

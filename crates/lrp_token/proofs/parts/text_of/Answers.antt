@@ -1,4 +1,4 @@
--- A text is what its hex digits spell, behind an `x`.
+-- A text is what its hex digits spell, after an `x`.
 use Rattle.std.proofs.Common.{◌≡◌, ◌≢◌, ◌≤◌, ◌/◌, ℕ, List, ◌∷◌, length, lit<, arith}
 use Rattle.std.proofs.lemmas.Str.Pattern.{strip_prefix_char}
 use Rattle.lrp_model.specs.PrintedPages.{hex}

@@ -1,4 +1,4 @@
--- Behind the second version stands a digest.
+-- After the second version stands a digest.
 use Rattle.std.proofs.Common.{◌≡◌, ◌++◌, ◌∷◌, ◌∙◌, ap, codes, lit<}
 use Rattle.std.proofs.lemmas.Str.Pattern.{split_parts}
 use Rattle.lrp_model.specs.PrintedPages.{IsToken}

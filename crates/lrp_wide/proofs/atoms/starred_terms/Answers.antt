@@ -1,7 +1,7 @@
 use Rattle.std.proofs.Common.{◌≡◌, ◌+◌, suc, ◌++◌, ◌∷◌, [], ap, sym, ◌∙◌, arith}
 use Rattle.lrp_model.specs.declared.relations.Column.{Column}
 use Rattle.lrp_tense.specs.Expanding.{name_term}
-use Rattle.lrp_wide.specs.Inlining.{added, set_term, star_columns, star_terms}
+use Rattle.lrp_wide.specs.Inlining.{column_added, set_term, star_columns, star_terms}
 use Rattle.lrp_wide.specs.Meaning.{is_star}
 use Rattle.lrp_wide.specs.Settings.{setting_of}
 use Rattle.lrp_wide.proofs.InlineTerms.{dropped, starred-as, starred-behind, starred-below, starred-binders, starred-star, starred-terms}
@@ -32,7 +32,7 @@ loop-i-preserved c =
           let next : w.in_ok-next.next ≡ c.loop-i.next + 1 = w.in_ok-next.ensures in
           starred-as s p k cs ts (i + 1) (suc c.loop-i.next) _ _ _ _ _ (omega (arith, next, w.next-is))
           (w.all-is ∙ w.in_ok-push-2.ensures.ok ∙ ap (λ x. c.loop-i.all ++ x ∷ []) (w.variable.ensures ∙ ap (name_term p) w.in_ok-name.ensures))
-          (ap (λ v. v.items) w.binders-is ∙ w.in_ok-push.ensures.items ∙ ap (λ x. c.loop-i.binders.items ++ x ∷ []) (w.in_ok-added.ensures ∙ ap (λ (x : Column). added p w.in_ok-copy.field-0 x.sort) (sym w.index-columns-i.is) ∙ ap (λ n. added p n col.sort) (w.in_ok-copy.ensures ∙ w.in_ok-name.ensures)))
+          (ap (λ v. v.items) w.binders-is ∙ w.in_ok-push.ensures.items ∙ ap (λ x. c.loop-i.binders.items ++ x ∷ []) (w.in_ok-added.ensures ∙ ap (λ (x : Column). column_added p w.in_ok-copy.field-0 x.sort) (sym w.index-columns-i.is) ∙ ap (λ n. column_added p n col.sort) (w.in_ok-copy.ensures ∙ w.in_ok-name.ensures)))
           (starred-star s p k cs ts i c.loop-i.next c.loop-i.all c.loop-i.binders.items col t columns here star c.loop-i.invariant)
       | else-i-columns+in_ok-term+in_ok-push-3 w ↦
           let made = starred-as s p k cs ts (i + 1) c.loop-i.next _ (c.loop-i.all ++ set_term s t ∷ []) _ c.loop-i.binders.items _ w.next-is

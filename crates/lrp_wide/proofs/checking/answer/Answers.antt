@@ -8,7 +8,7 @@ use Rattle.lrp_wide.specs.Counts.{AreRowless}
 use Rattle.lrp_wide.specs.Inlining.{expanded_file, plain_definition}
 use Rattle.lrp_wide.specs.Inside.{HasPlainBody}
 use Rattle.lrp_wide.specs.Sizes.{IsSizeOf}
-use Rattle.lrp_wide.specs.WideSorting.{name_faults, own_faults, relation_of, text_faults}
+use Rattle.lrp_wide.specs.WideSorting.{name_faults, own_faults, defined_relation, text_faults}
 use Rattle.lrp_wide.proofs.SortAnswers.{definitions_long, numbers_long, own_first, rowless_plain}
 use Rattle.lrp_wide.proofs.SortOutcomes.{small_by_size}
 use Rattle.lrp_wide.proofs.checking.answer.Goals as goal
@@ -17,7 +17,7 @@ pub own_fault-requires-clause-rowless : goal.own_fault-requires-clause-rowless
 own_fault-requires-clause-rowless c =
     let d = c.in_ok-definitions.definitions in
     let f = raw_file_of c.args.file in
-    let rowless : AreRowless d f = ap (λ e. e.definitions) c.in_ok-definitions.ensures.definitions ∙ ap (λ xs. map relation_of (map raw_definition_of xs)) c.as_slice.ensures.value in
+    let rowless : AreRowless d f = ap (λ e. e.definitions) c.in_ok-definitions.ensures.definitions ∙ ap (λ xs. map defined_relation (map raw_definition_of xs)) c.as_slice.ensures.value in
     rowless_plain d f (raw_file_of c.in_ok-plain.plain) c.in_ok-plain.ensures.tree rowless
 
 pub returns-in-Some-clause-refused : goal.returns-in-Some-clause-refused
@@ -39,7 +39,7 @@ expand-requires-clause-definitions c =
     let d = c.in_ok-definitions.definitions in
     let f = raw_file_of c.args.file in
     let plain = c.in_ok-plain.plain.definitions.items in
-    let rowless : AreRowless d f = ap (λ e. e.definitions) c.in_ok-definitions.ensures.definitions ∙ ap (λ xs. map relation_of (map raw_definition_of xs)) c.as_slice.ensures.value in
+    let rowless : AreRowless d f = ap (λ e. e.definitions) c.in_ok-definitions.ensures.definitions ∙ ap (λ xs. map defined_relation (map raw_definition_of xs)) c.as_slice.ensures.value in
     let tree : map raw_definition_of plain ≡ map plain_definition f.definitions = ap (λ g. g.definitions) c.in_ok-plain.ensures.tree in
     record {
       operators = subst (λ xs. AllByRecursion HasPlainBody xs) (sym c.as_slice-2.ensures.value) c.in_ok-plain.ensures.definitions;
@@ -53,7 +53,7 @@ returns-clause-query c =
     let f = raw_file_of c.args.file in
     let plain = c.in_ok-plain.plain.definitions.items in
     let same : d.relations ≡ c.args.db.now = ap (λ e. e.relations) c.in_ok-definitions.ensures.definitions in
-    let rowless : AreRowless d f = ap (λ e. e.definitions) c.in_ok-definitions.ensures.definitions ∙ ap (λ xs. map relation_of (map raw_definition_of xs)) c.as_slice.ensures.value in
+    let rowless : AreRowless d f = ap (λ e. e.definitions) c.in_ok-definitions.ensures.definitions ∙ ap (λ xs. map defined_relation (map raw_definition_of xs)) c.as_slice.ensures.value in
     let tree : map raw_definition_of plain ≡ map plain_definition f.definitions = ap (λ g. g.definitions) c.in_ok-plain.ensures.tree in
     c.in_ok-expand.ensures f
     (record { names = rowless; plain = ap (map raw_definition_of) c.as_slice-2.ensures.value ∙ tree; numbers = c.as_slice-3.ensures.value ∙ c.in_ok-numbers.ensures })

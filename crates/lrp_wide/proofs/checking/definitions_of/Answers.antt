@@ -5,7 +5,7 @@ use Rattle.lrp_model.specs.Sorting.{query_fault, query_standing}
 use Rattle.lrp_model.specs.declared.faults.QueryFault.{QueryFault}
 use Rattle.lrp_model.specs.declared.faults.QueryKind.TheVariants.{Defined}
 use Rattle.lrp_sorts.specs.Definitions.{Defined as DefinedBeside, is_taken, rowless}
-use Rattle.lrp_wide.specs.WideSorting.{relation_of}
+use Rattle.lrp_wide.specs.WideSorting.{defined_relation}
 use Rattle.lrp_wide.proofs.SortFiles.{denied_twice, name_more, one_relation}
 use Rattle.lrp_wide.proofs.checking.definitions_of.Goals as goal
 

@@ -3,7 +3,7 @@ use Rattle.std.proofs.lemmas.List.{take_all}
 use Rattle.lrp_model.specs.Faults.{earliest}
 use Rattle.lrp_model.specs.RawQueries.{raw_definition_of, raw_file_of}
 use Rattle.lrp_model.specs.Sorting.{query_faults, query_standing}
-use Rattle.lrp_wide.specs.WideSorting.{query_of, relation_of, starred_plain}
+use Rattle.lrp_wide.specs.WideSorting.{query_of, defined_relation, starred_plain}
 use Rattle.lrp_wide.proofs.SortFiles.{one_relation, plain_faults, relation_at, text_end, text_more}
 use Rattle.lrp_wide.proofs.checking.own_fault.Goals as goal
 
@@ -15,12 +15,12 @@ loop-i-preserved c =
     let i = c.loop-i.i in
     let x = c.index-texts-i.result in
     let within : i < length xs = omega (arith, c.loop-i-test.true, c.as_slice-texts.ensures.len) in
-    let same : d.definitions ≡ map relation_of (map raw_definition_of xs) = c.requires.rowless ∙ ap (λ ys. map relation_of (map raw_definition_of ys)) (sym c.as_slice-texts.ensures.value) in
-    let r : c.at.result.now ≡ relation_of (raw_definition_of x) = relation_at d.definitions xs i x c.at.result.now within c.index-texts-i.is same c.at.ensures in
+    let same : d.definitions ≡ map defined_relation (map raw_definition_of xs) = c.requires.rowless ∙ ap (λ ys. map defined_relation (map raw_definition_of ys)) (sym c.as_slice-texts.ensures.value) in
+    let r : c.at.result.now ≡ defined_relation (raw_definition_of x) = relation_at d.definitions xs i x c.at.result.now within c.index-texts-i.is same c.at.ensures in
     record {
       catalog =
-          c.in_ok-catalog-2.ensures ∙ ap (λ l. l ++ c.at.result.now ∷ []) c.loop-i.invariant.catalog ∙ ap (λ e. (db ++ map relation_of (map raw_definition_of (take i xs))) ++ e ∷ []) r
-          ∙ append_assoc db (map relation_of (map raw_definition_of (take i xs))) (relation_of (raw_definition_of x) ∷ []) ∙ ap (λ l. db ++ l) (one_relation xs i x within c.index-texts-i.is);
+          c.in_ok-catalog-2.ensures ∙ ap (λ l. l ++ c.at.result.now ∷ []) c.loop-i.invariant.catalog ∙ ap (λ e. (db ++ map defined_relation (map raw_definition_of (take i xs))) ++ e ∷ []) r
+          ∙ append_assoc db (map defined_relation (map raw_definition_of (take i xs))) (defined_relation (raw_definition_of x) ∷ []) ∙ ap (λ l. db ++ l) (one_relation xs i x within c.index-texts-i.is);
       fault = text_more db c.loop-i.catalog xs i x c.loop-i.fault c.in_ok-own.own c.sooner_of-fault.result within c.index-texts-i.is c.loop-i.invariant.catalog c.loop-i.invariant.fault c.in_ok-own.ensures c.sooner_of-fault.ensures;
     }
 
@@ -31,5 +31,5 @@ returns c = λ written e.
     let xs = c.as_slice-texts.result.now in
     let all : take c.loop-i.i xs ≡ xs = take_all c.loop-i.i xs (omega (arith, c.loop-i-test.false, c.as_slice-texts.ensures.len)) in
     let texts : map raw_definition_of (take c.loop-i.i xs) ≡ g.definitions = ap (map raw_definition_of) (all ∙ c.as_slice-texts.ensures.value) in
-    text_end db c.loop-i.catalog g written c.loop-i.fault c.in_ok-own-2.own c.sooner_of.result e (c.loop-i.invariant.catalog ∙ ap (λ ds. db ++ map relation_of ds) texts)
+    text_end db c.loop-i.catalog g written c.loop-i.fault c.in_ok-own-2.own c.sooner_of.result e (c.loop-i.invariant.catalog ∙ ap (λ ds. db ++ map defined_relation ds) texts)
     (c.loop-i.invariant.fault ∙ ap (λ ds. earliest query_standing (plain_faults db ds)) texts) c.in_ok-own-2.ensures c.sooner_of.ensures

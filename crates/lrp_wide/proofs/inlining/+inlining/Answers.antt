@@ -4,7 +4,7 @@ use Rattle.lrp_model.specs.RawQueries.{HasNoOperator, raw_form_of, raw_forms_of,
 use Rattle.lrp_model.specs.Rows.{columns_in, relation_named}
 use Rattle.lrp_model.specs.declared.raw.RawDefinition.{RawDefinition}
 use Rattle.lrp_tense.specs.Written.{joined_form, quantified_form}
-use Rattle.lrp_wide.specs.Inlining.{atom_form, some_each}
+use Rattle.lrp_wide.specs.Inlining.{inlined_atom, some_each}
 use Rattle.lrp_wide.specs.Inside.{AreArguments, IsMeant, each_inlined_here, known_by}
 use Rattle.lrp_wide.specs.Limits.{depth_of, depth_of_each}
 use Rattle.lrp_wide.specs.Settings.{setting_of}
@@ -83,7 +83,7 @@ pub inline_atom-returns-in-None : goal.inline_atom-returns-in-None
 inline_atom-returns-in-None t c =
     let m : IsMeant c.args.scene.now c.args.met.name.now None = c.in-None.ensures in
     if_ok_then c.starred_atom.result _ _ c.starred_atom.ensures (λ made h file around.
-    h ∙ ap (atom_form (setting_of c.args.scene.now.setting) c.args.met.place c.args.met.number c.args.met.name.now (columns_in (relation_named c.args.scene.now.catalog.now c.args.met.name.now)) c.args.met.terms.now) (sym (m.meaning file around)))
+    h ∙ ap (inlined_atom (setting_of c.args.scene.now.setting) c.args.met.place c.args.met.number c.args.met.name.now (columns_in (relation_named c.args.scene.now.catalog.now c.args.met.name.now)) c.args.met.terms.now) (sym (m.meaning file around)))
 
 pub inline_each-loop-f-init : goal.inline_each-loop-f-init
 inline_each-loop-f-init t c = λ file around. ap raw_forms_of c.in_ok-all.ensures.items

@@ -1,12 +1,12 @@
 use Rattle.std.proofs.Common.{◌≡◌, Some, None, subst, sym, arith}
-use Rattle.lrp_wide.specs.Inside.{AreWhole, IsMeant, IsWhole}
+use Rattle.lrp_wide.specs.Inside.{IsWholeIfAny, IsMeant, IsWholeWritten}
 use Rattle.lrp_wide.proofs.InlineAtoms.{meant-alone, meant-named, meant-other}
 use Rattle.lrp_wide.proofs.inlining.meaning_of.Goals as goal
 
 pub returns : goal.returns
 returns c =
     let e : c.args.scene.now.written ≡ Some c.in_ok-written.written = c.in_ok-written.was in
-    let whole : IsWhole c.in_ok-written.written = subst AreWhole e c.requires in
+    let whole : IsWholeWritten c.in_ok-written.written = subst IsWholeIfAny e c.requires in
     record {
       named = record { written = e; before = c.in_ok-number.ensures.before; there = omega (arith, c.in_ok-number.ensures.there, whole.definitions) };
       meaning = λ file around. meant-named c.args.scene.now file c.args.name.now around c.in_ok-written.written e c.in_ok-number.number (sym c.in_ok-number.ensures.number) c.in_ok-number.ensures.before;

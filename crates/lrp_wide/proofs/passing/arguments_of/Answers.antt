@@ -1,6 +1,6 @@
 use Rattle.std.proofs.Common.{◌+◌, ◌≤◌, ap, sym, subst, ◌∙◌, arith}
 use Rattle.lrp_model.specs.declared.raw.RawTerm.{RawTerm}
-use Rattle.lrp_wide.specs.Inlining.{added, set_term, variable_of}
+use Rattle.lrp_wide.specs.Inlining.{column_added, set_term, plain_variable}
 use Rattle.lrp_wide.specs.Inside.{IsItself}
 use Rattle.lrp_wide.specs.Meaning.{is_star}
 use Rattle.lrp_wide.specs.Settings.{setting_of}
@@ -31,12 +31,12 @@ loop-i-preserved c =
     elim c.if-is_star.branch [
       | then-is_star+in_ok-star w ↦ subst (ArePassed s p k cs ts (i + 1)) (sym w.given-is) (passed-star s p k cs ts i col t dc dt c.loop-i.given w.star.new.self (star ∙ w.if-is_star.true) w.in_ok-star.ensures c.loop-i.invariant)
       | else-is_star+in-Var+in_ok-name+in_ok-itself w ↦
-          let kind = ap (λ (x : RawTerm). variable_of x.kind) c.index-met-i.is ∙ ap variable_of w.in-Var.is in
+          let kind = ap (λ (x : RawTerm). plain_variable x.kind) c.index-met-i.is ∙ ap plain_variable w.in-Var.is in
           let more : IsItself c.loop-i.given col (s.name w.in-Var.name) w.itself.new.self = subst (λ n. IsItself c.loop-i.given col n w.itself.new.self) w.in_ok-name.ensures w.in_ok-itself.ensures in
           subst (ArePassed s p k cs ts (i + 1)) (sym w.given-is) (passed-itself s p k cs ts i col t dc dt c.loop-i.given w.itself.new.self w.in-Var.name (star ∙ w.if-is_star.false) kind more c.loop-i.invariant)
       | else-is_star+in_default+in_ok-name-2+in_ok-binder+in_ok-term+in_ok-compare w ↦
-          let kind = ap (λ (x : RawTerm). variable_of x.kind) c.index-met-i.is ∙ not_variable _ w.in_default.not-Var in
-          let binder = w.in_ok-binder.ensures ∙ ap (λ n. added p n col.sort) w.in_ok-name-2.ensures in
+          let kind = ap (λ (x : RawTerm). plain_variable x.kind) c.index-met-i.is ∙ not_variable _ w.in_default.not-Var in
+          let binder = w.in_ok-binder.ensures ∙ ap (λ n. column_added p n col.sort) w.in_ok-name-2.ensures in
           let term = w.in_ok-term.ensures ∙ ap (set_term s) (sym c.index-met-i.is) in
           subst (ArePassed s p k cs ts (i + 1)) (sym w.given-is) (passed-compared s p k cs ts i col t dc dt c.loop-i.given w.compare.new.self w.in_ok-binder.binder w.in_ok-term.term (star ∙ w.if-is_star.false) kind binder term w.in_ok-compare.ensures c.loop-i.invariant)
     ]

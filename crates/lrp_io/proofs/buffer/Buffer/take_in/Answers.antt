@@ -1,4 +1,4 @@
--- The piece stands behind the bytes that were held.
+-- The piece stands after the bytes that were held.
 use Rattle.std.proofs.Common.{◌≡◌, ◌+◌, length, take, rules, arith, ap, sym, ◌∙◌, length-take-le}
 use Rattle.lrp_io.specs.Buffers.{between}
 use Rattle.lrp_io.proofs.BufferLemmas.{held_more}

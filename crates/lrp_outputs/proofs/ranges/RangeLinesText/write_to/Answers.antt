@@ -1,4 +1,4 @@
--- The lines, and then the line behind them.
+-- The lines, and then the line after them.
 use Rattle.std.proofs.Common.{ap, subst}
 use Rattle.std.specs.Prelude.{flat_map}
 use Rattle.std.specs.List.{AllByRecursion}

@@ -1,4 +1,4 @@
--- A cell goes into the tree, behind the line, to its place in line, or with the line into a tree.
+-- A cell goes into the tree, after the line, to its place in line, or with the line into a tree.
 use Rattle.std.proofs.Common.{◌++◌, ap, subst, ◌∙◌}
 use Rattle.std.specs.BTreeMap.{insert_entry}
 use Rattle.lrp_slots.specs.Lists.{cell_cmp}

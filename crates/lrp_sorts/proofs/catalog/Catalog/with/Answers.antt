@@ -4,7 +4,7 @@ use Rattle.std.proofs.lemmas.List.{length-map, map-append}
 use Rattle.lrp_model.specs.Sorts.{same_sort}
 use Rattle.lrp_model.specs.Sorting.{has_sort}
 use Rattle.lrp_model.specs.declared.relations.Sort.TheVariants.{Named}
-use Rattle.lrp_sorts.specs.Scopes.{AreNumbers, added_of, holds}
+use Rattle.lrp_sorts.specs.Scopes.{AreScopeNumbers, added_of, holds}
 use Rattle.lrp_sorts.proofs.SortNames.{sort_more}
 use Rattle.lrp_sorts.proofs.catalog.Catalog.with.Goals as goal
 
@@ -18,7 +18,7 @@ invariant_of-result c =
     ap (λ n. map (λ x. x.name) (added_of items) ++ n ∷ []) c.as_bytes.ensures ∙ sym (ap (map (λ x. x.name)) more ∙ map-append (λ x. x.name) (added_of items) (r ∷ [])) in
     let long : c.len.result ≡ length (map (λ x. x.name) (added_of items)) = omega (arith, c.len.ensures, length-map (added_of items) (λ x. x.name), length-map items (λ x. x.now)) in
     record {
-      first = subst (λ ns. AreNumbers c.add_number.new.numbers ns) names (c.in_ok-add_number.ensures (map (λ x. x.name) (added_of items)) long c.self.invariant.first);
+      first = subst (λ ns. AreScopeNumbers c.add_number.new.numbers ns) names (c.in_ok-add_number.ensures (map (λ x. x.name) (added_of items)) long c.self.invariant.first);
       named = λ n.
           c.in_ok-add_sorts.ensures n ∙ ap (λ b. b || list_any (λ x. same_sort x.sort (Named n)) c.as_slice.result.now) (c.self.invariant.named n)
           ∙ ap (λ cs. has_sort (db ++ added_of items) (Named n) || list_any (λ x. same_sort x.sort (Named n)) cs) c.as_slice.ensures

@@ -1,4 +1,4 @@
--- The turn behind the hole.
+-- The turn after the hole.
 use Rattle.std.proofs.Common.{◌≡◌, ◌^◌, ◌+◌, Some, arith, refl, subst, to_z, of_z, w64}
 use Rattle.std.specs.Prelude.{ℤ, pos, ◌≤ℤ◌, ◌<ℤ◌, neg_ℤ}
 use Rattle.std.proofs.lemmas.Int.{ints}

@@ -1,4 +1,4 @@
--- What was found is held, and not after the tuples of the cells that are behind.
+-- What was found is held, and not after the tuples of the cells that are after.
 use Rattle.std.proofs.Common.{ℕ, ◌⊎◌, List, Contains}
 use Rattle.std.specs.Prelude.{ℤ}
 use Rattle.lrp_store.specs.Stores.{InStore}

@@ -1,4 +1,4 @@
--- What was found is held, and not after the tuples of the zones that are behind.
+-- What was found is held, and not after the tuples of the zones that are after.
 use Rattle.std.proofs.Common.{ℕ, ◌⊎◌, List, Option, take, Contains}
 use Rattle.std.specs.Prelude.{ℤ}
 use Rattle.lrp_zone.specs.Zones.{IsMember}

@@ -1,6 +1,6 @@
 use Rattle.std.proofs.Common.{◌≡◌, drop}
 use Rattle.lrp_wide.specs.Settings.{name_passed}
-use Rattle.lrp_wide.proofs.uses.Setting.name.Given as goal
+use Rattle.lrp_wide.proofs.uses.UseSetting.name.Given as goal
 
 -- the columns that are left give the name that all of them give
 abbrev pub invariant-loop-passed : goal.invariant-loop-passed
