@@ -510,6 +510,41 @@ def cycles_as_intervals(size):
     return Case(listed(0, whole - 1), database, text, units=whole, output=output)
 
 
+def shift_rows(days, count):
+    """Shifts of eight hours, each in a cycle of one of so many days."""
+    cycles = [DAY * days[i % len(days)] for i in range(count)]
+    return [((6979 * i + 480 * i) % cycle, cycle) for i, cycle in enumerate(cycles)]
+
+
+def uncovered_minute(days, count, cap):
+    """A minute in which no shift runs."""
+    rows = ["(%d+%dn, %d+%dn) where e = b + 480" % (start, cycle, (start + 480) % cycle, cycle) for start, cycle in shift_rows(days, count)]
+    text = query(times("t"), "not exists b: time exists e: time (shift(b, e) and b <= t and t < e)")
+    covered = lambda t: any((t - start) % cycle < 480 for start, cycle in shift_rows(days, count))
+    whole = math.lcm(*(DAY * day for day in days))
+    output = nearest(1, lambda t: not covered(t), 1000) if count < 100 else None
+    return Case(["decide", "cap=%d" % cap], relation("shift", times("b", "e"), rows), text, units=whole, output=output)
+
+
+@family("shifts in cycles", "two", (12, 48, 120), "a minute without one of N shifts of eight hours, in cycles of 5, 6, 7 and 8 days")
+def shifts_in_cycles(size):
+    return uncovered_minute((5, 6, 7, 8), size, 10**7)
+
+
+@family("shifts of two cycles", "two", (24, 96, 600), "the same with cycles of 7 and 8 days")
+def shifts_of_two_cycles(size):
+    return uncovered_minute((7, 8), size, 10**7)
+
+
+@family("rides and a jubilee", "two", (6, 25, 100), "the rides of a day: N of every week, and one of every 400 years")
+def rides_and_a_jubilee(size):
+    jubilee = 400 * 365 + 97
+    starts = scattered(size)
+    rows = ["(%d+10080n)" % start for start in starts] + ["(600+%dn)" % (jubilee * DAY)]
+    found = [(start,) for start in sorted(set(starts) | {600}) if start < DAY]
+    return Case(listed(0, DAY - 1) + ["cap=100000000"], relation("ride", times("t"), rows), query(times("t"), "ride(t)"), output=whole_page(found))
+
+
 def bounded(size, periods):
     """Rows with an offset, a period and both ends."""
     return [
