@@ -116,6 +116,38 @@ def tense_queries():
     yield "deep operators", filled(b"{ t: time | " + b"once t (0,1) " * 60 + b"(s(t)", b" and s(t)", b")}")
 
 
+def wide_queries():
+    yield "atoms of any value", joined(b"{ | ", b"l(*)", b" and ", b" }")
+    yield "atoms of any value, fewer", joined(b"{ | ", b"l(*)" + b" " * 28, b" and ", b" }")
+    yield "unequal terms", filled(b"{ t: time | t != 0", b" and t != %d000000000000", b" }")
+    yield "names of one quantifier", filled(b"{ | exists a", b", a%d", b": time 0 = 0 }")
+    yield "sixty names of each quantifier", joined(
+        b"{ | ", b"exists " + b", ".join(b"a%d" % it for it in range(60)) + b": time s(a0)", b" and ", b" }"
+    )
+    yield "and without parentheses", filled(b"{ t: time | 0 < 1", b" and t < %d000000", b" }")
+    yield "implies without parentheses", joined(b"{ | ", b"0 < 1", b" implies ", b" }")
+    yield "definitions", filled(b"", b"define d%d(t: time) as s(t);", b"{ | d1(0) }")
+    yield "definitions of one name", filled(b"", b"define d() as 0 = 0;", b"{ | d() }")
+    yield "definitions without columns", filled(b"", b"define d%d() as 0 = 0;", b"{ | d1() }")
+    yield "columns of a definition", filled(b"define d(a: time", b", a%d: time", b") as 0 = 0; { | 0 = 0 }")
+    yield "one definition of much", filled(b"define d() as 0 < 1", b" and 0 < %d000000", b"; { | d() }")
+    yield "uses of a definition", joined(b"define d(t: time) as s(t);{ t: time | ", b"d(t)", b" or ", b" }")
+    yield "uses of a definition, fewer", joined(b"define d(t: time) as s(t);{ t: time | ", b"d(t + 1)" + b" " * 72, b" or ", b" }")
+    yield "definitions that each name the one before", chained(b"{ | d%d() }")
+    yield "definitions that double", chained(b"{ | d%d() }", b"define d%d() as d%d() or d%d();")
+
+
+def chained(back, piece=b"define d%d() as d%d();"):
+    """Definitions, each of which names the one before it, and a query of the last one."""
+    found, size, number = [b"define d0() as 0 = 0;"], 100, 0
+    while size < LONGEST:
+        number += 1
+        names = (number, *[number - 1] * (piece.count(b"%d") - 1))
+        found.append(piece % names)
+        size += len(found[-1])
+    return b"".join(found[:-1]) + back % (number - 1)
+
+
 def spent(process):
     """The processor seconds that a process has used so far; one that has ended still tells them until it is waited for."""
     with open("/proc/%d/stat" % process) as file:
@@ -173,6 +205,9 @@ def reading(program, tally):
     for name, text in tense_queries():
         program.write("query", text)
         clock.run(name, "explain", "db=db", "query=query", "tense=yes")
+    for name, text in wide_queries():
+        program.write("query", text)
+        clock.run(name, "explain", "db=db", "query=query", "wide=yes")
     clock.report()
 
 
