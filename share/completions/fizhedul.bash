@@ -16,7 +16,7 @@ _fizhedul_keys() {
         sample) keys='seed size' ;;
         shell) keys='db from to limit cap plan tense wide canon civil' ;;
         draw) keys='db query from to format grid marks hour out ranges tree cells cap plan tense wide civil' ;;
-        page) keys='db query from to cap plan tense wide civil dates hour engine port open' ;;
+        page) keys='db query from to cap plan tense wide civil dates ranges hour engine port open' ;;
         spread) keys='db query queries from to parts by overlap engine out jobs tries hosts scheduler options limit form cap plan tense wide civil' ;;
     esac
     echo "$keys"
@@ -86,7 +86,7 @@ _fizhedul() {
     [[ $line == *[[:blank:]] ]] || { word=${words[-1]}; unset 'words[-1]'; }
     COMPREPLY=()
     if [ ${#words[@]} -le 1 ]; then
-        mapfile -t COMPREPLY < <(compgen -W 'check lint ask decide watch list count ranges explain sample shell draw page import export spread help --version --verify' -- "$word")
+        mapfile -t COMPREPLY < <(compgen -W 'check lint ask decide watch list count ranges explain sample shell draw page import export spread help --version --verify --library' -- "$word")
     elif [ "${words[1]}" = help ]; then
         [ ${#words[@]} -gt 2 ] || mapfile -t COMPREPLY < <(compgen -W 'ask decide watch list count ranges explain check lint sample language page refusals spread workbench' -- "$word")
     elif [ "${words[1]}" = import ] || [ "${words[1]}" = export ]; then

@@ -96,7 +96,8 @@ def why_unread(refusal: Refusal) -> Said:
     key = {"database": "db"}.get(refusal.line.rpartition(" ")[2], refusal.line.rpartition(" ")[2])
     file = refusal.file(key)
     if re.search(r"[{}(|;]", file) and not os.path.exists(file):
-        begin = "a query that is given here begins with '{'" if key == "query" else "the text goes into a file of its own"
+        begin = ("a query that is given here begins with '{', or with 'define' where its '{' comes later" if key == "query"
+                 else "the text goes into a file of its own")
         return Said(f"'{file}' looks like a text and not like the name of a file; {begin}.", is_all=True)
     try:
         mode = os.stat(file).st_mode
