@@ -38,10 +38,19 @@ class Served:
     def token(self) -> str:
         return self.link.split("/")[3]
 
+    def children(self) -> list[int]:
+        """The processes that the server started, and that are there still."""
+        number = self.process.pid
+        return [int(each) for each in Path(f"/proc/{number}/task/{number}/children").read_text().split()]
+
     def work(self) -> float:
-        """The seconds of a processor that the server and the programs that it ran have taken."""
-        parts = Path(f"/proc/{self.process.pid}/stat").read_text().rsplit(")", 1)[1].split()
-        return sum(int(part) for part in parts[11:15]) / os.sysconf("SC_CLK_TCK")
+        """The seconds of a processor that the server and what it started have taken."""
+        ticks = 0
+        # Of the server those that have ended count too.
+        for process, last in [(self.process.pid, 15), *((child, 13) for child in self.children())]:
+            parts = Path(f"/proc/{process}/stat").read_text().rsplit(")", 1)[1].split()
+            ticks += sum(int(part) for part in parts[11:last])
+        return ticks / os.sysconf("SC_CLK_TCK")
 
     def raw(
         self, method: str, path: str, body: bytes | None = None, headers: dict[str, str] | None = None

@@ -115,6 +115,21 @@ def test_a_cap_that_is_hit_says_what_to_change(page: Served) -> None:
     assert "Plan under guards; see the steps" in " ".join(fault["means"])
 
 
+def test_ranges_are_bars(page: Served, tmp_path: Path) -> None:
+    db = "relation shift(t: time) { (0+10n); (1+10n); (2+10n); (5+10n); }"
+    query = "{ t: time | shift(t) }"
+    found = page.ask("look", db, query, bars=True, limit=3, to="99")
+    wanted = of_program(tmp_path, "ranges", db, query, "from=0", "to=99", "limit=3").splitlines()
+    assert [", ".join(each) for each in found["answers"]] == wanted[:-1] == ["0, 2", "5, 5", "10, 12"]
+    assert found["columns"] == [["from", "time"], ["to", "time"]] and found["head"] == [["t", "time"]]
+    assert found["summary"] == "40 answers from 0 to 99; the first 3 ranges of them." and found["more"] == "13"
+    assert found["svg"].count('class="mark"') == 3 and " ranges " in found["words"]
+    rest = page.ask("next", db, query, bars=True, limit=3, to="99", after=found["more"])
+    assert rest["answers"] == [["15", "15"], ["20", "22"], ["25", "25"]]
+    # A query with more columns has no ranges.
+    assert page.ask("look", db, "{ t: time, u: time | (shift(t) and t = u) }", bars=True)["answers"][0] == ["0", "0"]
+
+
 def test_the_plan_is_what_explain_writes(page: Served, tmp_path: Path) -> None:
     steps = page.ask("plan", WEEK, CONNECTIONS)["steps"]
     wanted = of_program(tmp_path, "explain", WEEK, CONNECTIONS, "plan=guarded").splitlines()
@@ -183,6 +198,14 @@ def test_a_shared_file_needs_no_server(page: Served) -> None:
     assert '(5+60n, 30+60n, "Airport", "Main") where arr = dep + 25;' in text and "scan trip(d, b" in text
     assert "http" not in text.replace("http://www.w3.org/2000/svg", "").replace("http-equiv", "")
     assert page.token not in text and "default-src 'none'" in text and "<textarea" not in text
+
+
+def test_a_shared_file_has_bars(page: Served) -> None:
+    texts = {"db": {"version": 1, "text": WEEK}, "query": {"version": 1, "text": "{ t: time | t = t }"}}
+    body = {"tab": "share", "lane": "share", "texts": texts, "from": "0", "to": "1439", "bars": True}
+    headers = {"Content-Type": "application/json", "Origin": f"http://{page.host}"}
+    _, _, shared = page.raw("POST", f"/{page.token}/api/share", json.dumps(body).encode(), headers)
+    assert b"1440 answers from 0 to 1439, in 1 range." in shared and shared.count(b'class="mark"') == 1
 
 
 def test_two_tabs_have_texts_of_their_own(page: Served) -> None:

@@ -5,7 +5,8 @@ from pathlib import Path
 
 import pytest
 from database import relations_of
-from fizhedul_workbench.page.formulas import in_the_head, joined, taken_apart, written_query
+from fizhedul_workbench.page.formulas import in_the_head, joined, written_query
+from fizhedul_workbench.page.languages import taken_apart
 from fizhedul_workbench.page.rows import edits_between, numbered
 from tools import PROGRAM, TIME, TOP, program
 

@@ -48,6 +48,37 @@ def test_why_finds_all_rows_and_the_part_that_holds(page: Served) -> None:
     assert said_of(found["ways"][0]) == {"s(5)": ["(5);"]}
 
 
+WIDE = """define leaves(t: time, h: stop) as trip(t, *, "Airport", h);
+define soon(b: time, c: time) as b + 5 <= c and c <= b + 30;
+{ d: time, a: time |
+  exists b, c: time exists h: stop trip(d, b, "Airport", h) and trip(c, a, h, "Zoo") and soon(b, c) and leaves(d, *) }
+"""
+
+
+def test_why_in_the_wide_language(page: Served) -> None:
+    db = WEEK.replace("data", "stop")
+    found = page.ask("why", db, WIDE, wide=True, answer=["425", "495"], near=1440)
+    assert found["holds"] and found["ways"][0]["values"] == {"d": 425, "a": 495, "b": 450, "c": 460, "h": "Main"}
+    assert said_of(found["ways"][0]) == {
+        'trip(425, 450, "Airport", "Main")': ['(5+60n, 30+60n, "Airport", "Main") where arr = dep + 25;'],
+        'trip(460, 495, "Main", "Zoo")': ['(460+1440n, 495+1440n, "Main", "Zoo") where arr = dep + 35;'],
+        "soon(450, 460)": [],
+        "leaves(425, *)": [],
+    }
+    assert page.ask("why", db, WIDE, wide=True, answer=["425", "496"], near=1440)["parts"][0]["together"] == 1
+
+
+def test_stars_and_lists_of_the_wide_language_have_rows(page: Served) -> None:
+    db = 'relation r(t: time, l: line) { (0+2n, "7"); (1, "8"); } relation s(t: time) { (5); }'
+    query = "{ t: time | r(t, *) and t != 3 or s(t) and not r(t, *) }"
+    found = page.ask("why", db, query, wide=True, answer=["1"], near=10)
+    assert said_of(found["ways"][0]) == {"r(1, *)": ['(1, "8");'], "1 != 3": []}
+    found = page.ask("why", db, query, wide=True, answer=["5"], near=10)
+    assert said_of(found["ways"][0]) == {"s(5)": ["(5);"], "not r(5, *)": []}
+    found = page.ask("why", db, query, wide=True, answer=["3"], near=10)
+    assert not found["holds"] and [len(each["conjuncts"]) for each in found["parts"]] == [2, 2]
+
+
 def test_why_with_dates(page: Served) -> None:
     query = BOATS.split("\n", 1)[1]
     found = page.ask("why", RIDES, query, civil=True, answer=["2026-12-24 23:20"], near=1440)

@@ -13,7 +13,9 @@ TIME = 400
 
 
 def environment(**more: str) -> dict[str, str]:
-    return {**os.environ, "FIZHEDUL_PROGRAM": PROGRAM, **more}
+    """The environment of a tool, which asks the program where no library is given here."""
+    plain = {name: value for name, value in os.environ.items() if name != "FIZHEDUL_LIBRARY"}
+    return {**plain, "FIZHEDUL_PROGRAM": PROGRAM, **more}
 
 
 def tool(*words: str, text: str = "", folder: Path | None = None) -> subprocess.CompletedProcess[str]:

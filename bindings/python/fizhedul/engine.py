@@ -4,12 +4,13 @@ import ctypes
 import os
 from collections.abc import Callable, Iterable, Mapping, Sequence
 from functools import cache
+from mmap import mmap
 from pathlib import Path
-from threading import Lock
+from threading import Lock, local
 from typing import Any, NamedTuple
 
 NAME = "libfizhedul.so.1"
-ROOM = 1 << 16
+ROOM = 1 << 24
 
 
 class MissingLibrary(OSError):
@@ -31,15 +32,25 @@ class Handle(ctypes.Structure):
 
 @cache
 def library() -> ctypes.CDLL:
-    """The shared library, which is loaded once.
+    """The shared library, which is loaded once: the one that FIZHEDUL_LIBRARY names, that of the package, or that of
+    the system.
 
     Raises MissingLibrary where there is none.
     """
+    return load(os.environ.get("FIZHEDUL_LIBRARY", ""))
+
+
+def load(path: str) -> ctypes.CDLL:
+    """The shared library of a path; where that is empty, the one of the package, or that of the system.
+
+    Raises MissingLibrary where it can't be loaded.
+    """
     beside = Path(__file__).with_name(NAME)
-    name = os.environ.get("FIZHEDUL_LIBRARY") or (str(beside) if beside.exists() else NAME)
+    name = path or (str(beside) if beside.exists() else NAME)
     size, text = ctypes.c_size_t, ctypes.c_char_p
     handle = ctypes.POINTER(Handle)
-    call: list[Any] = [text, size, text, size, text, size, ctypes.POINTER(size)]
+    room = [ctypes.c_void_p, size, ctypes.POINTER(size)]
+    call: list[Any] = [text, size, text, size, *room]
     try:
         loaded = ctypes.CDLL(name)
         loaded.fizhedul_run.argtypes = call
@@ -91,15 +102,30 @@ def run(words: Sequence[str], files: Mapping[str, bytes]) -> Output:
     return told_by(lambda *out: int(call(asked, len(asked), held, len(held), *out)))
 
 
+class Room(local):
+    """Where a text is written, of which each thread has its own; pages of it that nothing wrote to take no memory."""
+
+    def __init__(self) -> None:
+        self.make(ROOM)
+
+    def make(self, size: int) -> None:
+        """Room for a text of this length."""
+        self.size = size
+        self.pages = (ctypes.c_char * size).from_buffer(mmap(-1, size))
+        self.place = ctypes.addressof(self.pages)
+
+
+ROOMS = Room()
+
+
 def told_by(call: Callable[..., int]) -> Output:
     """What a call tells, which is made again with more room where its text is longer than the room."""
-    length, room = ctypes.c_size_t(), ROOM
+    length = ctypes.c_size_t()
     while True:
-        text = ctypes.create_string_buffer(room)
-        status = call(text, room, ctypes.byref(length))
-        if length.value <= room:
-            return Output(status, text.raw[: length.value])
-        room = length.value
+        status = call(ROOMS.place, ROOMS.size, ctypes.byref(length))
+        if length.value <= ROOMS.size:
+            return Output(status, ctypes.string_at(ROOMS.place, length.value))
+        ROOMS.make(length.value)
 
 
 class Kept:

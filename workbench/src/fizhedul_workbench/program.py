@@ -1,17 +1,19 @@
 """The proved program: what it is asked, and what it wrote."""
 
+import atexit
 import json
 import os
 import re
-import signal
-import subprocess
 import sys
 from collections.abc import Iterator, Sequence
 from dataclasses import dataclass, replace
-from pathlib import Path
+from functools import cache
 
 from .civil import minute_of, window_end
-from .words import MISSING, Refused
+from .engine.asked import WordsEngine
+from .engine.chosen import built_program, library_path, program_path
+from .engine.programs import ProgramByWords
+from .words import Refused
 
 WIDTH = 100
 # The commands that make a plan of a query, by either way.
@@ -101,42 +103,33 @@ class Question:
         return [*self.windowed("ranges"), f"limit={limit}", "form=json"]
 
 
-def program_path() -> str:
-    """The program that the variable FIZHEDUL_PROGRAM names, else the repository's launcher."""
-    named = os.environ.get("FIZHEDUL_PROGRAM")
-    if named:
-        return named
-    return str(Path(__file__).resolve().parents[3] / "fizhedul")
+@cache
+def engine() -> WordsEngine:
+    """What answers the tools: the library where it is there, else the program."""
+    library = library_path()
+    if library is None:
+        return ProgramByWords()
+    from .engine.libraries import LibraryByWords
+
+    found = LibraryByWords(library)
+    atexit.register(found.close)
+    return found
 
 
 def run_program(words: Sequence[str]) -> Output:
-    """Runs the program to its end; an interrupt ends it too, and is passed on."""
-    try:
-        process = subprocess.Popen(
-            [program_path(), *words],
-            stdin=subprocess.DEVNULL,
-            stdout=subprocess.PIPE,
-            # In a group of its own, so that an interrupt ends all that it started.
-            process_group=0,
-            # A word may name an open file of this process, as query=/dev/fd/11.
-            close_fds=False,
-            # The tools explain refusals themselves, and a window is warned of once.
-            env={**os.environ, "FIZHEDUL_EXPLAIN": "never", "FIZHEDUL_WARN": "never"},
-        )
-    except OSError as fault:
-        raise Refused(f"{program_path()}: {fault.strerror}", MISSING) from fault
-    try:
-        written, _ = process.communicate()
-    except KeyboardInterrupt:
-        os.killpg(process.pid, signal.SIGKILL)
-        process.communicate()
-        raise
-    return Output(process.returncode, written.decode(), tuple(words))
+    """What the engine writes for the words of the program; an interrupt ends its work too, and is passed on."""
+    status, text = engine().run(words)
+    return Output(status, text.decode(), tuple(words))
 
 
 def is_watched() -> bool:
     """Whether refusals are to be explained: to a terminal, or as the variable FIZHEDUL_EXPLAIN says."""
     return {"always": True, "never": False}.get(os.environ.get("FIZHEDUL_EXPLAIN", ""), sys.stderr.isatty())
+
+
+def explaining_program() -> str:
+    """The program that an explanation asks for a plan; where the library answers, nothing is built for that."""
+    return built_program() if engine().name == "library" else program_path()
 
 
 def explanation_of(output: Output, line: str) -> str:
@@ -145,7 +138,7 @@ def explanation_of(output: Output, line: str) -> str:
         return ""
     from explain import explain, given_files
 
-    return explain(program_path(), list(output.words), line, WIDTH, given_files())
+    return explain(explaining_program(), list(output.words), line, WIDTH, given_files())
 
 
 def answered(words: Sequence[str]) -> str:

@@ -21,9 +21,8 @@ def first_ranges(question: Question, most: int) -> tuple[list[Answer], bool]:
     return found, False
 
 
-def caption_of(question: Question, ranges: list[Answer], is_cut: bool) -> str:
+def caption_of(question: Question, number: str, ranges: list[Answer], is_cut: bool) -> str:
     """How many answers the window has, in how many ranges."""
-    number = answered(question.windowed("count")).strip()
     first, last = (dated(end) if question.is_civil else end for end in (question.first, question.last))
     if not ranges:
         return f"No answer from {first} to {last}."
@@ -37,15 +36,23 @@ def ranges_picture(question: Question, most: int) -> Picture:
     """Asks the program for the ranges, which stand in one lane, and for the number of answers."""
     ranges, is_cut = first_ranges(question, most)
     query = Path(question.query).read_text(encoding="utf-8")
+    number = answered(question.windowed("count")).strip()
+    return in_one_lane(question, query, number, ranges, is_cut, period(question))
+
+
+def in_one_lane(
+    question: Question, query: str, number: str, ranges: list[Answer], is_cut: bool, period: int = 0
+) -> Picture:
+    """The picture of these ranges, which have so many answers in all."""
     marks = [Mark(number, each, times_of(each, [True, True]), 0, 0) for number, each in enumerate(ranges)]
     return Picture(
         question=question,
         query=query,
-        period=period(question),
+        period=period,
         columns=ENDS,
         lanes=[name for name, _ in head_of(query)] if ranges else [],
         levels=[1] if ranges else [],
         marks=marks,
         is_cut=is_cut,
-        caption=caption_of(question, ranges, is_cut),
+        caption=caption_of(question, number, ranges, is_cut),
     )

@@ -10,10 +10,10 @@ from typing import NoReturn
 from starlette.concurrency import run_in_threadpool
 
 from ..civil import minute_of, window_end
+from ..engine.asked import Asked, Engine, Told
 from ..lrp import LIMIT, written_text
-from ..program import Answer, Page, page_of
+from ..program import Answer, Page, Ranges, page_of, ranges_of
 from ..queries import head_of
-from .engine import Asked, Engine, Told
 from .faults import Fault, fault_of
 
 PLANNED = ("ask", "decide", "list", "explain", "count", "ranges")
@@ -36,7 +36,8 @@ class Failed(Exception):
 
 @dataclass(frozen=True)
 class Matter:
-    """A query over a database, as texts, and how both are read, planned and bounded."""
+    """A query over a database, as texts, and how both are read, planned and bounded; of a database that is asked once
+    only, nothing is kept."""
 
     db: bytes
     query: bytes = b""
@@ -45,11 +46,12 @@ class Matter:
     is_guarded: bool = True
     cap: int = 1_000_000
     is_wide: bool = False
+    is_once: bool = False
 
     def asking(self, command: str, **keys: str) -> Asked:
         """A command on this matter."""
         texts = {"db": self.db} if command == "check" else {"db": self.db, "query": self.query}
-        return Asked(command, texts, {**self.keys(command), **keys})
+        return Asked(command, texts, {**self.keys(command), **keys}, self.is_once)
 
     def keys(self, command: str) -> dict[str, str]:
         """The keys of a command that this matter sets, without those that say what holds anyway."""
@@ -97,6 +99,12 @@ async def page_in(engine: Engine, matter: Matter, ends: tuple[int, int], limit: 
     keys = {**matter.ends(*ends), "limit": str(limit), "form": "json"}
     told = await told_by(engine, matter.asking("list", **keys, **({"after": after} if after else {})))
     return page_of(told.text)
+
+
+async def ranges_in(engine: Engine, matter: Matter, ends: tuple[int, int], limit: int) -> Ranges:
+    """The first ranges of the answers in a window."""
+    keys = {**matter.ends(*ends), "limit": str(limit), "form": "json"}
+    return ranges_of((await told_by(engine, matter.asking("ranges", **keys))).text)
 
 
 async def count_in(engine: Engine, matter: Matter, ends: tuple[int, int]) -> str | None:

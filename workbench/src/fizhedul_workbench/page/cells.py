@@ -3,8 +3,8 @@
 from dataclasses import replace
 
 from ..cells import Cells, Tried, search, step_named
+from ..engine.asked import Engine
 from .asking import Failed, Matter, told_by
-from .engine import Engine
 
 
 async def cells_of(engine: Engine, matter: Matter) -> Cells:

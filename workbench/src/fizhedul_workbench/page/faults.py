@@ -9,7 +9,8 @@ from details import Refusal
 from explain import key_of, paragraphs_on
 from places import TOKEN
 
-from .engine import Asked, Told, quick_program
+from ..engine.asked import Asked, Told
+from ..engine.chosen import built_program
 
 # What the page has in place of the words of the command line.
 ON_THE_PAGE = {
@@ -72,7 +73,7 @@ def fault_of(asked: Asked, told: Told) -> Fault:
     which = key_of(line) if place.get("line") or line.startswith("refused: read") else "engine"
     files = {**told.files, **asked.keys}
     wording = ON_THE_PAGE | {path: name_of(key) for key, path in told.files.items()}
-    said = [reworded(part, wording) for part in paragraphs_on(Refusal(quick_program(), files, line, place), entry)]
+    said = [reworded(part, wording) for part in paragraphs_on(Refusal(built_program(), files, line, place), entry)]
     where = None
     if place.get("line") and which in asked.texts:
         where = place_of(asked.texts[which], int(place["line"]), int(place["column"]))

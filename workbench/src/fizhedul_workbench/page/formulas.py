@@ -6,7 +6,8 @@ from dataclasses import dataclass, field
 
 from ..lrp import is_name
 
-PIECE = re.compile(r'(?:\s|#[^\n]*)*("(?:[^"\\]|\\.)*"|[A-Za-z_][A-Za-z0-9_]*|[0-9]+|<=|>=|[^\s])')
+DATE = r"[0-9]{4}-[0-9]{2}-[0-9]{2}\s+[0-9]{2}:[0-9]{2}|[0-9]{2}:[0-9]{2}"
+PIECE = re.compile(rf'(?:\s|#[^\n]*)*("(?:[^"\\]|\\.)*"|[A-Za-z_][A-Za-z0-9_]*|{DATE}|[0-9]+|<=|>=|!=|[^\s])')
 OPERATORS = ("once", "always", "since", "until")
 ENDS = frozenset(["and", "or", "implies", ")", "}", ","])
 MOST_COLUMNS = 8
@@ -48,10 +49,16 @@ class Part:
 
 @dataclass
 class Taken:
-    """A query: the columns of its head, and the parts of which one at least holds for an answer."""
+    """A query: the definitions before it, the columns of its head, and the parts of which one at least holds for an
+    answer."""
 
+    definitions: str = ""
     head: list[Variable] = field(default_factory=list)
     parts: list[Part] = field(default_factory=list)
+
+    def written(self, more: list[Variable], hidden: list[Variable], conjuncts: list[str]) -> str:
+        """A query with further columns, and the other variables quantified, after the definitions."""
+        return self.definitions + written_query(self.head + more, hidden, conjuncts)
 
 
 def renamed(pieces: tuple[str, ...], old: str, new: str) -> Iterator[str]:
@@ -202,11 +209,6 @@ def fresh(name: str, *parts: Part) -> str:
     while f"{name}_{number}" in taken:
         number += 1
     return f"{name}_{number}"
-
-
-def taken_apart(text: str, is_tense: bool) -> Taken:
-    """The head and the parts of a query that the engine has accepted."""
-    return Reader(text, is_tense).query()
 
 
 def written_list(conjuncts: list[str]) -> str:

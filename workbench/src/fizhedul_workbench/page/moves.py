@@ -3,10 +3,10 @@
 from dataclasses import replace
 
 from ..civil import dated
+from ..engine.asked import Asked, Engine
 from ..lrp import written_text
 from ..program import Answer
 from .asking import Matter, least_of, told_by
-from .engine import Asked, Engine
 from .rows import Edit, edits_between
 
 MOST_EDITS = 100

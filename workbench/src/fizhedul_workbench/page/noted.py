@@ -7,7 +7,7 @@ from places import TOKEN, WHOLE_ROW
 from starlette.concurrency import run_in_threadpool
 
 from .asking import Matter
-from .engine import Engine, Told
+from ..engine.asked import Engine, Told
 from .faults import place_of as letters_of
 
 # Longer databases are not looked through while somebody types.

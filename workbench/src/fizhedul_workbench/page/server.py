@@ -11,10 +11,10 @@ from starlette.requests import ClientDisconnect, Request
 from starlette.responses import JSONResponse, Response
 from starlette.routing import Route
 
+from ..engine.asked import Engine
 from ..words import Refused
 from .asking import Failed
 from .desk import KINDS, Desk, Missing, Superseded
-from .engine import Engine
 from .files import Changed, Named, digest
 from .request import Sent, Unfit, number_in, of, sent, short
 from .share import shared

@@ -13,14 +13,17 @@ import uvicorn
 
 from ..civil import dated, is_chosen, read_window
 from ..days import MINUTES, day_number
+from ..engine.asked import Engine
+from ..engine.chosen import library_path, needed_library
+from ..engine.libraries import LibraryEngine
+from ..engine.programs import ProgramEngine
 from ..words import FAILED_WRITE, Refused, choice, is_guarded, keyed, usage, whole
-from .engine import Engine, ProgramEngine
 from .files import named
 from .guard import Guard
-from .library import LibraryEngine, need_library
 from .server import Setting, application
 
-KEYS = ["db", "query", "from", "to", "cap", "plan", "tense", "wide", "civil", "dates", "hour", "engine", "port", "open"]
+KEYS = ["db", "query", "from", "to", "cap", "plan", "tense", "wide", "civil", "dates", "ranges", "hour"]
+KEYS += ["engine", "port", "open"]
 LOCAL = "127.0.0.1"
 
 
@@ -35,7 +38,7 @@ def page_tool(words: Sequence[str]) -> None:
     query = named(found["query"]) if "query" in found else None
     if query is not None:
         query.read(True)
-    engine = engine_of(choice(found, "engine", "program", ["program", "library"]))
+    engine = engine_of(choice(found, "engine", "program", ["program", "library"]) if "engine" in found else None)
     setting = Setting(engine, db, query, chosen, hour)
     try:
         asyncio.run(serve(setting, listening(port), is_opened and sys.stdout.isatty()))
@@ -44,11 +47,14 @@ def page_tool(words: Sequence[str]) -> None:
         pass
 
 
-def engine_of(name: str) -> Engine:
-    if name == "program":
+def engine_of(wanted: str | None) -> Engine:
+    """The engine of this name; without one the library where it is there, else the program."""
+    if wanted == "program":
         return ProgramEngine()
-    need_library()
-    return LibraryEngine()
+    library = needed_library() if wanted == "library" else library_path()
+    if library is None:
+        return ProgramEngine()
+    return LibraryEngine(library)
 
 
 def chosen_by(found: dict[str, str]) -> tuple[dict[str, object], int]:
@@ -68,6 +74,7 @@ def chosen_by(found: dict[str, str]) -> tuple[dict[str, object], int]:
         "wide": is_chosen(found, "wide"),
         "written": not is_guarded(found),
         "dates": is_chosen(found, "dates"),
+        "bars": is_chosen(found, "ranges"),
     }
     return chosen, hour
 
@@ -108,6 +115,7 @@ async def serve(setting: Setting, sock: socket.socket, is_opened: bool) -> None:
     if is_opened and ("DISPLAY" in os.environ or "WAYLAND_DISPLAY" in os.environ):
         webbrowser.open(link)
     try:
+        await setting.engine.ready()
         await server.serve([sock])
     finally:
         await setting.engine.close()

@@ -5,13 +5,14 @@ from dataclasses import dataclass, replace
 from ..civil import dated
 from ..draw.look import Look
 from ..draw.marks import Picture, laid_out
+from ..draw.ranges import in_one_lane
 from ..draw.svg import gutter, summary, svg_of
+from ..engine.asked import Engine
 from ..program import Answer, Page, Question
 from ..words import Refused
 from . import cells, moves, noted, why
-from .asking import Failed, Matter, count_in, least_of, page_in, plan_of, schema_of, shell_words
-from .engine import Engine
-from .request import Sent
+from .asking import Failed, Matter, count_in, least_of, page_in, plan_of, ranges_in, schema_of, shell_words
+from .request import Sent, time_of
 
 MOST_MARKS = 2_000
 MOST_LANES = 200
@@ -39,6 +40,10 @@ class Asking:
     @property
     def limit(self) -> int:
         return self.sent.number("limit", 1, MOST_MARKS, 500)
+
+    def has_bars(self, matter: Matter) -> bool:
+        """Whether answers without a gap between them are one bar, which was chosen, and can be with one time alone."""
+        return self.sent.flag("bars") and [sort for _, sort in matter.columns()] == ["time"]
 
 
 def strings(answers: list[Answer]) -> list[list[str]]:
@@ -68,9 +73,10 @@ def known_lanes(sent: Sent) -> list[list[str]]:
 
 @dataclass(frozen=True)
 class Found:
-    """A page of a window's answers, laid out, and how it is to look."""
+    """A page of a window's answers, or of its ranges, laid out, and how it is to look."""
 
     matter: Matter
+    command: str
     page: Page
     drawn: Picture
     look: Look
@@ -83,25 +89,44 @@ class Found:
 
 async def picture(asking: Asking, matter: Matter, lanes: list[list[str]]) -> Found:
     """The first answers of the window, laid out as a picture."""
-    first, last = asking.ends
-    page = await page_in(asking.engine, matter, (first, last), asking.limit)
-    query = matter.query.decode()
-    columns = matter.columns()
-    question = Question("", "", first, last, None, matter.is_civil)
-    texts = sum(sort != "time" for _, sort in columns)
-    drawn = laid_out(
-        question, query, page.answers, page.more is not None, [lane for lane in lanes if len(lane) == texts]
-    )
     with_dates = matter.is_civil or asking.sent.flag("dates")
     look = Look("svg", asking.limit, asking.hour, with_dates, width=asking.sent.number("width", 240, 8000, 1200))
-    return Found(matter, page, drawn, look)
+    if asking.has_bars(matter):
+        page, drawn = await bars(asking, matter, asking.limit)
+        return Found(matter, "ranges", page, drawn, look)
+    page = await page_in(asking.engine, matter, asking.ends, asking.limit)
+    texts = sum(sort != "time" for _, sort in matter.columns())
+    shown = [lane for lane in lanes if len(lane) == texts]
+    drawn = laid_out(question_of(asking, matter), matter.query.decode(), page.answers, page.more is not None, shown)
+    return Found(matter, "list", page, drawn, look)
+
+
+async def bars(asking: Asking, matter: Matter, limit: int) -> tuple[Page, Picture]:
+    """The first ranges of the window, with their picture."""
+    page = await ranges_page(asking, matter, asking.ends, limit)
+    number = await count_in(asking.engine, matter, asking.ends)
+    question = question_of(asking, matter)
+    is_cut = page.more is not None
+    return page, in_one_lane(question, matter.query.decode(), number or "0", page.answers, is_cut)
+
+
+async def ranges_page(asking: Asking, matter: Matter, ends: tuple[int, int], limit: int) -> Page:
+    """Ranges as a page: the next one begins at a time."""
+    found = await ranges_in(asking.engine, matter, ends, limit)
+    return Page(found.ranges, str(found.after()) if found.is_cut else None)
+
+
+def question_of(asking: Asking, matter: Matter) -> Question:
+    """The window as pictures take it."""
+    return Question("", "", *asking.ends, None, matter.is_civil)
 
 
 async def shown_of(asking: Asking, found: Found, wide: int) -> Shown:
     """What the page shows of a window; `wide` is the room for the names of lanes."""
     matter, page = found.matter, found.page
-    words = matter.asking("list", **matter.ends(*asking.ends), limit=str(asking.limit), form="json")
+    words = matter.asking(found.command, **matter.ends(*asking.ends), limit=str(asking.limit), form="json")
     return {
+        "head": matter.columns(),
         "columns": found.drawn.columns,
         "answers": strings(page.answers),
         "more": page.more,
@@ -131,7 +156,11 @@ async def nearest(asking: Asking, matter: Matter) -> Shown | None:
 
 async def following(asking: Asking) -> Shown:
     """The next page of the table."""
-    page = await page_in(asking.engine, asking.matter, asking.ends, asking.limit, asking.sent.text("after"))
+    after = asking.sent.text("after")
+    if asking.has_bars(asking.matter):
+        page = await ranges_page(asking, asking.matter, (time_of(after), asking.ends[1]), asking.limit)
+    else:
+        page = await page_in(asking.engine, asking.matter, asking.ends, asking.limit, after)
     return {"answers": strings(page.answers), "more": page.more}
 
 

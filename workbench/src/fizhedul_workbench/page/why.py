@@ -6,19 +6,17 @@ from dataclasses import dataclass
 from database import Relation, relations_of
 
 from ..civil import dated, has_date
+from ..engine.asked import Engine
 from ..lrp import LIMIT, written_text
 from ..program import Answer
 from .asking import Failed, Matter, fixing, least_of, number_of, page_in
-from .engine import Engine
-from .faults import Fault
-from .formulas import OPERATORS, Leaf, Part, Taken, Variable, in_the_head, joined, taken_apart, written_query
+from .formulas import OPERATORS, Leaf, Part, Taken, Variable, in_the_head, joined
+from .languages import taken_apart
 from .rows import numbered
 
 MOST_WAYS = 3
 MOST_ROWS = 20
 ROW = "row_of_relation"
-NOT_TAKEN_APART = "a query in the wide language is not taken apart"
-IN_OTHER_WORDS = "Switch the wide language off, and write the query without definitions and '*'."
 
 
 @dataclass(frozen=True)
@@ -39,9 +37,7 @@ class Asker:
 
 async def why(engine: Engine, matter: Matter, answer: Answer, near: int) -> dict[str, object]:
     """Ways in which a tuple is an answer, with the rows that make it true; or, where it is none, what fails."""
-    if matter.is_wide:
-        raise Failed(Fault(NOT_TAKEN_APART, "query", None, [IN_OTHER_WORDS]))
-    taken = taken_apart(matter.query.decode(), matter.is_tense)
+    taken = taken_apart(matter.query.decode(), matter.is_tense, matter.is_wide)
     asker = Asker(engine, matter, taken)
     unknown = unknown_text(asker, answer)
     if unknown is not None:
@@ -50,7 +46,7 @@ async def why(engine: Engine, matter: Matter, answer: Answer, near: int) -> dict
         head = in_the_head(taken.head, part)
         hidden = [each for each in part.variables if each not in head]
         said = [joined(leaf.pieces) for leaf in part.conjuncts]
-        query = written_query(taken.head + head, hidden, fixing(asker.columns, answer) + said)
+        query = taken.written(head, hidden, fixing(asker.columns, answer) + said)
         ways = await ways_of(asker, query, answer, near)
         if ways:
             told = [await way_told(asker, part, [*taken.head, *head], way) for way in ways]
@@ -148,7 +144,8 @@ async def rows_of(asker: Asker, leaf: Leaf, given: dict[str, str]) -> list[dict[
     terms = [joined(summed(tuple(given.get(piece, piece) for piece in term))) for term in leaf.terms]
     column = fresh_column(relation)
     query = f"{{ {column}: {ROW} | {relation.name}({', '.join([*terms, column])}) }}"
-    matter = Matter(numbered(text, relation, column, ROW).encode(), query.encode(), asker.matter.is_civil)
+    rows = numbered(text, relation, column, ROW).encode()
+    matter = Matter(rows, query.encode(), asker.matter.is_civil, is_wide=asker.matter.is_wide, is_once=True)
     try:
         page = await page_in(asker.engine, matter, (0, 0), MOST_ROWS)
     except Failed:
@@ -174,16 +171,15 @@ def fresh_column(relation: Relation) -> str:
 async def failing(asker: Asker, part: Part, answer: Answer) -> dict[str, object]:
     """The conjuncts of a part for a tuple: how far they hold together, and which fail by themselves."""
     tests = fixing(asker.columns, answer)
-    head = asker.taken.head
     told = []
     together = 0
     for number, leaf in enumerate(part.conjuncts, 1):
         said = joined(leaf.pieces)
-        alone = await asker.least(written_query(head, list(part.variables), [*tests, said]))
+        alone = await asker.least(asker.taken.written([], list(part.variables), [*tests, said]))
         front = [joined(each.pieces) for each in part.conjuncts[:number]]
         if (
             together == number - 1
-            and await asker.least(written_query(head, list(part.variables), tests + front)) is not None
+            and await asker.least(asker.taken.written([], list(part.variables), tests + front)) is not None
         ):
             together = number
         told.append({"said": said, "alone": alone is not None})

@@ -6,7 +6,7 @@ from collections.abc import Mapping
 from catalogue import find_entry
 from explain import explanation, given_files, wrapped
 
-from ..program import Output, program_path
+from ..program import Output, explaining_program
 
 # What the shell has in place of the keys of commands.
 IN_THE_SHELL = {
@@ -39,7 +39,7 @@ def told(output: Output, query: str, definitions: Mapping[str, str]) -> str:
         return f"the program ended with status {output.status}"
     width = shutil.get_terminal_size((100, 24)).columns
     files = given_files() | {"query": query}
-    shown, parts = explanation(program_path(), list(output.words), line, width, files)
+    shown, parts = explanation(explaining_program(), list(output.words), line, width, files)
     line, shown = as_typed(line, shown, definitions)
     explained = shown + wrapped([in_the_shell(part) for part in parts], width)
     return f"{line}\n{explained}".rstrip("\n")

@@ -7,7 +7,7 @@ from ..lrp import put_file
 from ..plan import tree_of
 from ..program import Output, ranges_of, run_program
 from ..queries import head_of
-from .session import Session, need_query, say, say_nearest, say_refusal, show_page
+from .session import Session, need_query, say, say_nearest, say_refusal, show_next
 from .table import table
 
 
@@ -93,4 +93,4 @@ def next_page(session: Session, _: str) -> None:
     elif isinstance(session.more, int):
         show_ranges(session, session.more)
     else:
-        show_page(session, session.more)
+        show_next(session, session.more)

@@ -1,5 +1,6 @@
 """What a session holds, and what its lines do; whatever is shown was written by the program."""
 
+import os
 from dataclasses import dataclass, field
 from pathlib import Path
 
@@ -7,19 +8,31 @@ from ..civil import dated
 from ..days import MINUTES, WEEK
 from ..lexer import coloured
 from ..lrp import put_file
-from ..program import Output, Page, Question, page_of, run_program
+from ..program import Answer, Output, Question, page_of, run_program
 from ..queries import head_of
 from ..words import Refused
 from .refusals import told
 from .table import names_in, relations, table
 
 FIRST_WEEK = (0, WEEK * MINUTES - 1)
+# So many answers are read at a time, where a page has fewer, so that the next page is there already.
+READ_AHEAD = 500
+Stamp = tuple[int, ...]
+
+
+@dataclass(frozen=True)
+class Rest:
+    """What comes next of a query's answers: those that were read already, the token of those after them, if any, and
+    what the database was when they were read."""
+
+    answers: list[Answer]
+    token: str | None
+    stamp: Stamp
 
 
 @dataclass
 class Session:
-    """One database, a window, limits, and the last query; what comes next of its answers is named by a token, or by a
-    time where ranges are shown."""
+    """One database, a window, limits, and the last query; what comes next are answers, or ranges from a time on."""
 
     database: str
     folder: Path
@@ -35,7 +48,7 @@ class Session:
     is_colourful: bool = False
     query: str = ""
     definitions: dict[str, str] = field(default_factory=dict)
-    more: str | int | None = None
+    more: Rest | int | None = None
     status: int = 0
     warned: set[tuple[str, str]] = field(default_factory=set)
     names: list[str] = field(default_factory=list)
@@ -89,29 +102,58 @@ def need_query(session: Session) -> bool:
     return bool(session.query)
 
 
-def show_page(session: Session, after: str | None) -> Output:
-    """The next page of the query as a table; what the program wrote."""
-    output = run_program(session.question().listing(session.limit, after))
+def show_page(session: Session, after: Rest | None = None) -> Output:
+    """The first page of the query as a table, or the one that begins with what was read before; what the program
+    wrote."""
+    stamp = stamp_of(session.database)
+    read = after.answers if after else []
+    output = run_program(session.question().listing(max(session.limit, READ_AHEAD), after.token if after else None))
     session.more = None
     if output.status:
         say_refusal(session, output)
         return output
     found = page_of(output.text)
-    session.more = found.more
-    if found.answers:
-        say_answers(session, found)
-    else:
-        say_nearest(session)
+    show_answers(session, Rest(read + found.answers, found.more, stamp))
     return output
 
 
-def say_answers(session: Session, found: Page) -> None:
+def show_next(session: Session, rest: Rest) -> None:
+    """The next page of the query."""
+    if rest.stamp != stamp_of(session.database):
+        session.more = None
+        say("the database has changed since these answers were read; the query asks it anew where it is given again")
+    elif len(rest.answers) >= session.limit or rest.token is None:
+        show_answers(session, rest)
+    else:
+        show_page(session, rest)
+
+
+def show_answers(session: Session, found: Rest) -> None:
+    """A page of answers as a table; those after them come next."""
+    shown, left = found.answers[: session.limit], found.answers[session.limit :]
+    session.more = Rest(left, found.token, found.stamp) if left or found.token else None
+    if shown:
+        say_answers(session, shown)
+    else:
+        say_nearest(session)
+
+
+def stamp_of(file: str) -> Stamp:
+    """What tells a file from what it was before it was written to; nothing while it isn't there."""
+    try:
+        found = os.stat(file)
+    except OSError:
+        return ()
+    return found.st_dev, found.st_ino, found.st_size, found.st_mtime_ns, found.st_ctime_ns
+
+
+def say_answers(session: Session, answers: list[Answer]) -> None:
     names = [name for name, _ in head_of(session.query)]
-    lines = table(names, found.answers) if names else ["()"]
+    lines = table(names, answers) if names else ["()"]
     if session.is_colourful and names:
         lines[0] = f"\x1b[1m{lines[0]}\x1b[0m"
-    count = f"{len(found.answers)} answer{'s' if len(found.answers) > 1 else ''}"
-    rest = "more with .next" if found.more else f"the last {session.shown_window()}"
+    count = f"{len(answers)} answer{'s' if len(answers) > 1 else ''}"
+    rest = "more with .next" if session.more else f"the last {session.shown_window()}"
     say("\n".join([*lines, f"({count}; {rest})"]))
 
 
@@ -133,7 +175,7 @@ def ask(session: Session, text: str) -> None:
     """A new query: its first page. After one that is none, or does not fit the database, the one before it stays."""
     before = session.query
     set_query(session, text)
-    if (show_page(session, None).refusal or "").startswith("refused: query"):
+    if (show_page(session).refusal or "").startswith("refused: query"):
         set_query(session, before)
 
 

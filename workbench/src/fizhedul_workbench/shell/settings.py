@@ -27,7 +27,7 @@ def set_window(session: Session, rest: str) -> None:
     if first > last:
         warn_of_window(*rest.split())
     if session.query:
-        show_page(session, None)
+        show_page(session)
 
 
 def end_of(session: Session, word: str) -> int:
@@ -50,7 +50,7 @@ def set_civil(session: Session, rest: str) -> None:
     else:
         session.is_civil, session.more = rest == "on", None
         if read_names(session) and session.query:
-            show_page(session, None)
+            show_page(session)
 
 
 def set_tense(session: Session, rest: str) -> None:

@@ -22,7 +22,9 @@ import { showWords } from "./words.js";
 const LARGE = 300000;
 let wait = null;
 let rest = null;
+// The query and the version of the database that were answered last.
 let asked = "";
+let read = 0;
 let isRetried = false;
 
 // Work that a later one may take the place of.
@@ -34,13 +36,18 @@ function quietly(work) {
   });
 }
 
+// Whether an answer takes long: of a large database, unless the engine has its answers from before.
+function isLong() {
+  const isKept = state.engine === "library" && state.texts.query === asked && state.versions.db === read;
+  return state.texts.db.length > LARGE && !isKept;
+}
+
 function soon() {
   clearTimeout(wait);
-  const isLarge = state.texts.db.length > LARGE;
   wait = setTimeout(() => {
     wait = null;
     quietly(look());
-  }, isLarge ? 250 : 15);
+  }, isLong() ? 250 : 15);
 }
 
 // What can wait until the keys rest.
@@ -72,12 +79,14 @@ function frameWidth() {
 async function look() {
   const window = state.window;
   const query = state.texts.query;
+  const database = state.versions.db;
   const kinds = state.isPinned ? ["db", "query", "pinned"] : ["db", "query"];
   const lanes = query === asked ? state.lanes : [];
   const found = await ask("look", kinds, { lanes, width: frameWidth() });
   if (found.fault) return refused(found.fault);
   isRetried = false;
   clearFaults();
+  read = database;
   shown(found, window, query);
   return undefined;
 }
@@ -96,7 +105,7 @@ function refused(fault) {
 
 function shown(found, window, query) {
   const before = state.answers[state.chosen];
-  Object.assign(state, { columns: found.columns, answers: found.answers, more: found.more, total: null });
+  Object.assign(state, { head: found.head, columns: found.columns, answers: found.answers, more: found.more, total: null });
   state.lanes = query === asked ? [...new Map([...state.lanes, ...found.lanes].map((lane) => [JSON.stringify(lane), lane])).values()] : found.lanes;
   asked = query;
   state.chosen = before ? found.answers.findIndex((answer) => answer.join("\n") === before.join("\n")) : -1;
@@ -109,7 +118,7 @@ function shown(found, window, query) {
   showWords(found.words);
   byId("pinned").hidden = !found.pinned;
   if (found.pinned) showPinned(found.pinned, state.texts.pinned.replace(/^\s*#.*$/gm, "").trim().replace(/\s+/g, " ").slice(0, 160));
-  // The engine counts answers with one time.
+  // The engine counts answers with one time; where ranges are shown the number is told with them.
   if (found.more && found.columns.filter(([, sort]) => sort === "time").length === 1) quietly(showCount());
   document.documentElement.dataset.shown = String(Number(document.documentElement.dataset.shown ?? 0) + 1);
   later();
@@ -162,6 +171,7 @@ function startListening() {
 
 function take(found) {
   applySettings(found.chosen);
+  state.engine = found.engine;
   for (const kind of ["db", "query"]) {
     state.names[kind] = found[kind].name;
     state.digests[kind] = found[kind].digest;

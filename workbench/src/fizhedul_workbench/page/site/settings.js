@@ -4,7 +4,7 @@ import { byId } from "./made.js";
 import { on, setWindow, state, tell } from "./state.js";
 import { shownTime, timeOf } from "./times.js";
 
-const FLAGS = ["civil", "tense", "wide", "dates"];
+const FLAGS = ["civil", "tense", "wide", "dates", "bars"];
 
 export function applySettings(chosen) {
   for (const flag of [...FLAGS, "written"]) state.settings[flag] = chosen[flag];

@@ -9,9 +9,12 @@ export const state = {
   digests: { db: "", query: "" },
   saved: { db: "", query: "" },
   names: { db: null, query: null },
-  settings: { civil: false, tense: false, wide: false, written: false, dates: false, cap: 1000000, limit: 500 },
+  engine: "program",
+  settings: { civil: false, tense: false, wide: false, written: false, dates: false, bars: false, cap: 1000000, limit: 500 },
   window: { from: 0n, to: 1439n },
   first: { from: 0n, to: 1439n },
+  // The columns of the query, and those of what is shown, which are other ones where ranges are.
+  head: [],
   columns: [],
   answers: [],
   more: null,

@@ -34,7 +34,8 @@ export function showTable() {
 // How many answers are shown, and of how many, where that is known.
 export function showMore() {
   more.hidden = state.more === null;
-  const count = `${state.answers.length} answer${state.answers.length === 1 ? "" : "s"}`;
+  const unit = state.columns.length > state.head.length ? "range" : "answer";
+  const count = `${state.answers.length} ${unit}${state.answers.length === 1 ? "" : "s"}`;
   const others = state.total === null ? ", and more" : ` of ${state.total}`;
   byId("count").textContent = state.more === null ? count : count + others;
 }

@@ -24,10 +24,10 @@ function span() {
 }
 
 export function showFields() {
-  const inputs = state.columns.map(([name, sort], column) =>
+  const inputs = state.head.map(([name, sort], column) =>
     made("label", {}, `${name}: ${sort}`, made("input", { autocomplete: "off", spellcheck: "false", "data-column": column })));
   const isSame = [...fields.querySelectorAll("label")].map((each) => each.firstChild.data).join()
-    === state.columns.map(([name, sort]) => `${name}: ${sort}`).join();
+    === state.head.map(([name, sort]) => `${name}: ${sort}`).join();
   if (isSame && fields.children.length) return;
   asked = "";
   fields.replaceChildren(...inputs, made("button", { type: "submit", text: "Why?" }));
@@ -103,6 +103,7 @@ export function startWhy() {
     askWhy();
   });
   on("chosen", () => {
+    // Of a range its first time is asked about.
     const answer = state.answers[state.chosen];
     for (const [column, input] of [...fields.querySelectorAll("input")].entries()) input.value = answer[column];
   });
