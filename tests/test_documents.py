@@ -253,21 +253,13 @@ class Names(unittest.TestCase):
     """A public name means one thing in all crates; a rule of a grammar alone has the grammar's own name."""
 
     RULES = {"column", "period", "point"}
-    # Names that two crates still define: each gets one of its own when its crate is next proved. None is added.
-    TWICE = {
-        *("AreCounted", "AreNumbered", "AreNumbers", "AreWhole", "IsAsked", "IsBegun", "IsCompared", "IsFormula", "IsKept"),
-        *("IsNamed", "IsNumbered", "IsPassed", "IsProper", "IsSmall", "IsTold", "IsWhole", "added", "atom_form", "both"),
-        *("bound_by", "column_at", "counted", "is_named", "name_in", "named_at", "names_of", "number_at", "number_in"),
-        *("or_else", "relation_of", "value_in", "variable_of"),
-    }
-    TYPES_TWICE = {"Begun", "Database", "Quantifier", "Setting"}
 
     def test_each_definition_has_a_name_of_its_own(self):
         line = r"(?m)^(?:abbrev |unfoldable )*pub (?:abbrev |unfoldable |data |record )*(?!mod |use )(\w+)"
-        self.once(TOP.glob("crates/*/specs/**/*.antt"), line, self.RULES | self.TWICE)
+        self.once(TOP.glob("crates/*/specs/**/*.antt"), line, self.RULES)
 
     def test_each_type_has_a_name_of_its_own(self):
-        self.once(TOP.glob("crates/*/src/**/*.rt"), r"(?m)^pub (?:struct|enum|trait) (\w+)", self.TYPES_TWICE)
+        self.once(TOP.glob("crates/*/src/**/*.rt"), r"(?m)^pub (?:struct|enum|trait) (\w+)", set())
 
     def once(self, files: Iterable[Path], line: str, rules: set[str]) -> None:
         """Only these rules are told by such lines in two of the files."""

@@ -186,6 +186,28 @@ class Launcher(unittest.TestCase):
             shutil.copy(TOP / "examples/bus/bus.lrp", folder / "a b.lrp")
             self.assertEqual(run("check", "db=a b.lrp", folder=folder).out, run("check", "db=examples/bus/bus.lrp").out)
 
+    def test_the_library_is_built_where_it_is_asked_for(self):
+        with tempfile.TemporaryDirectory() as name:
+            folder = Path(name)
+            shutil.copy(LAUNCHER, folder)
+            shutil.copytree(TOP / "share", folder / "share")
+            said = shell("./fizhedul --library", folder)
+            self.assertEqual((said.status, said.out), (70, ""))
+            self.assertIn("there are no sources here", said.err)
+            (folder / "crates").mkdir()
+            for part in ("tools/build_program", "packaging/library/archive", "packaging/library/build"):
+                (folder / part).parent.mkdir(parents=True, exist_ok=True)
+                (folder / part).write_text(f'#!/bin/sh\necho {part} "$@" >>told\n')
+                (folder / part).chmod(0o755)
+            said = shell("./fizhedul --library", folder)
+            library = folder.resolve() / "crates/lrp_c/out/library"
+            self.assertEqual((said.status, said.out), (0, f"{library}/lib/libfizhedul.so.1\n"))
+            done = ["tools/build_program", "packaging/library/archive", f"packaging/library/build {library}"]
+            self.assertEqual([line.strip() for line in (folder / "told").read_text().splitlines()], done)
+            (folder / "packaging/library/archive").write_text("#!/bin/sh\nexit 71\n")
+            said = shell("./fizhedul --library", folder)
+            self.assertEqual((said.status, said.out), (71, ""))
+
     def test_words_of_the_workbench_go_to_it(self):
         with tempfile.TemporaryDirectory() as name:
             folder = Path(name)
@@ -240,6 +262,29 @@ printf '#!/bin/sh\\necho ran\\n' >{out}/lrp_main; chmod +x {out}/lrp_main
         self.assertEqual((said.status, said.out), (4, "refused: query UnknownRelation at 1:13\n"))
         self.assertTrue(said.err.startswith("query:1:13\n  { t: time | buss(t) }\n              ^~~~\n"), said.err)
 
+    def test_definitions_may_stand_in_the_words_before_a_query(self):
+        for query in ("define x(t: time) as bus(t); { t: time | x(t) }", " define\nx(t: time) as bus(t); { t: time | x(t) }",
+                      "define # A name.\n x(t: time) as bus(t);\n{ t: time | x(t) }", "# All.\n{ t: time | bus(t) }"):
+            with self.subTest(query):
+                said = run("ask", "db=examples/bus/bus.lrp", f"query={query}", "wide=yes")
+                self.assertEqual((said.status, said.out, said.err), (0, "relation answer(t: time) {\n  (5+60n);\n}\n", ""))
+        query = "define x(t: time) as buss(t); { t: time | x(t) }"
+        said = run("ask", "db=examples/bus/bus.lrp", f"query={query}", "wide=yes", explain="always")
+        self.assertEqual((said.status, said.out), (4, "refused: query UnknownRelation at 1:22\n"))
+        self.assertTrue(said.err.startswith(f"query:1:22\n  {query}\n{' ' * 23}^~~~\n"), said.err)
+        said = run("ask", "db=examples/bus/bus.lrp", f"query={query}", explain="always")
+        self.assertEqual((said.status, said.out), (4, "refused: query Syntax at 1:1\n"))
+        self.assertIn("This is in the wide language, which is read with wide=yes.", " ".join(said.err.split()))
+
+    def test_a_file_may_be_called_as_a_definition_begins(self):
+        with tempfile.TemporaryDirectory() as name:
+            folder = Path(name)
+            (folder / "a.lrp").write_text("relation bus(t: time) { (5+60n); }")
+            for file in ("define", "define.lrq", "define x.lrq", "defined{}.lrq", "#.lrq"):
+                (folder / file).write_text("{ t: time | bus(t) }")
+                said = run("decide", "db=a.lrp", f"query={file}", folder=folder)
+                self.assertEqual((said.status, said.out), (0, "Nonempty\n5\n"), file)
+
     def test_a_query_may_stand_in_the_words_of_the_workbench(self):
         said = shell("fizhedul export csv db=- query='{ t: time | bus(t) }' from=0 to=100 <examples/bus/bus.lrp")
         self.assertEqual((said.status, said.out, said.err), (0, "t: time\n5\n65\n", ""))
@@ -249,6 +294,9 @@ printf '#!/bin/sh\\necho ran\\n' >{out}/lrp_main; chmod +x {out}/lrp_main
         self.assertTrue(shell(line, explain="always").err.endswith(
             "\nA list stands in parentheses: (bus(t) and bus(t)). Or give wide=yes: then it may be written so.\n"))
         self.assertEqual(shell(f"{line} wide=yes").out, "t: time\n5\n65\n")
+        query = "define x(t: time) as bus(t) and t != 65; { t: time | x(t) }"
+        line = f"fizhedul export csv db=examples/bus/bus.lrp query='{query}' from=0 to=200 wide=yes"
+        self.assertEqual(shell(line).out, "t: time\n5\n125\n185\n")
 
     def test_a_minus_is_standard_input(self):
         with tempfile.TemporaryDirectory() as name:

@@ -533,7 +533,11 @@ class Hints(unittest.TestCase):
     def test_a_text_in_place_of_a_file(self):
         told = run("ask", "db=examples/bus/bus.lrp", "query=bus(t)", explain="always")
         self.assertEqual(told.out, "refused: read of query\n")
-        self.assertIn("'bus(t)' looks like a text and not like the name of a file; a query that is given here begins with '{'.",
+        self.assertIn("'bus(t)' looks like a text and not like the name of a file; a query that is given here begins with '{', "
+                      "or with 'define' where its '{' comes later.", " ".join(told.err.split()))
+        told = run("check", "db=relation bus(t: time) { (5); }", explain="always")
+        self.assertEqual(told.out, "refused: read of database\n")
+        self.assertIn("looks like a text and not like the name of a file; the text goes into a file of its own.",
                       " ".join(told.err.split()))
 
     def test_a_letter_of_several_bytes_is_shown_whole(self):
