@@ -1,4 +1,4 @@
--- Rows of one settled cell stand beside each other as they may: none where there is no time, apart with one, and else only where their cell is no zone.
+-- Rows of one settled cell stand beside each other as they may: none where there is no time, apart with one, and else only where their cell is no zone and neither lies within the other.
 use Rattle.std.proofs.Common.{◌≡◌, ◌<◌, ◌∙◌, ℕ, zero, suc, List, [], ◌∷◌, Option, refl, sym, ap, subst, arith, length, map, take, get_or}
 use Rattle.std.specs.Prelude.{ℤ, pos, ◌-ℤ◌, ◌↔◌, Contains, AllPairs}
 use Rattle.std.specs.Cmp.Lexicographic.{nat_list_cmp_total}
@@ -9,15 +9,15 @@ use Rattle.std.proofs.lemmas.List.Elements.{Contains-get_or}
 use Rattle.std.proofs.lemmas.Map.Lookups.{exact_bytes}
 use Rattle.lrp_theory.specs.Divides.{Divides}
 use Rattle.lrp_theory.specs.Entries.{node}
-use Rattle.lrp_model.specs.AnswerTexts.{IsApart, IsOneZone as IsOneZoneOf, MayStandBeside, OfOneCell}
+use Rattle.lrp_model.specs.AnswerTexts.{IsApart, IsOneZone as IsOneZoneOf, LiesWithin, MayStandBeside, OfOneCell}
 use Rattle.lrp_model.specs.Rows.{Datum, times_of, texts_of, IsOf, MeetsBound}
 use Rattle.lrp_model.specs.Texts.{Text, Ascends}
 use Rattle.lrp_model.specs.Tuples.{in_head_order}
 use Rattle.lrp_model.specs.declared.tuples.Cell.{Cell}
 use Rattle.lrp_zone.specs.Zones.{ZoneView, IsZone, IsInCell, IsMember, columns_of}
-use Rattle.lrp_zone.specs.Pairs.{IsOfCell}
+use Rattle.lrp_zone.specs.Pairs.{IsOfCell, IsWithin}
 use Rattle.lrp_store.specs.Least.{HasRoom, IsRoom}
-use Rattle.lrp_store.specs.Settled.{AreSettled, InSome, AreOneZone}
+use Rattle.lrp_store.specs.Settled.{AreIncomparable, AreSettled, InSome, AreOneZone, IsAntichain}
 use Rattle.lrp_store.specs.Stores.{IsStore, LiesInCell, StoreView, tables_at, zone_of, zones_at}
 use Rattle.lrp_store.specs.Tables.{AreTexts, InAnswer}
 use Rattle.lrp_answers.specs.declared.answer.Answer.{Answer}
@@ -159,6 +159,20 @@ module _ (a : Answer) (store : IsStore a.store) (ascends : Ascends a.domain) (ro
         by [] e = absurd (in_none (zone_of a.store cell table) (subst (λ zs. Contains zs (zone_of a.store cell table)) e (zone_listed table held)))
         by (z ∷ ys) e = made_one h z ys e
 
+  -- a row that lies within another one is of a zone that lies within the zone of that
+  zone_within : (t u : List (Option ℤ)) (ht : Contains tables t) (hu : Contains tables u) → LiesWithin (answer_row a.head.columns a.domain a.store cell t) (answer_row a.head.columns a.domain a.store cell u) → IsWithin (zone a store ascends cell t ht) (zone a store ascends cell u hu)
+  zone_within t u ht hu w = record {
+    each = λ xs m.
+        let r = row_tuple a store ascends cell t ht xs m in
+        subst (IsMember (zone a store ascends cell u hu)) r.2 (from_row a store ascends cell u hu r.0 (w r.0 r.1)).times;
+  }
+
+  incomparable : (i j : ℕ) → i < j → j < length tables → IsAntichain zones → AreIncomparable (zone_of a.store cell (get_or tables i [])) (zone_of a.store cell (get_or tables j []))
+  incomparable i j il jl apart =
+      let d = zone_of a.store cell [] in
+      subst (λ v. AreIncomparable v (zone_of a.store cell (get_or tables j []))) (zone_at i (omega arith) d)
+      (subst (AreIncomparable (get_or zones i d)) (zone_at j jl d) (apart i j d il (subst (λ n. j < n) (sym zones_count) jl)))
+
   -- ---- two rows of the cell
 
   beside_at : (i j : ℕ) → i < j → j < length tables → (m : ℕ) → a.store.shape.times ≡ m → MayStandBeside answers a.store.period m (answer_row a.head.columns a.domain a.store cell (get_or tables i [])) (answer_row a.head.columns a.domain a.store cell (get_or tables j []))
@@ -168,12 +182,19 @@ module _ (a : Answer) (store : IsStore a.store) (ascends : Ascends a.domain) (ro
       let n : length zones ≡ length tables = zones_count in
       absurd (omega arith)
   beside_at i j il jl (suc zero) e = apart i j il jl e
-  beside_at i j il jl (suc (suc m)) e = λ h.
+  beside_at i j il jl (suc (suc m)) e =
+      let ti = get_or tables i [] in
+      let tj = get_or tables j [] in
       let hi = listed i (omega arith) in
-      let c : columns_of (zone a store ascends cell (get_or tables i []) hi) ≡ suc (suc m) = columns_are a store ascends cell (get_or tables i []) hi ∙ e in
-      let one : length zones ≡ 1 = ((settled (zone a store ascends cell (get_or tables i []) hi) (zone_listed (get_or tables i []) hi)).more (omega arith)).1 (one_zone (get_or tables i []) hi h) in
-      let n : length zones ≡ length tables = zones_count in
-      absurd (omega arith)
+      let hj = listed j jl in
+      let c : columns_of (zone a store ascends cell ti hi) ≡ suc (suc m) = columns_are a store ascends cell ti hi ∙ e in
+      let s = settled (zone a store ascends cell ti hi) (zone_listed ti hi) in
+      let both = incomparable i j il jl (s.antichain (omega arith)) in
+      record {
+        many = λ h. let one : length zones ≡ 1 = (s.more (omega arith)).1 (one_zone ti hi h) in let n : length zones ≡ length tables = zones_count in absurd (omega arith);
+        forth = λ w. both.forth (zone_within ti tj hi hj w);
+        back = λ w. both.back (zone_within tj ti hj hi w);
+      }
 
   pub cell_beside : AllPairs (λ r s. OfOneCell r s → MayStandBeside answers a.store.period a.store.shape.times r s) (cell_rows a.head.columns a.domain a.store cell)
   cell_beside i j d il jl o =

@@ -137,6 +137,7 @@ module _ (s : StoreView) (is : IsStore s) (one : s.shape.times ≡ 1) (lists : S
         none = λ e. absurd (omega (arith, e, one_column));
         one = λ e. intervals (zones_at made c) (zone_there c) (holds.far c) (one_cell c);
         more = λ l. absurd (omega (arith, l, one_column));
+        antichain = λ l. absurd (omega (arith, l, one_column));
       }
 
   room : HasRoom made

@@ -1,8 +1,10 @@
 -- What is proved of zones of one cell, cut and settled, by topic.
 pub mod AddingLaws
 pub mod Alike
+pub mod AxisLaws
 pub mod BoundedLaws
 pub mod CountLaws
+pub mod CoverLaws
 pub mod CutLaws
 pub mod Examples
 pub mod GapLaws

@@ -138,6 +138,7 @@ module _ (z : ZoneView) (one : columns_of z ≡ 1) (zones : List ZoneView) (cell
       none = λ e. absurd (omega (arith, e, one));
       one = λ e. intervals made (λ w l. ((m.valid w l).0, made_one w l)) m.far made_cells;
       more = λ l. absurd (omega (arith, one));
+      antichain = λ l. absurd (omega (arith, one));
     };
     small = λ w l.
         let r : reach_of w ≤ greatest_reach zones = m.reach (greatest_reach zones) (n.small (greatest_reach zones) (reach_below zones)) w l in

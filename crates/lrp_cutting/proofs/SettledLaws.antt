@@ -135,6 +135,7 @@ module _ (s : StoreView) (is : IsStore s) (c : Cell) (one : s.shape.times ≡ 1)
           none = λ e. absurd (omega (arith, e, own));
           one = λ e. intervals (zones_at s c) zone_on_line (far_pairs (zones_at s c) zone_on_line far) one_cell;
           more = λ l. absurd (omega (arith, own));
+          antichain = λ l. absurd (omega (arith, own));
         };
         small = λ w l.
             let r : reach_of w ≤ greatest_reach (zones_at s c) = reach_below (zones_at s c) w l in

@@ -7,14 +7,15 @@ use Rattle.lrp_theory.specs.Entries.{AtMost}
 use Rattle.lrp_zone.specs.Zones.{ZoneView, IsZone, IsMember, columns_of, reach_of}
 use Rattle.lrp_zone.specs.Pairs.{IsOfCell, IsWithin}
 use Rattle.lrp_zone.proofs.Reaches.{small_reach}
-use Rattle.lrp_store.specs.Settled.{InSome, AreOneZone, AreSettled}
-use Rattle.lrp_cutting.specs.Cutting.{IsWithinOne, side_reach}
+use Rattle.lrp_store.specs.Settled.{InSome, AreIncomparable, AreOneZone, AreSettled}
+use Rattle.lrp_cutting.specs.Covering.{AreInOneCell}
+use Rattle.lrp_cutting.specs.Cutting.{side_reach}
 use Rattle.lrp_cutting.specs.Differences.{AreOfCell, greatest_reach}
 use Rattle.lrp_cutting.specs.Hulls.{IsHull}
 use Rattle.lrp_cutting.specs.Leaving.{HasGap}
 use Rattle.lrp_cutting.specs.Settling.{IsSmallZone, IsSettlement, IsThinned}
 use Rattle.lrp_cutting.proofs.LineLaws.{small_zone}
-use Rattle.lrp_cutting.proofs.Lists.{below_or, head_in, in_cons, in_none, in_one, in_left, in_right, in_this, in_nothing, later, one_in, one_of, reach_below, this_has}
+use Rattle.lrp_cutting.proofs.Lists.{below_or, head_in, in_cons, in_none, in_one, in_left, in_right, in_this, in_nothing, later, one_in, one_of, pairs_one, reach_below, this_has}
 use Rattle.lrp_cutting.proofs.Membership.{decided_some}
 
 -- ---- cells
@@ -23,9 +24,6 @@ same_cell f z w a b = record { period = b.period ∙ sym a.period; residues = b.
 
 pub cells_each : (f : ZoneView) (zones : List ZoneView) → AreOfCell f zones → (z : ZoneView) → Contains zones z → AreOfCell z zones
 cells_each f zones a z l = record { each = λ w k. same_cell f z w (a.each z l) (a.each w k) }
-
-pub cells_part : (z : ZoneView) (zones part : List ZoneView) → AreOfCell z zones → ((w : ZoneView) → Contains part w → Contains zones w) → AreOfCell z part
-cells_part z zones part a inside = record { each = λ w l. a.each w (inside w l) }
 
 -- a settlement in the words of one zone is one in those of each zone of the cell
 pub settlement_moved : (f z : ZoneView) (old new : List ZoneView) → IsOfCell f z → IsSettlement f old new → IsSettlement z old new
@@ -42,6 +40,7 @@ settlement_moved f z old new c s =
           (λ e. let r : (w : ZoneView) × IsOfCell f w × AreOneZone new w = (s.settled.more (subst (λ k. 1 < k) n l)).0 e in (r.0, same_cell f z r.0 c r.1, r.2)),
           (λ r. (s.settled.more (subst (λ k. 1 < k) n l)).1 (r.0, same_cell z f r.0 (same_cell f z f c (record { period = refl; residues = refl })) r.1, r.2)),
         );
+        antichain = λ l. s.settled.antichain (subst (λ k. 1 < k) n l);
       };
       small = λ w l. subst (λ k. IsSmallZone w (k * greatest_reach old)) (sym n) (s.small w l);
     }
@@ -70,6 +69,7 @@ settled_none f zones valid none here cells = record {
     none = λ e. refl;
     one = λ e. absurd (omega (arith, none));
     more = λ l. absurd (omega (arith, none));
+    antichain = λ l. pairs_one AreIncomparable f;
   };
   small = λ w l. subst (λ y. IsSmallZone y (columns_of f * greatest_reach zones)) (in_one f w l)
       (let r : reach_of f ≤ 0 = none_stored f valid none in small_zone f (greatest_reach zones) valid (omega arith) (omega arith));
@@ -135,6 +135,7 @@ one_settled f z valid cell more = record {
   none = λ e. refl;
   one = λ e. absurd (omega (arith, more));
   more = λ l. ((λ e. (z, cell, record { is = valid; within = λ xs s. this_has z xs s; whole = λ xs m. in_this z xs m })), (λ r. refl));
+  antichain = λ l. pairs_one AreIncomparable z;
 }
 
 -- a list that has a zone is not empty
@@ -149,6 +150,16 @@ settled_one f zones one here valid more =
     let cell : IsOfCell f f = record { period = refl; residues = refl } in
     let all : zones ≡ f ∷ [] = subst (λ z. zones ≡ z ∷ []) same the.1 in
     subst (λ l. IsSettlement f l (f ∷ [])) (sym all) (settled_alone f f valid cell (omega arith) (one_settled f f valid cell more))
+
+-- zones of one cell with their bounds
+pub in_one_cell : (f : ZoneView) (zones : List ZoneView) → 1 < columns_of f → 0 < length zones → AreOfCell f zones → ((z : ZoneView) → Contains zones z → IsZone z) → ((z : ZoneView) → Contains zones z → columns_of z * reach_of z + z.period ≤ 2 ^ 62) → AreInOneCell zones
+in_one_cell f zones more some cells valid room = record {
+  some = some;
+  columns = λ z l. let n : columns_of z ≡ columns_of f = ap length (cells.each z l).residues in omega arith;
+  valid = valid;
+  cells = cells_each f zones cells;
+  room = λ z l. let r : columns_of z * reach_of z + z.period ≤ 2 ^ 62 = room z l in omega arith;
+}
 
 -- ---- more columns
 pub hull_cells : (f : ZoneView) (zones : List ZoneView) (h : ZoneView) → AreOfCell f zones → IsHull f zones h → AreOfCell h zones
@@ -168,6 +179,7 @@ module _ (f : ZoneView) (zones : List ZoneView) (h : ZoneView) (cells : AreOfCel
       none = λ e. refl;
       one = λ e. absurd (omega (arith, more));
       more = λ l. ((λ e. (h, hull.cell, record { is = hull.valid; within = λ xs s. this_has h xs s; whole = λ xs m. in_this h xs m })), (λ r. refl));
+      antichain = λ l. pairs_one AreIncomparable h;
     };
     small = λ w l. subst (λ y. IsSmallZone y (columns_of f * greatest_reach zones)) (in_one h w l) small;
   }
@@ -203,6 +215,7 @@ module _ (f : ZoneView) (zones : List ZoneView) (h : ZoneView) (cells : AreOfCel
               )),
           (λ r. absurd (not_one some r.0 r.1 r.2)),
         );
+        antichain = λ l. thin.antichain;
       };
       small = λ w l.
           let r : reach_of w ≤ greatest_reach zones = reach_below zones w (thin.kept w l).0 in
@@ -210,74 +223,3 @@ module _ (f : ZoneView) (zones : List ZoneView) (h : ZoneView) (cells : AreOfCel
           let t : greatest_reach zones ≤ columns_of f * greatest_reach zones = times_more (columns_of f) _ (omega arith) in
           subst (λ k. IsSmallZone w (k * greatest_reach zones)) n (small_zone w (greatest_reach zones) (thin.kept w l).1 r (subst (λ k. reach_of w ≤ k * greatest_reach zones) (sym n) (omega arith)));
     }
-
--- ---- zones that lie within no neighbour
--- what lies within one of a part of a list lies within one of the list
-pub within_more : (z : ZoneView) (part whole : List ZoneView) → ((w : ZoneView) → Contains part w → Contains whole w) → IsWithinOne z part → IsWithinOne z whole
-within_more z part whole inside one = record { cutter = one.cutter; listed = inside one.cutter one.listed; within = one.within }
-
--- what is left to be looked at, and what is kept
-pub record AreThinning (zones left kept : List ZoneView) : Type 0 where
-  pub left_in : (w : ZoneView) → Contains left w → Contains zones w
-  pub kept_in : (w : ZoneView) → Contains kept w → Contains zones w × IsZone w
-  pub whole : (xs : List ℤ) → InSome zones xs → InSome kept xs ⊎ InSome left xs
-
-pub thinning_start : (zones : List ZoneView) → AreThinning zones zones []
-thinning_start zones = record { left_in = λ w l. l; kept_in = λ w l. absurd (in_none w l); whole = λ xs s. inr s }
-
-module _ (zones left kept rest : List ZoneView) (z : ZoneView) (e : left ≡ z ∷ rest) (t : AreThinning zones left kept) where
-  pub this_left : Contains zones z
-  this_left = t.left_in z (rw e (head_in z rest))
-
-  pub rest_left : (w : ZoneView) → Contains rest w → Contains zones w
-  rest_left w l = t.left_in w (rw e (later z rest w l))
-
-  -- a tuple of those that are left is of the first or of the others
-  left_either : (xs : List ℤ) → InSome left xs → IsMember z xs ⊎ InSome rest xs
-  left_either xs s = elim (in_cons z rest s.zone (subst (λ l. Contains l s.zone) e s.listed)) [
-    | inl q ↦ inl (subst (λ w. IsMember w xs) (sym q) s.inside)
-    | inr k ↦ inr (record { zone = s.zone; listed = k; inside = s.inside })
-  ]
-
-  -- the first one is dropped
-  pub thinning_drop : IsWithinOne z rest ⊎ IsWithinOne z kept → AreThinning zones rest kept
-  thinning_drop covered = record {
-    left_in = rest_left;
-    kept_in = t.kept_in;
-    whole = λ xs s. elim (t.whole xs s) [
-      | inl k ↦ inl k
-      | inr l ↦ elim (left_either xs l) [
-        | inl m ↦ elim covered [
-          | inl c ↦ inr (record { zone = c.cutter; listed = c.listed; inside = c.within.each xs m })
-          | inr c ↦ inl (record { zone = c.cutter; listed = c.listed; inside = c.within.each xs m })
-        ]
-        | inr r ↦ inr r
-      ]
-    ];
-  }
-
-  -- or kept
-  pub thinning_keep : IsZone z → AreThinning zones rest (kept ++ z ∷ [])
-  thinning_keep valid = record {
-    left_in = rest_left;
-    kept_in = λ w l. elim (Contains-append_cases kept (z ∷ []) w l) [
-      | inl k ↦ t.kept_in w k
-      | inr k ↦ subst (λ y. Contains zones y × IsZone y) (in_one z w k) (this_left, valid)
-    ];
-    whole = λ xs s. elim (t.whole xs s) [
-      | inl k ↦ inl (in_left kept (z ∷ []) xs k)
-      | inr l ↦ elim (left_either xs l) [
-        | inl m ↦ inl (in_right kept (z ∷ []) xs (in_this z xs m))
-        | inr r ↦ inr r
-      ]
-    ];
-  }
-
-pub thinning_end : (zones left kept : List ZoneView) → length left ≡ 0 → AreThinning zones left kept → IsThinned zones kept
-thinning_end zones left kept none t = record {
-  kept = t.kept_in;
-  whole = λ xs s. elim (t.whole xs s) [
-    | inl k ↦ k
-    | inr l ↦ absurd (in_nothing xs (subst (λ ls. InSome ls xs) (nil_from_length left none) l))
-  ];
-}

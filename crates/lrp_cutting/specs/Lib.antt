@@ -7,7 +7,9 @@ pub mod Settling
 pub mod Thresholds
 pub mod Intervals
 -- What functions inside say to one another.
+pub mod Axes
 pub mod Bounded
+pub mod Covering
 pub mod Cutting
 pub mod Gaps
 pub mod Halves

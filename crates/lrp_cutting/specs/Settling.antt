@@ -7,7 +7,7 @@ use Rattle.lrp_zone.specs.Pairs.{IsOfCell}
 use Rattle.lrp_model.specs.declared.tuples.Cell.{Cell}
 use Rattle.lrp_store.specs.Least.{matrix_of}
 use Rattle.lrp_store.specs.Stores.{StoreView, IsPadded, tables_at, zones_at}
-use Rattle.lrp_store.specs.Settled.{InSome, AreSettled}
+use Rattle.lrp_store.specs.Settled.{InSome, AreSettled, IsAntichain}
 use Rattle.lrp_cutting.specs.Differences.{greatest_reach}
 
 -- each stored bound of the zone, and each least bound that the integers within its bounds meet, has a magnitude of at most h
@@ -36,10 +36,11 @@ pub record SettlesCell (cell : Cell) (store old new : StoreView) : Type 0 where
   pub adds : AddsZones cell made old new
   pub settled : (z : ZoneView) → Contains (zones_at store cell) z → IsSettlement z (zones_at store cell) made
 
--- some of the zones, which hold the tuples of all
+-- some of the zones, an antichain that holds the tuples of all
 pub record IsThinned (old new : List ZoneView) : Type 0 where
   pub kept : (w : ZoneView) → Contains new w → Contains old w × IsZone w
   pub whole : (xs : List ℤ) → InSome old xs → InSome new xs
+  pub antichain : IsAntichain new
 
 -- a store of the shape and the period of s
 pub record IsLike (s out : StoreView) : Type 0 where

@@ -94,8 +94,8 @@ fn widest(matrices: &[Matrix], i: usize, j: usize) -> Option<i64>
     widest
 }
 
-// The matrix's bound at a place.
-fn bound_of(matrix: &Matrix, i: usize, j: usize) -> Option<i64>
+/// The matrix's bound at a place.
+pub(crate) fn bound_of(matrix: &Matrix, i: usize, j: usize) -> Option<i64>
     requires row { i ≤ matrix.now.columns }
     requires column { j ≤ matrix.now.columns }
     requires small { AtMost (2 ^ 62) (entry matrix.now.cells i j) }

@@ -1,7 +1,9 @@
 //! Zones of one cell: what of one is left where others are taken away, and the same tuples in settled zones.
 #![tactic(auto)]
 
+mod axes;
 mod bounded;
+mod covering;
 mod cutters;
 mod gaps;
 mod half;

@@ -87,11 +87,21 @@ pub record IsOneZone (answers : Tuple → Type 0) (row : Row) : Type 0 where
   pub bounds : List Bound
   pub same : (tuple : Tuple) → IsOf row.values tuple → answers tuple ↔ IsInRow (record { values = row.values; bounds = bounds }) tuple
 
--- what holds of two rows of one cell, by the number of time columns: with none there are no two, with one they lie apart, and with more the cell is not that of one zone
+-- every member of the first row is one of the second
+abbrev pub LiesWithin : Row → Row → Type 0
+LiesWithin r s = (tuple : Tuple) → IsInRow r tuple → IsInRow s tuple
+
+-- the answers in the rows' cell are not those of one zone, and neither row lies within the other
+pub record AreTwoOfMany (answers : Tuple → Type 0) (r s : Row) : Type 0 where
+  pub many : IsOneZone answers r → ⊥
+  pub forth : LiesWithin r s → ⊥
+  pub back : LiesWithin s r → ⊥
+
+-- what holds of two rows of one cell, by the number of time columns: with none there are no two, with one they lie apart, and with more they are two of many
 abbrev pub MayStandBeside : (Tuple → Type 0) → ℕ → ℕ → Row → Row → Type 0
 MayStandBeside answers K zero r s = ⊥
 MayStandBeside answers K (suc zero) r s = IsApart K r s
-MayStandBeside answers K (suc (suc m)) r s = IsOneZone answers r → ⊥
+MayStandBeside answers K (suc (suc m)) r s = AreTwoOfMany answers r s
 
 -- ---- the text
 

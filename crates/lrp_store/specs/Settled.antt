@@ -24,8 +24,18 @@ pub record AreIntervals (zones : List ZoneView) : Type 0 where
   pub ascending : AllPairs LiesBelow zones
   pub maximal : (w v : ZoneView) → Contains zones v → IsZone w → IsOfCell v w → ((xs : List ℤ) → IsMember w xs → InSome zones xs) → (u : ZoneView) × Contains zones u × IsWithin w u
 
--- the zones of the cell of z are one where there is no column, the maximal intervals where there is one, and else one exactly where the set is that of one zone of the cell
+-- neither zone lies within the other one
+pub record AreIncomparable (v w : ZoneView) : Type 0 where
+  pub forth : IsWithin v w → ⊥
+  pub back : IsWithin w v → ⊥
+
+-- no zone of the list lies within another one of it: they are an antichain, in which equal ones stand once
+abbrev pub IsAntichain : List ZoneView → Type 0
+IsAntichain zones = AllPairs AreIncomparable zones
+
+-- the zones of the cell of z are one where there is no column, the maximal intervals where there is one, and else an antichain, and one exactly where the set is that of one zone of the cell
 pub record AreSettled (z : ZoneView) (zones : List ZoneView) : Type 0 where
   pub none : columns_of z ≡ 0 → length zones ≡ 1
   pub one : columns_of z ≡ 1 → AreIntervals zones
   pub more : 1 < columns_of z → ((length zones ≡ 1) ↔ ((w : ZoneView) × IsOfCell z w × AreOneZone zones w))
+  pub antichain : 1 < columns_of z → IsAntichain zones

@@ -6,7 +6,7 @@ use Rattle.lrp_cutting.specs.Hulls.{IsHull}
 use Rattle.lrp_cutting.specs.Leaving.{HasGap}
 use Rattle.lrp_cutting.specs.Settling.{IsSettlement, IsSmallZone, IsThinned}
 use Rattle.lrp_cutting.proofs.Lists.{if_ok}
-use Rattle.lrp_cutting.proofs.SettlingLaws.{cells_each, gap_room, greatest_room, hull_cells, settled_hull, settled_one, settled_thinned, some_listed}
+use Rattle.lrp_cutting.proofs.SettlingLaws.{gap_room, greatest_room, hull_cells, in_one_cell, settled_hull, settled_one, settled_thinned, some_listed}
 use Rattle.lrp_cutting.proofs.settling.fewest.Goals as goal
 
 pub hull-requires-clause-some : goal.hull-requires-clause-some
@@ -26,7 +26,7 @@ has_gap-requires-clause-reach c =
     (greatest_room c.args.cell.now c.args.zones.now c.requires.cell (some_listed c.args.zones.now c.args.cell.now c.requires.listed) c.requires.reach))
 
 pub thinned-requires : goal.thinned-requires
-thinned-requires c = record { zones = c.in_ok-hull.ensures.valid; cell = rw c.as_slice-all.ensures (cells_each c.args.cell.now c.args.zones.now c.requires.cell) }
+thinned-requires c = rw c.as_slice-all.ensures (in_one_cell c.args.cell.now c.args.zones.now c.requires.columns (some_listed c.args.zones.now c.args.cell.now c.requires.listed) c.requires.cell (rw c.as_slice-all.ensures at c.in_ok-hull.ensures.valid) c.requires.reach)
 
 pub returns-then-branch : goal.returns-then-branch
 returns-then-branch c =
