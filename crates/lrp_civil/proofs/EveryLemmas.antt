@@ -1,14 +1,15 @@
 -- Values of paces at the front of some bytes, part by part.
 use Rattle.std.proofs.Common.{◌≡◌, ℕ, Bool, true, ◌&&◌, List, ◌∷◌, ◌++◌, drop, refl, sym, ap, ◌∙◌, codes, append_assoc}
-use Rattle.lrp_civil.specs.declared.dates.Date.{Date}
+use Rattle.lrp_calendar.specs.declared.dates.Date.{Date}
 use Rattle.lrp_civil.specs.declared.values.Pace.{Pace}
 use Rattle.lrp_civil.specs.declared.values.CivilValue.TheVariants.{Every}
-use Rattle.lrp_civil.specs.Dates.{is_date}
-use Rattle.lrp_civil.specs.Moments.{clock_bytes, date_bytes, is_time_of_day}
+use Rattle.lrp_calendar.specs.Dates.{is_date}
+use Rattle.lrp_calendar.specs.Moments.{clock_bytes, date_bytes, is_time_of_day}
 use Rattle.lrp_civil.specs.CivilValues.{is_pace, pace_bytes, spelled}
-use Rattle.lrp_civil.specs.Parts.{BeginsAs, BeginsWithNone, HasNoLast, IsReadLast}
-use Rattle.lrp_civil.specs.PlainText.{IsSpelledAt, date_in, time_in}
-use Rattle.lrp_civil.proofs.Numbers.{date_in_is, time_in_is}
+use Rattle.lrp_calendar.specs.Parts.{BeginsAs, BeginsWithNone, HasNoLast, IsReadLast}
+use Rattle.lrp_civil.specs.PlainText.{IsSpelledAt}
+use Rattle.lrp_calendar.specs.Minutes.{date_in, time_in}
+use Rattle.lrp_calendar.proofs.Numbers.{date_in_is, time_in_is}
 use Rattle.lrp_civil.proofs.PaceLemmas.{pace_unique}
 use Rattle.lrp_civil.proofs.ValueLemmas.{first_of}
 

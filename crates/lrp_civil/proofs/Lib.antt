@@ -1,12 +1,4 @@
-pub mod Counts
-pub mod DateLemmas
-pub mod MomentLemmas
 pub mod Meanings
-pub mod PartLemmas
-pub mod PrintLemmas
-pub mod ReadLemmas
-pub mod Numbers
-pub mod MinuteLemmas
 pub mod Weekdays
 pub mod ValueLemmas
 pub mod PaceLemmas

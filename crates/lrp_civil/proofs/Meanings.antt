@@ -10,14 +10,14 @@ use Rattle.lrp_theory.specs.Divides.{Divides, IsPointMember}
 use Rattle.lrp_theory.proofs.Modulo.{Divides-+, Divides--, Divides-is, Divides-self, Divides-times, rem_divides}
 use Rattle.std.proofs.lemmas.Int.{ints}
 use Rattle.std.proofs.Math.IntN.{*ℤ_comm}
-use Rattle.lrp_civil.specs.Dates.{is_date, day_number}
-use Rattle.lrp_civil.specs.Moments.{day_of, minute_at, time_of_day}
+use Rattle.lrp_calendar.specs.Dates.{is_date, day_number}
+use Rattle.lrp_calendar.specs.Moments.{day_of, minute_at, time_of_day}
 use Rattle.lrp_civil.specs.declared.values.CivilValue.{CivilValue}
 use Rattle.lrp_civil.specs.declared.values.CivilValue.TheVariants.{Daily, Weekly, On, Every}
 use Rattle.lrp_civil.specs.CivilValues.{is_civil, MeansMinute, FallsAt, pace_minutes}
 use Rattle.lrp_civil.proofs.EveryLemmas.{tests_of}
 use Rattle.lrp_civil.proofs.PaceLemmas.{pace_size}
-use Rattle.lrp_civil.proofs.MomentLemmas.{minute_is, day_is, time_is}
+use Rattle.lrp_calendar.proofs.MomentLemmas.{minute_is, day_is, time_is}
 
 -- ---- each day
 

@@ -20,7 +20,7 @@ use Rattle.lrp_civil.specs.declared.values.Pace.{Pace}
 use Rattle.lrp_civil.specs.declared.values.Unit.{Unit as UnitOf}
 use Rattle.lrp_civil.specs.declared.values.Unit.TheVariants.{Minutes, Hours, Days, Weeks}
 use Rattle.lrp_civil.specs.CivilValues.{is_pace, pace_bytes, pace_minutes, unit_minutes, unit_name}
-use Rattle.lrp_civil.specs.Parts.{BeginsAs, BeginsWithNone, IsNumberAt, goes_on}
+use Rattle.lrp_calendar.specs.Parts.{BeginsAs, BeginsWithNone, IsNumberAt, goes_on}
 use Rattle.lrp_civil.proofs.ValueLemmas.{first_of}
 
 -- ---- digits

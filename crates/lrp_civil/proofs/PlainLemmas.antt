@@ -9,13 +9,13 @@ use Rattle.lrp_text.proofs.Scans.{ends_some, scan_taken_in}
 use Rattle.lrp_civil.specs.declared.values.CivilValue.{CivilValue}
 use Rattle.lrp_civil.specs.declared.values.CivilValue.TheVariants.{Daily, Weekly, On, Every}
 use Rattle.lrp_civil.specs.declared.values.CivilText.{CivilText}
-use Rattle.lrp_civil.specs.Moments.{clock_bytes, date_bytes}
+use Rattle.lrp_calendar.specs.Moments.{clock_bytes, date_bytes}
 use Rattle.lrp_civil.specs.CivilValues.{pace_bytes, padded_bytes, spelled}
 use Rattle.lrp_civil.specs.Tokens.{IsAfterToken, after_blanks, is_last}
 use Rattle.lrp_civil.specs.PlainText.{IsFirstValue, IsSpelledAt, IsSpelledIn, blanks, plain_as, plain_bytes_of, plain_from, plain_value, signs_of, value_in}
 use Rattle.std.specs.Str.{IsUtf8, is_utf8}
 use Rattle.std.proofs.lemmas.Str.{IsUtf8-from_is_utf8, is_utf8-from_IsUtf8}
-use Rattle.lrp_civil.proofs.Counts.{either}
+use Rattle.lrp_calendar.proofs.Counts.{either}
 use Rattle.lrp_civil.proofs.Spelled.{value_is, value_spelled}
 use Rattle.lrp_civil.proofs.ValueLemmas.{as_civil}
 

@@ -10,17 +10,17 @@ use Rattle.std.proofs.lemmas.List.{length-append, length-replicate}
 use Rattle.jiff_core.proofs.SignedLemmas.{signed_arith}
 use Rattle.lrp_model.specs.Printed.{point_bytes}
 use Rattle.lrp_text.proofs.Scans.{OneLine}
-use Rattle.lrp_civil.specs.declared.dates.Date.{Date}
+use Rattle.lrp_calendar.specs.declared.dates.Date.{Date}
 use Rattle.lrp_civil.specs.declared.values.CivilValue.{CivilValue}
 use Rattle.lrp_civil.specs.declared.values.CivilValue.TheVariants.{Daily, Weekly, On, Every}
 use Rattle.lrp_civil.specs.declared.values.Pace.{Pace}
 use Rattle.lrp_civil.specs.declared.values.Unit.{Unit as UnitOf}
 use Rattle.lrp_civil.specs.declared.values.Unit.TheVariants.{Minutes, Hours, Days, Weeks}
-use Rattle.lrp_civil.specs.Dates.{is_date, day_number}
-use Rattle.lrp_civil.specs.Moments.{clock_bytes, date_bytes, minute_at, two_digits, is_time_of_day}
+use Rattle.lrp_calendar.specs.Dates.{is_date, day_number}
+use Rattle.lrp_calendar.specs.Moments.{clock_bytes, date_bytes, minute_at, two_digits, is_time_of_day}
 use Rattle.lrp_civil.specs.CivilValues.{day_name, is_civil, is_pace, is_weekday, pace_bytes, pace_minutes, padded_bytes, plain_bytes, spelled, unit_minutes, unit_name}
-use Rattle.lrp_civil.proofs.DateLemmas.{real_day}
-use Rattle.lrp_civil.proofs.MomentLemmas.{minute_size}
+use Rattle.lrp_calendar.proofs.DateLemmas.{real_day}
+use Rattle.lrp_calendar.proofs.MomentLemmas.{minute_size}
 use Rattle.lrp_theory.proofs.Modulo.{rem_high, rem_low}
 use Rattle.lrp_civil.proofs.EveryLemmas.{tests_of}
 use Rattle.lrp_civil.proofs.PaceLemmas.{pace_size}

@@ -8,7 +8,7 @@ use Rattle.std.proofs.lemmas.Bool.Decides.{nat_tests}
 use Rattle.std.proofs.lemmas.Slice.Eq.{bytes_eq-Decides}
 use Rattle.std.proofs.lemmas.List.{take-append-drop}
 use Rattle.std.proofs.Math.Seq.{take-append_seam, drop-append_seam}
-use Rattle.lrp_civil.specs.declared.dates.Date.{Date}
+use Rattle.lrp_calendar.specs.declared.dates.Date.{Date}
 use Rattle.lrp_civil.specs.declared.values.CivilValue.{CivilValue}
 use Rattle.lrp_civil.specs.declared.values.CivilValue.TheVariants.{Daily, Weekly, On, Every}
 use Rattle.lrp_civil.specs.declared.values.CivilText.{CivilText}
@@ -19,13 +19,14 @@ use Rattle.lrp_civil.specs.declared.values.Unit.TheVariants.{Minutes, Hours, Day
 use Rattle.lrp_model.specs.Lexing.{run}
 use Rattle.std.specs.Char.{is_ascii_digit}
 use Rattle.std.specs.Str.Parse.{digits_value}
-use Rattle.lrp_civil.specs.Dates.{is_date}
-use Rattle.lrp_civil.specs.Moments.{clock_bytes, is_time_of_day}
+use Rattle.lrp_calendar.specs.Dates.{is_date}
+use Rattle.lrp_calendar.specs.Moments.{clock_bytes, is_time_of_day}
 use Rattle.lrp_civil.specs.CivilValues.{day_name, is_civil, is_value_in, is_weekday, spelled, unit_name}
-use Rattle.lrp_civil.specs.Parts.{goes_on}
-use Rattle.lrp_civil.specs.PlainText.{IsSpelledAt, IsSpelledIn, begins, date_in, paces, possible, possible_in, time_in, value_in}
-use Rattle.lrp_civil.proofs.Counts.{either}
-use Rattle.lrp_civil.proofs.Numbers.{date_in_is, time_in_is}
+use Rattle.lrp_calendar.specs.Parts.{goes_on}
+use Rattle.lrp_civil.specs.PlainText.{IsSpelledAt, IsSpelledIn, begins, paces, possible, possible_in, value_in}
+use Rattle.lrp_calendar.specs.Minutes.{date_in, time_in}
+use Rattle.lrp_calendar.proofs.Counts.{either}
+use Rattle.lrp_calendar.proofs.Numbers.{date_in_is, time_in_is}
 use Rattle.lrp_civil.proofs.EveryLemmas.{every_rest, tail, tail_date, tail_time, tests_of}
 use Rattle.lrp_civil.proofs.PaceLemmas.{number_run, number_value, pace_number, pace_size, pace_unique}
 use Rattle.lrp_civil.proofs.ValueLemmas.{as_civil, as_paced, first_of, first_of_value, letters_differ, read_as, week_whole}

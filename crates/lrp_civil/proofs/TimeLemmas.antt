@@ -5,7 +5,7 @@ use Rattle.std.specs.Fmt.{signed_decimal}
 use Rattle.std.proofs.lemmas.Int.{ints}
 use Rattle.jiff_core.specs.Calendar.{days_from_civil, day_count, days_of_years, days_of_months}
 use Rattle.lrp_civil.specs.Dated.{dated_bytes, is_civil_minute}
-use Rattle.lrp_civil.specs.Moments.{IsCivilMinute, minute_at, moment_bytes}
+use Rattle.lrp_calendar.specs.Moments.{IsCivilMinute, minute_at, moment_bytes}
 
 pub dated_is : (x : ℤ) (civil : Bool) → is_civil_minute x ≡ civil → (if civil then moment_bytes x else signed_decimal x) ≡ dated_bytes x
 dated_is x civil e = ap (λ b. if b then moment_bytes x else signed_decimal x) (sym e)

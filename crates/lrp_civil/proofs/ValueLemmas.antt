@@ -5,15 +5,15 @@ use Rattle.std.proofs.lemmas.Bool.{eq-eqb, false≢true}
 use Rattle.std.proofs.lemmas.Slice.Eq.{bytes_eq-Decides}
 use Rattle.std.proofs.lemmas.List.{take-append-drop}
 use Rattle.std.proofs.Math.Seq.{take-append_seam}
-use Rattle.lrp_civil.specs.declared.dates.Date.{Date}
+use Rattle.lrp_calendar.specs.declared.dates.Date.{Date}
 use Rattle.lrp_civil.specs.declared.values.CivilValue.{CivilValue}
 use Rattle.lrp_civil.specs.declared.values.CivilValue.TheVariants.{Daily, Weekly, On, Every}
 use Rattle.lrp_civil.specs.declared.values.CivilText.{CivilText}
 use Rattle.lrp_civil.specs.declared.values.Pace.{Pace}
-use Rattle.lrp_civil.specs.Dates.{is_date}
-use Rattle.lrp_civil.specs.Moments.{clock_bytes, date_bytes, is_time_of_day}
+use Rattle.lrp_calendar.specs.Dates.{is_date}
+use Rattle.lrp_calendar.specs.Moments.{clock_bytes, date_bytes, is_time_of_day}
 use Rattle.lrp_civil.specs.CivilValues.{day_name, has_paces, is_civil, is_value_in, is_weekday, spelled}
-use Rattle.lrp_civil.specs.Parts.{BeginsWithNone, HasNoLast, BeginsAs, IsReadLast}
+use Rattle.lrp_calendar.specs.Parts.{BeginsWithNone, HasNoLast, BeginsAs, IsReadLast}
 use Rattle.lrp_civil.specs.PlainText.{IsSpelledAt, IsSpelledIn}
 use Rattle.lrp_civil.proofs.Weekdays.{name_unique}
 

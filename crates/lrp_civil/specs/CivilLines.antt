@@ -2,7 +2,7 @@
 use Rattle.std.specs.Prelude.{ℕ, ℤ, Bool, true, false, List, ◌++◌, codes}
 use Rattle.lrp_model.specs.Rows.{Tuple}
 use Rattle.lrp_answer_text.specs.Lines.{tuple_line}
-use Rattle.lrp_civil.specs.Moments.{moment_bytes}
+use Rattle.lrp_calendar.specs.Moments.{moment_bytes}
 
 -- a time as its date and its time of day, in quotes where the flag is set
 abbrev pub civil_time_bytes : Bool → ℤ → List ℕ

@@ -15,8 +15,8 @@ use Rattle.lrp_civil.specs.declared.values.Pace.{Pace}
 use Rattle.std.specs.Fmt.{decimal}
 use Rattle.std.specs.Int.{int_rem_euclid}
 use Rattle.lrp_model.specs.Limits.{greatest_number}
-use Rattle.lrp_civil.specs.Dates.{is_date, day_number}
-use Rattle.lrp_civil.specs.Moments.{day_of, time_of_day, minute_at, clock_bytes, date_bytes, is_time_of_day}
+use Rattle.lrp_calendar.specs.Dates.{is_date, day_number}
+use Rattle.lrp_calendar.specs.Moments.{day_of, time_of_day, minute_at, clock_bytes, date_bytes, is_time_of_day}
 
 -- the number of a weekday, from 0 for Monday
 abbrev pub is_weekday : ℕ → Bool

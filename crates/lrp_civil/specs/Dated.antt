@@ -3,7 +3,7 @@ use Rattle.std.specs.Prelude.{ℕ, ℤ, int_le, Bool, false, ◌&&◌, List, if�
 use Rattle.std.specs.Fmt.{signed_decimal}
 use Rattle.lrp_model.specs.Rows.{Tuple}
 use Rattle.lrp_answer_text.specs.Lines.{tuple_line}
-use Rattle.lrp_civil.specs.Moments.{minute_at, moment_bytes}
+use Rattle.lrp_calendar.specs.Moments.{minute_at, moment_bytes}
 
 -- whether a minute is one of 0001-01-01 00:00 to 9999-12-31 23:59
 abbrev pub is_civil_minute : ℤ → Bool

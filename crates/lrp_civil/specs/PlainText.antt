@@ -7,7 +7,8 @@ use Rattle.lrp_model.specs.Lexing.{Scanned, after, run, scan_in, start}
 use Rattle.std.specs.Char.{is_ascii_digit}
 use Rattle.lrp_civil.specs.declared.values.Pace.{Pace}
 use Rattle.lrp_civil.specs.declared.values.Unit.{Unit as UnitOf}
-use Rattle.lrp_civil.specs.declared.dates.Date.{Date}
+use Rattle.lrp_calendar.specs.declared.dates.Date.{Date}
+use Rattle.lrp_calendar.specs.Minutes.{date_in, time_in}
 use Rattle.lrp_civil.specs.declared.plain.Found.{Found}
 use Rattle.lrp_civil.specs.declared.values.CivilValue.{CivilValue}
 use Rattle.lrp_civil.specs.declared.values.CivilValue.TheVariants.{Daily, Weekly, On, Every}
@@ -15,21 +16,10 @@ use Rattle.lrp_civil.specs.declared.values.CivilText.{CivilText}
 use Rattle.lrp_civil.specs.declared.values.CivilText.TheVariants.{Database, WideDatabase, WideQuery}
 use Rattle.lrp_civil.specs.declared.values.Unit.TheVariants.{Minutes, Hours, Days, Weeks}
 use Rattle.lrp_civil.specs.CivilValues.{has_paces, is_civil, is_value_in, spelled, padded_bytes}
-use Rattle.lrp_civil.specs.Parts.{IsReadLast, goes_on}
+use Rattle.lrp_calendar.specs.Parts.{IsReadLast, goes_on}
 use Rattle.lrp_civil.specs.Tokens.{after_blanks, is_last}
 
 -- ---- the civil value that stands at the front of some bytes
-
--- the number in the first n of the bytes
-abbrev pub front_number : ℕ → List ℕ → ℕ
-front_number n bytes = digits_value 10 (take n bytes)
-
--- the time of day in HH:MM, and the date in YYYY-MM-DD
-abbrev pub time_in : List ℕ → ℕ
-time_in bytes = 60 * front_number 2 bytes + front_number 2 (drop 3 bytes)
-
-abbrev pub date_in : List ℕ → Date
-date_in bytes = record { year = front_number 4 bytes; month = front_number 2 (drop 5 bytes); day = front_number 2 (drop 8 bytes) }
 
 -- the bytes begin with the civil value as it is spelled, and no number goes on after it
 abbrev pub begins : List ℕ → CivilValue → Bool

@@ -9,12 +9,12 @@ ghost use Rattle.lrp_store.specs.Least.{StandsFor};
 ghost use Rattle.lrp_answers.specs.Spots.{spot_tuple};
 ghost use Rattle.lrp_answer_text.specs.Lines.{IsFormOf, is_json};
 ghost use Rattle.lrp_civil.specs.CivilLines.{civil_line, civil_time_bytes};
-ghost use Rattle.lrp_civil.specs.Dates.{IsDateOf, date_of};
-ghost use Rattle.lrp_civil.specs.Moments.{IsCivilMinute, day_of, moment_bytes};
+ghost use Rattle.lrp_calendar.specs.Dates.{IsDateOf, date_of};
+ghost use Rattle.lrp_calendar.specs.Moments.{IsCivilMinute, day_of, moment_bytes};
 
-use crate::moments::write_moment;
 use lrp_answer_text::{Form, write_line_in};
 use lrp_answers::Answer;
+use lrp_calendar::write_moment;
 use lrp_io::{Failed, Sink};
 use lrp_model::Spot;
 use lrp_print::{Notation, write_bytes};

@@ -7,10 +7,10 @@ ghost use Rattle.lrp_civil.specs.CivilValues.{FallsAt, MeansMinute, is_civil, pa
 ghost use Rattle.lrp_civil.specs.PlainText.{FindsFirst, HasSamePlaces, IsSpelledIn, plain_bytes_of, plain_as, value_in};
 ghost use Rattle.lrp_civil.specs.declared.values.CivilValue.{CivilValue as CivilValueOf};
 
-use crate::moments::minute_at;
 use crate::tokens::{after_blanks, after_token};
 use crate::values::{CivilText, CivilValue};
 use itoa::Buffer;
+use lrp_calendar::minute_at;
 use lrp_model::{List, Memory};
 use std::alloc::Global;
 use std::str::from_utf8;
@@ -18,7 +18,7 @@ use std::str::from_utf8;
 /// A text of some kind with the plain value of each civil value in its place, and blanks after it, so that each place stays.
 ///
 /// A civil value begins where a name does and ends where a token does, so one in a comment, in a quoted text or after a
-/// byte that begins no token stays. Bytes that are no UTF-8 are given back as they are.
+/// byte that begins no token stays. Bytes that aren't UTF-8 are given back as they are.
 pub fn plain_text_of(alloc: Global, bytes: &[u8], kind: CivilText) -> Result<List<u8>, Memory>
     ensures text { IfOk result (λ text. text ≡ plain_as kind bytes.now) }
     ensures places { HasSamePlaces bytes.now (plain_as kind bytes.now) }

@@ -5,12 +5,12 @@ ghost use Rattle.lrp_io.specs.Pieces.{IsWritten};
 ghost use Rattle.lrp_answers.specs.Spots.{spot_tuple, IsOfTexts};
 ghost use Rattle.lrp_civil.specs.CivilLines.{civil_time_bytes};
 ghost use Rattle.lrp_civil.specs.Dated.{dated_bytes, dated_line, is_civil_minute as is_civil_minute_by};
-ghost use Rattle.lrp_civil.specs.Moments.{IsCivilMinute};
+ghost use Rattle.lrp_calendar.specs.Moments.{IsCivilMinute};
 
 use crate::lines::Moments;
-use crate::moments::write_moment;
 use lrp_answer_text::{Form, write_line_in};
 use lrp_answers::Answer;
+use lrp_calendar::write_moment;
 use lrp_io::{Failed, Sink};
 use lrp_model::Spot;
 use lrp_print::{Notation, write_integer};

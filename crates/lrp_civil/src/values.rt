@@ -5,18 +5,18 @@ ghost use Rattle.std.specs.List.{list_all};
 ghost use Rattle.std.specs.Str.Parse.{digits_value};
 ghost use Rattle.lrp_civil.specs.declared.values.Unit.{Unit as UnitOf};
 ghost use Rattle.lrp_civil.specs.CivilValues.{is_pace, pace_bytes, unit_name};
-ghost use Rattle.lrp_civil.specs.Moments.{clock_bytes, is_time_of_day};
-ghost use Rattle.lrp_civil.specs.Parts.{Finds, FindsAfter, FindsLast, FindsNumber};
+ghost use Rattle.lrp_calendar.specs.Moments.{clock_bytes, is_time_of_day};
+ghost use Rattle.lrp_calendar.specs.Parts.{Finds, FindsAfter, FindsLast, FindsNumber};
 
-use crate::dates::Date;
-use crate::parts::{after_byte, date_at, time_at, weekday_at};
+use crate::days::weekday_at;
 use crate::tokens::after_digits;
 use itoa::Buffer;
+use lrp_calendar::{Date, after_byte, date_at, time_at};
 use lrp_model::LIMIT;
 use std::str::from_utf8;
 
-/// A civil value: each day, each week on a day (from 0 for Monday), or once, at a time in minutes from midnight; or so many
-/// units apart from each other, one of them at a date and a time.
+/// A civil value: each day, each week on a day (from 0 for Monday), or once, at a time in minutes from midnight; or a pace
+/// apart from each other, one of them at a date and a time.
 #[derive(Clone, Copy, PartialEq, Eq)]
 pub enum CivilValue {
     Daily { time: u16 },
@@ -34,7 +34,7 @@ pub enum Unit {
     Weeks,
 }
 
-/// So many units, one or more, in minutes at most 2^62.
+/// A number of units, one or more, in minutes at most 2^62.
 #[derive(Clone, Copy, PartialEq, Eq)]
 pub struct Pace {
     pub number: u64,

@@ -5,8 +5,8 @@ use Rattle.std.specs.Prelude.{ℤ, pos, neg_ℤ, ◌≤ℤ◌, IfSome}
 use Rattle.jiff_core.proofs.CalendarLemmas.{days_from_civil-day_count}
 use Rattle.jiff_core.proofs.DateLemmas.{days_from_civil-max}
 use Rattle.jiff_core.proofs.SignedLemmas.{signed_arith}
-use Rattle.lrp_civil.specs.Dates.{day_number}
-use Rattle.lrp_civil.specs.Moments.{IsCivilMinute}
+use Rattle.lrp_calendar.specs.Dates.{day_number}
+use Rattle.lrp_calendar.specs.Moments.{IsCivilMinute}
 use Rattle.lrp_words.specs.Ranges.{IsEnd}
 
 -- the day numbers of the first date and of the last

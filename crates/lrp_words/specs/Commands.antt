@@ -6,7 +6,7 @@ use Rattle.std.specs.Str.{bytes_eq}
 use Rattle.lrp_model.specs.Texts.{Text}
 use Rattle.lrp_model.specs.declared.plans.Planning.{Planning}
 use Rattle.lrp_model.specs.declared.plans.Planning.TheVariants.{Written, Guarded}
-use Rattle.lrp_civil.specs.Minutes.{minute_by}
+use Rattle.lrp_calendar.specs.Minutes.{minute_by}
 use Rattle.lrp_model.specs.Lexing.{tokens}
 use Rattle.lrp_model.specs.Tokens.{Tokens}
 use Rattle.lrp_text.specs.Taking.{is_token_named}

@@ -1,7 +1,7 @@
 -- The numbers of tasks, within their ranges.
 use Rattle.std.specs.Prelude.{◌≤◌, ◌≤ℤ◌, ℤ, pos, neg_ℤ, Bool, true, false}
 use Rattle.lrp_model.specs.Names.{IsName}
-use Rattle.lrp_civil.specs.Moments.{IsCivilMinute}
+use Rattle.lrp_calendar.specs.Moments.{IsCivilMinute}
 use Rattle.lrp_words.specs.Commands.{Task}
 use Rattle.lrp_words.specs.Commands.Task.{ask, list, count, ranges, sample}
 use Rattle.lrp_model.specs.Limits.{greatest_number}

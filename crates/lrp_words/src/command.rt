@@ -3,9 +3,8 @@ use lrp_model::Planning;
 use thiserror::Error;
 
 /// What each question of files has: the names of the files of its database and of its query, which are not empty, how the
-/// query is planned, whether it may have temporal operators or is
-/// in the wide language, and whether times are minutes since 1970-01-01 00:00 and
-/// databases may have civil values.
+/// query is planned, whether it may have temporal operators or is in the wide language, and whether times are minutes since
+/// 1970-01-01 00:00 and databases may have civil values.
 #[derive(Clone, Copy)]
 pub struct QuestionFiles<'a> {
     pub database: &'a str,
@@ -26,12 +25,13 @@ pub struct LintFiles<'a> {
     pub civil: bool,
 }
 
-/// A command with its values, whose texts are borrowed from the words.
+/// A command with its values, whose texts are borrowed from the words. Contracts see its task, with texts as bytes.
 ///
 /// `db`, `query` and `edits` are names of files, and not empty. `from` and `to` have a magnitude of at most 2^62, and
 /// are minutes of the years 1 to 9999 where times are civil ones. `after` is any text; its form is judged later. With `canon`
-/// the canonical answer is told, by `name` the answer's relation is called, which is a name of the grammar, with `dates`, which stands only where times are civil ones, they are shown as dates, and with `auto` a query that isn't
-/// in kept form is watched too.
+/// the canonical answer is told, and by `name`, a name of the grammar, the answer's relation is called. With `dates`, which
+/// stands only where times are civil ones, times are shown as dates. With `auto` a query that isn't in kept form is watched
+/// too.
 #[derive(Clone, Copy)]
 pub enum Command<'a> {
     Ask {

@@ -9,7 +9,7 @@ use crate::command::{Command, LintFiles, QuestionFiles, Usage};
 use crate::entries::{are_given, value};
 use crate::keys::Key;
 use crate::numbers::{integer, within};
-use lrp_civil::minute_of;
+use lrp_calendar::minute_of;
 use lrp_model::Planning;
 use lrp_text::TokenCursor;
 

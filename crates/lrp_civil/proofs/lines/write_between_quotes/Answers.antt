@@ -1,7 +1,7 @@
 use Rattle.std.proofs.Common.{◌++◌, codes}
 use Rattle.std.proofs.lemmas.Result.{err_from_is_err_and}
 use Rattle.lrp_io.proofs.PieceLemmas.{written_behind, written_err, front_before, front_behind}
-use Rattle.lrp_civil.specs.Moments.{moment_bytes}
+use Rattle.lrp_calendar.specs.Moments.{moment_bytes}
 use Rattle.lrp_civil.proofs.lines.write_between_quotes.Goals as goal
 
 pub returns-in_err-write_moment-clause-text : goal.returns-in_err-write_moment-clause-text

@@ -4,8 +4,8 @@ use Rattle.lrp_answers.specs.Spots.{spot_tuple}
 use Rattle.lrp_answers.proofs.HeadOrder.{spot_tuple_is}
 use Rattle.lrp_answer_text.specs.Lines.{is_json, tuple_line}
 use Rattle.lrp_civil.specs.CivilLines.{civil_time_bytes}
-use Rattle.lrp_civil.proofs.DateLemmas.{date_is}
-use Rattle.lrp_civil.proofs.MomentLemmas.{civil_day}
+use Rattle.lrp_calendar.proofs.DateLemmas.{date_is}
+use Rattle.lrp_calendar.proofs.MomentLemmas.{civil_day}
 use Rattle.lrp_civil.proofs.lines.write_civil_line.Goals as goal
 
 pub returns-clause-text : goal.returns-clause-text

@@ -1,6 +1,6 @@
 use Rattle.std.proofs.Common.{rules, ◌≡◌, None, arith}
 use Rattle.lrp_civil.specs.PlainText.{value_in}
-use Rattle.lrp_civil.proofs.PartLemmas.{none_is}
+use Rattle.lrp_calendar.proofs.PartLemmas.{none_is}
 use Rattle.lrp_civil.proofs.PlainLemmas.{begins_way, after_signs, last_signs, way_on, way_end, token_left, value_here}
 use Rattle.lrp_civil.proofs.Spelled.{value_none}
 use Rattle.lrp_civil.proofs.plain.first_value.Goals as goal

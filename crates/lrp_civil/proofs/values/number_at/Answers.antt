@@ -2,7 +2,7 @@ use Rattle.std.proofs.Common.{◌-◌, ◌∙◌, ap, sym, get_or, take, length,
 use Rattle.std.specs.Char.{is_ascii_digit}
 use Rattle.std.specs.List.{list_all}
 use Rattle.lrp_text.proofs.Runs.{behind_shorter}
-use Rattle.lrp_civil.proofs.PartLemmas.{none_is}
+use Rattle.lrp_calendar.proofs.PartLemmas.{none_is}
 use Rattle.lrp_civil.proofs.PaceLemmas.{digits_are, no_digits, no_large, no_zero, number_found, run_digits}
 use Rattle.lrp_civil.proofs.values.number_at.Goals as goal
 

@@ -1,4 +1,4 @@
-use Rattle.lrp_civil.proofs.PartLemmas.{none_is}
+use Rattle.lrp_calendar.proofs.PartLemmas.{none_is}
 use Rattle.lrp_civil.proofs.PaceLemmas.{no_blank, no_number, no_pace, no_unit, pace_found}
 use Rattle.lrp_civil.proofs.values.pace_at.Goals as goal
 

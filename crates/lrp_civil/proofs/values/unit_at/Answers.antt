@@ -1,6 +1,6 @@
 use Rattle.std.proofs.Common.{◌++◌, ◌∙◌, ap, sym, refl}
 use Rattle.lrp_civil.specs.CivilValues.{unit_name}
-use Rattle.lrp_civil.proofs.PartLemmas.{none_is}
+use Rattle.lrp_calendar.proofs.PartLemmas.{none_is}
 use Rattle.lrp_civil.proofs.values.unit_at.Goals as goal
 
 pub returns-in_err-unit : goal.returns-in_err-unit

@@ -1,4 +1,4 @@
-use Rattle.lrp_civil.proofs.PartLemmas.{none_is}
+use Rattle.lrp_calendar.proofs.PartLemmas.{none_is}
 use Rattle.lrp_civil.proofs.ValueLemmas.{no_daily_time}
 use Rattle.lrp_civil.proofs.values.CivilValue.daily.Goals as goal
 

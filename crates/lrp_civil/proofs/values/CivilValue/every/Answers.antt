@@ -1,5 +1,5 @@
 use Rattle.lrp_civil.proofs.EveryLemmas.{every_found, no_every_blank, no_every_date, no_every_from, no_every_pace, no_every_time}
-use Rattle.lrp_civil.proofs.PartLemmas.{none_is}
+use Rattle.lrp_calendar.proofs.PartLemmas.{none_is}
 use Rattle.lrp_civil.proofs.values.CivilValue.every.Goals as goal
 
 pub returns-in_err-pace : goal.returns-in_err-pace

@@ -1,4 +1,4 @@
-use Rattle.lrp_civil.proofs.PartLemmas.{none_is}
+use Rattle.lrp_calendar.proofs.PartLemmas.{none_is}
 use Rattle.lrp_civil.proofs.ValueLemmas.{no_date, no_on_time}
 use Rattle.lrp_civil.proofs.values.CivilValue.on.Goals as goal
 

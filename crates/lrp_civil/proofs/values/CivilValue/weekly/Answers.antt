@@ -1,4 +1,4 @@
-use Rattle.lrp_civil.proofs.PartLemmas.{none_is}
+use Rattle.lrp_calendar.proofs.PartLemmas.{none_is}
 use Rattle.lrp_civil.proofs.ValueLemmas.{no_day, no_weekly_time}
 use Rattle.lrp_civil.proofs.values.CivilValue.weekly.Goals as goal
 

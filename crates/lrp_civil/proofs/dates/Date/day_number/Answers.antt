@@ -1,9 +1,0 @@
-use Rattle.std.proofs.Common.{rules, ◌≡◌, sym, subst, to_z, of_z, w64}
-use Rattle.lrp_civil.specs.Dates.{IsCivilDay, day_number}
-use Rattle.lrp_civil.proofs.DateLemmas.{real_day}
-use Rattle.lrp_civil.proofs.dates.Date.day_number.Goals as goal
-
-pub returns-clause-range : goal.returns-clause-range
-returns-clause-range c =
-    let is : to_z w64 (of_z w64 c.from.result) ≡ day_number c.args.self = search rules in
-    subst IsCivilDay (sym is) (real_day c.args.self c.requires)
