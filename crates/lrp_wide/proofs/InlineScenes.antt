@@ -2,48 +2,58 @@
 use Rattle.std.proofs.Common.{◌≡◌, ℕ, zero, suc, ◌+◌, ◌*◌, ◌<◌, ◌≤◌, Option, Some, None, List, [], ◌∷◌, map, length, take, get_or, slice_get, refl, ap, ap₂, sym, subst, ◌∙◌, arith}
 use Rattle.std.specs.List.{AllByRecursion}
 use Rattle.std.proofs.lemmas.List.{length-map}
-use Rattle.lrp_model.specs.DatabaseMeaning.{column_of}
 use Rattle.lrp_model.specs.RawQueries.{HasNoOperator, RawDefinitionView, RawFileView, RawForm, raw_form_of}
+use Rattle.lrp_model.specs.Rows.{columns_in, relation_named}
+use Rattle.lrp_model.specs.Texts.{Identifier}
 use Rattle.lrp_model.specs.declared.raw.RawDefinition.{RawDefinition}
+use Rattle.lrp_model.specs.declared.raw.RawFormula.{RawFormula}
+use Rattle.lrp_model.specs.declared.raw.RawKind.{Atom}
+use Rattle.lrp_model.specs.declared.raw.RawTerm.{RawTerm}
 use Rattle.lrp_model.specs.declared.relations.Column.{Column}
 use Rattle.lrp_model.specs.declared.relations.Relation.{Relation}
-use Rattle.lrp_wide.specs.Inlining.{Counted, Known, Passed, UseSetting, counted_from, inlined, known_of, known_with, passed, plain_definition, some_each, star_total, use_form}
-use Rattle.lrp_wide.specs.Inside.{AreArguments, AreBeside, IsWholeIfAny, AreWritten, HasPlainBody, IsAround, IsNamedIn, IsUsed, IsWholeWritten, known_here}
+use Rattle.lrp_model.specs.declared.tokens.Place.{Place}
+use Rattle.lrp_wide.specs.Inlining.{Counted, Known, Passed, UseSetting, compared_form, counted_from, inlined, inlined_atom, known_of, known_with, meant_by, passed, passed_name, some_each, star_total, use_form}
+use Rattle.lrp_wide.specs.Inside.{AreArguments, AreBeside, AreWritten, HasPlainBody, IsAround, IsUsedBody, IsInsideBody, IsMeant, IsNamedIn, IsNextBody, IsPlainUse, IsUsed, body_setting, inlined_here, known_by, known_here, met_form}
 use Rattle.lrp_wide.specs.Limits.{depth_of}
-use Rattle.lrp_wide.specs.Settings.{and_behind, name_passed, passed_of, setting_of}
+use Rattle.lrp_wide.specs.Settings.{and_behind, name_passed, setting_of}
 use Rattle.lrp_wide.specs.declared.atoms.Met.{Met}
+use Rattle.lrp_wide.specs.declared.inlining.UsedBody.{UsedBody}
 use Rattle.lrp_wide.specs.declared.inlining.Named.{Named}
 use Rattle.lrp_wide.specs.declared.inlining.Scene.{Scene}
 use Rattle.lrp_wide.specs.declared.inlining.Written.{Written}
 use Rattle.lrp_wide.specs.declared.passing.Arguments.{Arguments}
 use Rattle.lrp_wide.specs.declared.uses.Passed.{Passed as PassedOf}
+use Rattle.lrp_wide.proofs.InlineAtoms.{atom-used}
 use Rattle.lrp_wide.proofs.InlineKnown.{known-at, known-length}
 use Rattle.lrp_wide.proofs.InlineMeasures.{earlier-less, work_before, work_of}
+use Rattle.lrp_wide.proofs.InlineSteps.{atom_step}
 use Rattle.lrp_wide.proofs.InlineUses.{use-setting, used-body, used-columns, used-form, used-numbers}
 use Rattle.lrp_wide.proofs.NumberKnown.{at_below}
 
 -- ---- the definition that is named
 
-pub whole_here : (s : Scene) (d : Named) → IsNamedIn s d → IsWholeIfAny s.written → IsWholeWritten d.written
-whole_here s d h k = subst IsWholeIfAny h.written k
+get_of : {X : Type 0} (xs : List X) (i : ℕ) (x : X) → slice_get xs i ≡ Some x → x ≡ get_or xs i x
+get_of [] i x e = absurd cc
+get_of (y ∷ xs) zero x e = let h : Some y ≡ Some x = e in cc
+get_of (y ∷ xs) (suc i) x e = get_of xs i x e
 
 -- its body is less work
-pub use-less : (s : Scene) (d : Named) (x : RawDefinition) → IsNamedIn s d → x ≡ get_or d.written.plain.now d.number x
-    → work_before s.written d.number + 4 * depth_of (raw_form_of x.body) + 3 < work_before s.written s.setting.before + 1
+pub use-less : (s : Scene) (d : Named) (x : RawDefinition) → IsNamedIn s d → slice_get d.written.plain.now d.number ≡ Some x
+    → work_before s.written d.number + 4 * depth_of (raw_form_of x.body) + 3 < work_before s.written s.setting.before
 use-less s d x h e =
     let own : work_before s.written d.number ≡ work_of (take d.number d.written.plain.now) = ap (λ o. work_before o d.number) h.written in
     let all : work_before s.written s.setting.before ≡ work_of (take s.setting.before d.written.plain.now) = ap (λ o. work_before o s.setting.before) h.written in
-    let less = earlier-less d.written.plain.now d.number s.setting.before x h.before h.there e in
+    let less = earlier-less d.written.plain.now d.number s.setting.before x h.before h.there (get_of d.written.plain.now d.number x e) in
     omega (arith, own, all, less)
 
-plain_of : (xs : List RawDefinition) (i : ℕ) (x : RawDefinition) → AllByRecursion HasPlainBody xs → i < length xs → x ≡ get_or xs i x → HasPlainBody x
-plain_of [] i x h lt e = absurd (omega (arith, lt))
-plain_of (y ∷ xs) zero x h lt e = subst HasPlainBody (sym e) h.0
-plain_of (y ∷ xs) (suc i) x h lt e = plain_of xs i x h.1 (omega (arith, lt)) e
+plain_of : (xs : List RawDefinition) (i : ℕ) (x : RawDefinition) → AllByRecursion HasPlainBody xs → slice_get xs i ≡ Some x → HasPlainBody x
+plain_of [] i x h e = absurd cc
+plain_of (y ∷ xs) zero x h e = let both : Some y ≡ Some x = e in let same : y ≡ x = cc in subst HasPlainBody same h.0
+plain_of (y ∷ xs) (suc i) x h e = plain_of xs i x h.1 e
 
 -- and has no operator
-pub use-plain : (s : Scene) (d : Named) (x : RawDefinition) → IsNamedIn s d → IsWholeIfAny s.written → x ≡ get_or d.written.plain.now d.number x → HasNoOperator (raw_form_of x.body)
-use-plain s d x h k e = plain_of d.written.plain.now d.number x (whole_here s d h k).operators h.there e
+pub use-plain : (s : Scene) (d : Named) (x : RawDefinition) → IsNamedIn s d → slice_get d.written.plain.now d.number ≡ Some x → HasNoOperator (raw_form_of x.body)
+use-plain s d x h e = plain_of d.written.plain.now d.number x h.whole.operators e
 
 -- ---- what a use becomes
 
@@ -52,31 +62,146 @@ below_of [] i x e = absurd cc
 below_of (y ∷ xs) zero x e = omega arith
 below_of (y ∷ xs) (suc i) x e = let h = below_of xs i x e in omega (arith, h)
 
-module _ (s : Scene) (file : RawFileView) (met : Met) (w : Written) (n : ℕ) (is : s.written ≡ Some w) (around : IsAround s file) where
+-- what the body of a use is read by
+plain-setting : (s : UseSetting) (d : Named) (met : Met) (a : Arguments) (k : Known) → AreArguments s met k.columns a
+    → body_setting (record { named = d; number = met.number; place = met.place; first = a.next; passed = a.passed }) k.counted
+    ≡ record { name = passed_name (passed s met.place met.number (suc met.number) k.columns met.terms.now) met.number; place = λ q. met.place; number = counted_from (suc met.number + star_total k.columns met.terms.now) k.counted }
+plain-setting s d met a k own =
+    use-setting met.place met.number a.next a.passed.items (passed s met.place met.number (suc met.number) k.columns met.terms.now) (suc met.number + star_total k.columns met.terms.now) k.counted k.counted own.passed own.next refl
+
+pub none_in : {X : Type 0} (xs : List X) → length xs ≡ 0 → xs ≡ []
+none_in [] e = refl
+none_in (x ∷ xs) e = absurd (omega (arith, e))
+
+-- a use that brings no quantifier becomes what its body becomes
+pub plain-use : (s : UseSetting) (d : Named) (met : Met) (a : Arguments) (cs : List Column) (r : Relation) → slice_get d.written.definitions.now.definitions d.number ≡ Some r → cs ≡ r.columns → AreArguments s met cs a
+    → a.stars.items ≡ [] → a.columns.items ≡ [] → IsPlainUse s met d (record { named = d; number = met.number; place = met.place; first = a.next; passed = a.passed })
+plain-use s d met a cs r er ec args none alone = record {
+  named = refl;
+  form = λ k q eq columns.
+      let both : Some r ≡ Some q = sym er ∙ eq in
+      let same : r ≡ q = cc in
+      let own : AreArguments s met k.columns a = subst (λ l. AreArguments s met l a) (ec ∙ ap (λ (y : Relation). y.columns) same ∙ columns) args in
+      let ps : List Passed = passed s met.place met.number (suc met.number) k.columns met.terms.now in
+      let inner : UseSetting = record { name = passed_name ps met.number; place = λ o. met.place; number = counted_from (suc met.number + star_total k.columns met.terms.now) k.counted } in
+      ap k.form (plain-setting s d met a k own) ∙ ap₂ (λ x y. some_each met.place x (compared_form met.place y ps (k.form inner))) (sym none ∙ own.stars) (sym alone ∙ own.columns);
+}
+
+-- what stands around a use stands around its body
+pub around_inside : (s : Scene) (b : UsedBody) (inner : Scene) (file : RawFileView) → IsInsideBody s b inner → IsAround s file → IsAround inner file
+around_inside s b inner file h around = subst (λ o. AreWritten inner.catalog.now o file) (sym h.written) (subst (λ l. AreWritten l s.written file) (sym h.catalog) around)
+
+-- what a body is read by, as it is kept
+pub body-reads : (b : UsedBody) (given : List PassedOf) (own counted : List Counted) → given ≡ b.passed.items → slice_get b.named.written.numbers.now b.named.number ≡ Some own → slice_get b.named.written.numbers.now b.named.number ≡ Some counted
+    → ◌≡◌ {A = UseSetting} (record { name = name_passed given b.number; place = λ q. b.place; number = counted_from b.first own }) (body_setting b counted)
+body-reads b given own counted eg eo ec =
+    let as_setting : List PassedOf → List Counted → UseSetting = λ l c. record { name = name_passed l b.number; place = λ q. b.place; number = counted_from b.first c } in
+    let both : Some own ≡ Some counted = sym eo ∙ ec in
+    let same : own ≡ counted = cc in
+    ap₂ as_setting eg same
+
+module _ (s : Scene) (file : RawFileView) (w : Written) (is : s.written ≡ Some w) (around : IsAround s file) where
   beside : AreBeside s.catalog.now w file
   beside = subst (λ o. AreWritten s.catalog.now o file) is around
 
-  pub used-is : (x : RawDefinition) (r : Relation) (counted : List Counted) (given : List PassedOf) (a : Arguments) (of made : RawForm) → slice_get w.definitions.now.definitions n ≡ Some r → slice_get w.plain.now n ≡ Some x → slice_get w.numbers.now n ≡ Some counted
-      → AreArguments (setting_of s.setting) met r.columns a → given ≡ a.passed.items
-      → of ≡ inlined s.catalog.now (known_here s.catalog.now s.written file n) (raw_form_of x.body) (record { name = name_passed given met.number; place = λ q. met.place; number = counted_from a.next counted })
-      → made ≡ some_each met.place a.stars.items (some_each met.place a.columns.items (and_behind met.place a.comparisons.items of)) → IsUsed s file met n made
-  used-is x r counted given a of made er ex en args eg eo em = record {
+  abbrev all_known : List Known
+  all_known = known_of s.catalog.now [] file.definitions
+
+  -- a definition that is known is one of the file, beside those before it
+  pub record IsKnownOf (n : ℕ) (k : Known) : Type 0 where
+    pub text : RawDefinitionView
+    pub at : slice_get file.definitions n ≡ Some text
+    pub same : k ≡ known_with s.catalog.now (take n all_known) text
+
+  known-text : (n : ℕ) (k : Known) → slice_get all_known n ≡ Some k → IsKnownOf n k
+  known-text n k e =
+      let long = below_of all_known n k e in
+      let size = known-length s.catalog.now file.definitions in
+      let it = at_below file.definitions n (omega (arith, long, size)) in
+      let both : Some k ≡ Some (known_with s.catalog.now (take n all_known) it.entry) = sym e ∙ known-at s.catalog.now file.definitions n it.entry it.is in
+      record { text = it.entry; at = it.is; same = cc }
+
+  -- its columns
+  pub known-columns : (n : ℕ) (k : Known) → slice_get all_known n ≡ Some k → (r : Relation) → slice_get w.definitions.now.definitions n ≡ Some r → r.columns ≡ k.columns
+  known-columns n k e r er =
+      let t = known-text n k e in
+      used-columns s.catalog.now w file beside n t.text t.at r er ∙ ap (λ (y : Known). y.columns) (sym t.same)
+
+  -- what its text becomes inside a body is what the body becomes
+  pub body-is : (b : UsedBody) (inner : Scene) → b.named.written ≡ w → IsNamedIn s b.named → IsInsideBody s b inner → (x : RawDefinition) → slice_get w.plain.now b.named.number ≡ Some x → (k : Known) → slice_get all_known b.named.number ≡ Some k
+      → inlined_here inner file (raw_form_of x.body) ≡ k.form (body_setting b k.counted)
+  body-is b inner ew named h x ex k e =
+      let db : List Relation = s.catalog.now in
+      let n : ℕ = b.named.number in
+      let t = known-text n k e in
+      let numbered = at_below b.named.written.numbers.now n (omega (arith, named.there, named.whole.numbers)) in
+      let counted : List Counted = numbered.entry in
+      let k' : Known = known_with db (take n all_known) t.text in
+      let own : counted ≡ k'.counted = used-numbers db w file beside n t.text t.at counted (ap (λ (y : Written). slice_get y.numbers.now n) (sym ew) ∙ numbered.is) in
+      let here : List Relation → Option Written → ℕ → UseSetting → RawForm = λ r o i u. inlined r (known_here r o file i) (raw_form_of x.body) u in
+      ap₂ (λ r o. here r o inner.setting.before (setting_of inner.setting)) h.catalog (h.written ∙ is)
+      ∙ ap₂ (here db (Some w)) h.setting.before (h.setting.reads counted numbered.is)
+      ∙ ap₂ (λ f c. inlined db (take n all_known) f (body_setting b c)) (used-body db w file beside n t.text t.at x ex) own
+      ∙ ap (λ (y : Known). y.form (body_setting b y.counted)) (sym t.same)
+
+  -- a use becomes what its body becomes, under its quantifiers
+  pub used-is : (d : Named) (met : Met) (a : Arguments) (cs : List Column) (r : Relation) (of made : RawForm) → slice_get w.definitions.now.definitions d.number ≡ Some r → cs ≡ r.columns
+      → AreArguments (setting_of s.setting) met cs a → IsUsedBody s file (record { named = d; number = met.number; place = met.place; first = a.next; passed = a.passed }) of
+      → made ≡ some_each met.place a.stars.items (some_each met.place a.columns.items (and_behind met.place a.comparisons.items of)) → IsUsed s file met d.number made
+  used-is d met a cs r of made er ec args h em = record {
     used = λ k e.
-        let db : List Relation = s.catalog.now in
-        let ks : List Known = known_of db [] file.definitions in
-        let long = below_of ks n k e in
-        let size = known-length db file.definitions in
-        let at = at_below file.definitions n (omega (arith, long, size)) in
-        let d : RawDefinitionView = at.entry in
-        let k' : Known = known_with db (take n ks) d in
-        let both : Some k ≡ Some k' = sym e ∙ known-at db file.definitions n d at.is in
-        let same : k ≡ k' = cc in
         let S : UseSetting = setting_of s.setting in
-        let columns : r.columns ≡ k'.columns = used-columns db w file beside n d at.is r er in
-        let own : AreArguments S met k'.columns a = subst (λ cs. AreArguments S met cs a) columns args in
-        let ps : List Passed = passed S met.place met.number (suc met.number) k'.columns met.terms.now in
-        let there : UseSetting = record { name = name_passed given met.number; place = λ q. met.place; number = counted_from a.next counted } in
-        let inside = use-setting met.place met.number a.next given ps (suc met.number + star_total k'.columns met.terms.now) counted k'.counted (subst (passed_of ps) (sym eg) own.passed) own.next (used-numbers db w file beside n d at.is counted en) in
-        let form : of ≡ k'.form there = eo ∙ ap (λ o. inlined db (known_here db o file n) (raw_form_of x.body) there) is ∙ ap (λ f. inlined db (take n ks) f there) (used-body db w file beside n d at.is x ex) in
-        em ∙ used-form S met k' r.columns a of there columns args inside form ∙ ap (λ y. use_form S met.place met.number y met.terms.now) (sym same);
+        let columns : cs ≡ k.columns = ec ∙ known-columns d.number k e r er in
+        let own : AreArguments S met k.columns a = subst (λ l. AreArguments S met l a) columns args in
+        let b : UsedBody = record { named = d; number = met.number; place = met.place; first = a.next; passed = a.passed } in
+        em ∙ used-form S met k cs a of (body_setting b k.counted) columns args (plain-setting S d met a k own) (h.body k e);
   }
+
+-- ---- the body of a use that is all of a body's text
+
+-- the definition that is named is an earlier one, and the scene may name it
+next-named : (s inner : Scene) (b : UsedBody) (found : Named) → IsNamedIn s b.named → IsInsideBody s b inner → IsNamedIn inner found → IsNamedIn s (record { written = b.named.written; number = found.number })
+next-named s inner b found named h m =
+    let less : found.number < b.named.number = subst (λ i. found.number < i) h.setting.before m.before in
+    record {
+      whole = named.whole;
+      written = named.written;
+      before = omega (arith, less, named.before);
+      there = omega (arith, less, named.there);
+    }
+
+-- all of its text stands at the place of the use
+inside-place : (s inner : Scene) (b : UsedBody) (q : Place) → IsNamedIn s b.named → IsInsideBody s b inner → b.place ≡ (setting_of inner.setting).place q
+inside-place s inner b q named h =
+    let numbered = at_below b.named.written.numbers.now b.named.number (omega (arith, named.there, named.whole.numbers)) in
+    sym (ap (λ (u : UseSetting). u.place q) (h.setting.reads numbered.entry numbered.is))
+
+pub next-is : (s inner : Scene) (b next : UsedBody) (found : Named) (f : RawFormula) (x : RawDefinition) (n : Identifier) (terms : List RawTerm) (met : Met) → IsNamedIn s b.named → IsInsideBody s b inner → IsMeant inner n (Some found)
+    → slice_get b.named.written.plain.now b.named.number ≡ Some x → f ≡ x.body → f.kind ≡ Atom n terms → met.name.now ≡ n → met.terms.now ≡ terms → met.place ≡ b.place → met.number ≡ (setting_of inner.setting).number f.place
+    → IsPlainUse (setting_of inner.setting) met (record { written = b.named.written; number = found.number }) next → IsNextBody s b next
+next-is s inner b next found f x n terms met named h m ex ef kind en et ep ek u =
+    let w : Written = b.named.written in
+    let meant : IsNamedIn inner found = m.named in
+    let less : found.number < b.named.number = subst (λ i. found.number < i) h.setting.before meant.before in
+    let d : Named = record { written = w; number = found.number } in
+    record {
+      earlier = subst (λ (y : Named). y.number < b.named.number) (sym u.named) less;
+      passed_on = record {
+        named = subst (IsNamedIn s) (sym u.named) (next-named s inner b found named h meant);
+        same = λ file around form of. record {
+          body = λ k e.
+              let inside : IsAround inner file = around_inside s b inner file h around in
+              let used : IsUsed inner file met found.number form = record {
+                used = λ y ey.
+                    let there : slice_get (known_of s.catalog.now [] file.definitions) found.number ≡ Some y = ap (λ l. slice_get (known_of l [] file.definitions) found.number) (sym h.catalog) ∙ ey in
+                    let r = at_below w.definitions.now.definitions found.number (omega (arith, less, named.there, named.whole.definitions)) in
+                    of.body y (ap (λ (z : Named). slice_get (known_of s.catalog.now [] file.definitions) z.number) u.named ∙ there)
+                    ∙ u.form y r.entry r.is (known-columns s file w named.written around found.number y there r.entry r.is);
+              } in
+              let met_is : form ≡ met_form inner file met = atom-used inner found file met form meant inside (subst (λ i. meant_by inner.catalog.now (known_by inner file) i ≡ slice_get (known_of inner.catalog.now [] file.definitions) found.number) (sym en) (m.meaning file inside)) used in
+              atom_step inner f file b.place (inside-place s inner b f.place named h) form n terms met.terms.now met.place met.number kind ep ek et (met_is ∙ ap (λ i. inlined_atom (setting_of inner.setting) met.place met.number i (columns_in (relation_named inner.catalog.now i)) met.terms.now (meant_by inner.catalog.now (known_by inner file) i)) en)
+              ∙ ap (λ (y : RawFormula). inlined_here inner file (raw_form_of y)) ef
+              ∙ body-is s file w named.written around b inner refl named h x ex k e;
+        };
+      };
+    }

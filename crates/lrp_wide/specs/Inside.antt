@@ -12,10 +12,11 @@ use Rattle.lrp_model.specs.declared.relations.Column.{Column}
 use Rattle.lrp_model.specs.declared.relations.Relation.{Relation}
 use Rattle.lrp_model.specs.declared.tokens.Place.{Place}
 use Rattle.lrp_tense.specs.Expanding.{name_term}
-use Rattle.lrp_wide.specs.Inlining.{Known, Passed, UseSetting, column_added, inlined_atom, compared_columns, inlined, inlined_each, itself, equal, known_of, meant_by, passed, plain_definition, star_columns, star_total, star_variable, use_form}
+use Rattle.lrp_wide.specs.Inlining.{Counted, Known, Passed, UseSetting, column_added, counted_from, inlined_atom, compared_columns, inlined, inlined_each, itself, equal, known_of, meant_by, passed, plain_definition, star_columns, star_total, star_variable, use_form}
 use Rattle.lrp_wide.specs.Counts.{AreRowless, file_numbers}
-use Rattle.lrp_wide.specs.Settings.{IsPassedToo, passed_of, setting_of}
+use Rattle.lrp_wide.specs.Settings.{IsPassedToo, name_passed, passed_of, setting_of}
 use Rattle.lrp_wide.specs.declared.atoms.Met.{Met}
+use Rattle.lrp_wide.specs.declared.inlining.UsedBody.{UsedBody}
 use Rattle.lrp_wide.specs.declared.inlining.Named.{Named}
 use Rattle.lrp_wide.specs.declared.inlining.Scene.{Scene}
 use Rattle.lrp_wide.specs.declared.inlining.Written.{Written}
@@ -66,6 +67,7 @@ known_by s f = known_here s.catalog.now s.written f s.setting.before
 
 -- the definition is one of those
 pub record IsNamedIn (s : Scene) (d : Named) : Type 0 where
+  pub whole : IsWholeWritten d.written
   pub written : s.written ≡ Some d.written
   pub before : d.number < s.setting.before
   pub there : d.number < length d.written.plain.now
@@ -136,3 +138,39 @@ pub record AreArguments (s : UseSetting) (met : Met) (cs : List Column) (made : 
   pub columns : made.columns.items ≡ compared_columns (passed s met.place met.number (suc met.number) cs met.terms.now)
   pub comparisons : map raw_form_of made.comparisons.items ≡ comparisons_of met.place (passed s met.place met.number (suc met.number) cs met.terms.now)
   pub passed : passed_of (passed s met.place met.number (suc met.number) cs met.terms.now) made.passed.items
+
+-- ---- bodies of uses
+
+-- what a body is read by, where the atoms of its text are counted
+abbrev pub body_setting : UsedBody → List Counted → UseSetting
+body_setting b counted = record { name = name_passed b.passed.items b.number; place = λ q. b.place; number = counted_from b.first counted }
+
+-- a setting is the one that a body is read by
+pub record IsBodySetting (b : UsedBody) (made : SettingOf) : Type 0 where
+  pub before : made.before ≡ b.named.number
+  pub reads : (counted : List Counted) → slice_get b.named.written.numbers.now b.named.number ≡ Some counted → setting_of made ≡ body_setting b counted
+
+-- a scene is the one inside a body
+pub record IsInsideBody (s : Scene) (b : UsedBody) (made : Scene) : Type 0 where
+  pub catalog : made.catalog.now ≡ s.catalog.now
+  pub written : made.written ≡ s.written
+  pub setting : IsBodySetting b made.setting
+
+-- what a body becomes
+pub record IsUsedBody (s : Scene) (f : RawFileView) (b : UsedBody) (form : RawForm) : Type 0 where
+  pub body : (k : Known) → slice_get (known_of s.catalog.now [] f.definitions) b.named.number ≡ Some k → form ≡ k.form (body_setting b k.counted)
+
+-- whatever one body becomes, the other becomes too
+pub record IsPassedOn (s : Scene) (b last : UsedBody) : Type 0 where
+  pub named : IsNamedIn s last.named
+  pub same : (f : RawFileView) → IsAround s f → (form : RawForm) → IsUsedBody s f last form → IsUsedBody s f b form
+
+-- and it is an earlier one
+pub record IsNextBody (s : Scene) (b next : UsedBody) : Type 0 where
+  pub earlier : next.named.number < b.named.number
+  pub passed_on : IsPassedOn s b next
+
+-- the body of a use that brings no quantifier: it alone is what the use becomes
+pub record IsPlainUse (s : UseSetting) (met : Met) (d : Named) (b : UsedBody) : Type 0 where
+  pub named : b.named ≡ d
+  pub form : (k : Known) (r : Relation) → slice_get d.written.definitions.now.definitions d.number ≡ Some r → r.columns ≡ k.columns → k.form (body_setting b k.counted) ≡ use_form s met.place met.number k met.terms.now

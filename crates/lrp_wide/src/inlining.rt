@@ -1,10 +1,10 @@
 // The query of first-order logic that stands for a file: in its texts without operators each use of a definition and each `*` is written out.
 //
 // A function clears its locals when it begins. So each kind of formula has a function of its own, and a formula pays for its own kind alone.
-ghost use Rattle.std.specs.Prelude.{◌≡◌, [], IfOk};
+ghost use Rattle.std.specs.Prelude.{◌≡◌, ◌<◌, [], IfOk, IfSome, length};
 ghost use Rattle.lrp_model.specs.RawQueries.{HasNoOperator, HaveNoOperator, RawFileView, raw_form_of, raw_forms_of, raw_group, raw_implies, raw_not, raw_question_of};
 ghost use Rattle.lrp_wide.specs.Inlining.{expanded_file, inlined, own_setting, set_column};
-ghost use Rattle.lrp_wide.specs.Inside.{AreBeside, IsWholeIfAny, AreWrittenBy, IsAround, IsMeant, IsNamedIn, IsUsed, IsWholeWritten, each_inlined_here, inlined_here, met_form};
+ghost use Rattle.lrp_wide.specs.Inside.{AreBeside, IsWholeIfAny, AreWrittenBy, IsAround, IsUsedBody, IsMeant, IsNamedIn, IsNextBody, IsPassedOn, IsPlainUse, IsUsed, IsWholeWritten, each_inlined_here, inlined_here, met_form};
 ghost use Rattle.lrp_tense.specs.Expanding.{expanded_question};
 ghost use Rattle.lrp_tense.specs.Written.{joined_form, quantified_form};
 ghost use Rattle.lrp_wide.specs.Settings.{setting_of};
@@ -13,9 +13,10 @@ use crate::atoms::{Met, comparison, membership, starred_atom};
 use crate::names::NameText;
 use crate::numbering::Numbers;
 use crate::passing::{Arguments, arguments_of};
-use crate::uses::{Use, UseSetting, some_each, with_comparisons};
+use crate::uses::{Passed, Use, UseSetting, some_each, with_comparisons};
 use lrp_model::{
     Copies, List, Memory, Name, Place, RawColumn, RawDefinition, RawFormula, RawKind, RawQuery,
+    Relation,
 };
 use lrp_sorts::{Catalog, Definitions};
 use lrp_tense::{Connective, QuantifierKind, boxed, denied, grouped, implied, joined, quantified};
@@ -43,6 +44,73 @@ struct Scene<'a> {
 struct Named<'a> {
     written: Written<'a>,
     number: usize,
+}
+
+impl<'a> Named<'a> {
+    ghost use Rattle.std.specs.Prelude.{◌≡◌, ◌<◌, Some, length, slice_get};
+    ghost use Rattle.lrp_wide.specs.Inside.{IsWholeWritten};
+
+    // The definition as a relation without rows.
+    fn relation(self) -> &'a Relation
+        requires written { IsWholeWritten self.written }
+        requires there { self.number < length self.written.plain.now }
+        ensures { slice_get self.entry.written.definitions.now.definitions self.entry.number
+            ≡ Some result.now }
+    {
+        self.written.definitions.at(self.number)
+    }
+
+    // The definition without operators.
+    fn text(self) -> &'a RawDefinition
+        requires written { IsWholeWritten self.written }
+        requires there { self.number < length self.written.plain.now }
+        ensures { slice_get self.entry.written.plain.now self.entry.number ≡ Some result.now }
+    {
+        &self.written.plain[self.number]
+    }
+
+    // How the atoms of its text are numbered.
+    fn numbers(self) -> &'a Numbers
+        requires written { IsWholeWritten self.written }
+        requires there { self.number < length self.written.plain.now }
+        ensures { slice_get self.entry.written.numbers.now self.entry.number ≡ Some result.now }
+    {
+        &self.written.numbers[self.number]
+    }
+}
+
+// The body of a definition in a use: the number and the place of the use, the variables that columns are, and the next number.
+#[derive(Drop)]
+struct UsedBody<'a> {
+    named: Named<'a>,
+    number: u64,
+    place: Place,
+    first: u64,
+    passed: Vec<Passed<'a>>,
+}
+
+impl<'a> UsedBody<'a> {
+    ghost use Rattle.std.specs.Prelude.{◌<◌, length};
+    ghost use Rattle.lrp_wide.specs.Inside.{IsBodySetting, IsWholeWritten};
+
+    // What it is read by.
+    fn setting(&self) -> UseSetting<'_>
+        requires written { IsWholeWritten self.now.named.written }
+        requires there { self.now.named.number < length self.now.named.written.plain.now }
+        ensures { IsBodySetting self.now result }
+    {
+        let named = self.named;
+        UseSetting {
+            used: Some(Use {
+                number: self.number,
+                place: self.place,
+                passed: self.passed.as_slice(),
+            }),
+            before: named.number,
+            first: self.first,
+            numbers: Some(named.numbers()),
+        }
+    }
 }
 
 // A quantifier where it stands, and its variable.
@@ -364,8 +432,7 @@ fn inline_use(
     ensures { IfOk result (λ made. (file : RawFileView) → IsAround scene.now file
         → IsUsed scene.now file met.entry named.entry.number (raw_form_of made.value)) }
 {
-    let Named { written, number } = named;
-    let columns = written.definitions.at(number).columns.as_slice();
+    let columns = named.relation().columns.as_slice();
     let given = arguments_of(alloc, text, &scene.setting, met, columns)?;
     let Arguments {
         next,
@@ -374,23 +441,126 @@ fn inline_use(
         comparisons,
         passed,
     } = given;
-    let setting = UseSetting {
-        used: Some(Use {
-            number: met.number,
-            place: met.place,
-            passed: passed.as_slice(),
-        }),
-        before: number,
+    let body = UsedBody {
+        named,
+        number: met.number,
+        place: met.place,
         first: next,
-        numbers: Some(&written.numbers[number]),
+        passed,
     };
-    let inside = Scene {
-        catalog: scene.catalog,
-        written: scene.written,
-        setting,
-    };
-    let of = inline(alloc, text, &inside, &written.plain[number].body)?;
+    let of = inline_body(alloc, text, scene, body)?;
     let all = with_comparisons(alloc, met.place, comparisons, of)?;
     let compared = some_each(alloc, met.place, columns, all)?;
     some_each(alloc, met.place, stars, compared)
+}
+
+// What a body becomes.
+#[cycle(inlining)]
+fn inline_body(
+    alloc: Global,
+    text: &mut NameText,
+    scene: &Scene<'_>,
+    body: UsedBody<'_>,
+) -> Result<Box<RawFormula>, Memory>
+    requires named { IsNamedIn scene.now body.named }
+    requires definitions { IsWholeIfAny scene.now.written }
+    ensures { IfOk result (λ made. (file : RawFileView) → IsAround scene.now file
+        → IsUsedBody scene.now file body.entry (raw_form_of made.value)) }
+{
+    let last = last_body(alloc, text, scene, body)?;
+    let around = Scene {
+        catalog: scene.catalog,
+        written: scene.written,
+        setting: last.setting(),
+    };
+    inline(alloc, text, &around, &last.named.text().body)
+}
+
+// The body that a body comes to along uses that are its whole formula and bring nothing of their own. So a chain of definitions
+// that each only name the one before takes no stack, however long it is.
+fn last_body<'a>(
+    alloc: Global,
+    text: &mut NameText,
+    scene: &Scene<'_>,
+    body: UsedBody<'a>,
+) -> Result<UsedBody<'a>, Memory>
+    requires named { IsNamedIn scene.now body.named }
+    requires definitions { IsWholeIfAny scene.now.written }
+    ensures { IfOk result (IsPassedOn scene.now body.entry) }
+{
+    let mut last = body;
+    while let Some(next) = next_body(alloc, text, scene, &last)? {
+        last = next;
+    }
+    Ok(last)
+}
+
+// The body of the use that a body is, where it is one that brings no quantifier.
+fn next_body<'a>(
+    alloc: Global,
+    text: &mut NameText,
+    scene: &Scene<'_>,
+    body: &UsedBody<'a>,
+) -> Result<Option<UsedBody<'a>>, Memory>
+    requires named { IsNamedIn scene.now body.now.named }
+    requires definitions { IsWholeIfAny scene.now.written }
+    ensures { IfOk result (λ next. IfSome next (IsNextBody scene.now body.now)) }
+{
+    let f = &body.named.text().body;
+    let RawKind::Atom { relation, terms } = &f.kind else {
+        return Ok(None);
+    };
+    let around = Scene {
+        catalog: scene.catalog,
+        written: scene.written,
+        setting: body.setting(),
+    };
+    let Some(found) = meaning_of(&around, relation) else {
+        return Ok(None);
+    };
+    let met = Met {
+        place: body.place,
+        name: relation,
+        terms: terms.as_slice(),
+        number: around.setting.number(f.place)?,
+    };
+    let named = Named {
+        written: body.named.written,
+        number: found.number,
+    };
+    plain_use(alloc, text, &around.setting, met, named)
+}
+
+// The body of a use that brings no quantifier.
+fn plain_use<'a>(
+    alloc: Global,
+    text: &mut NameText,
+    setting: &UseSetting<'_>,
+    met: Met<'_>,
+    named: Named<'a>,
+) -> Result<Option<UsedBody<'a>>, Memory>
+    requires written { IsWholeWritten named.written }
+    requires there { named.number < length named.written.plain.now }
+    ensures { IfOk result (λ body. IfSome body
+        (IsPlainUse (setting_of setting.now) met.entry named.entry)) }
+{
+    let columns = named.relation().columns.as_slice();
+    let given = arguments_of(alloc, text, setting, met, columns)?;
+    let Arguments {
+        next,
+        stars,
+        columns,
+        comparisons: _comparisons,
+        passed,
+    } = given;
+    if !stars.is_empty() || !columns.is_empty() {
+        return Ok(None);
+    }
+    Ok(Some(UsedBody {
+        named,
+        number: met.number,
+        place: met.place,
+        first: next,
+        passed,
+    }))
 }

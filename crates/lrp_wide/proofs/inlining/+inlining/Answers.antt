@@ -2,19 +2,17 @@ use Rattle.std.proofs.Common.{◌≡◌, ◌+◌, Some, None, get_or, refl, ap, 
 use Rattle.std.proofs.lemmas.List.{take_all}
 use Rattle.lrp_model.specs.RawQueries.{HasNoOperator, raw_form_of, raw_forms_of, raw_group, raw_implies, raw_not}
 use Rattle.lrp_model.specs.Rows.{columns_in, relation_named}
-use Rattle.lrp_model.specs.declared.raw.RawDefinition.{RawDefinition}
 use Rattle.lrp_tense.specs.Written.{joined_form, quantified_form}
 use Rattle.lrp_wide.specs.Inlining.{inlined_atom, some_each}
-use Rattle.lrp_wide.specs.Inside.{AreArguments, IsMeant, each_inlined_here, known_by}
+use Rattle.lrp_wide.specs.Inside.{IsInsideBody, IsMeant, each_inlined_here, known_by}
 use Rattle.lrp_wide.specs.Limits.{depth_of, depth_of_each}
 use Rattle.lrp_wide.specs.Settings.{setting_of}
 use Rattle.lrp_wide.proofs.InlineAtoms.{atom-used}
 use Rattle.lrp_wide.proofs.InlineForms.{inlined-more}
-use Rattle.lrp_wide.proofs.InlineMeasures.{each-below, each-plain}
+use Rattle.lrp_wide.proofs.InlineMeasures.{each-below, each-plain, work_before}
 use Rattle.lrp_wide.proofs.InlineNodes.{and_node, or_node}
-use Rattle.lrp_wide.proofs.InlineScenes.{use-less, use-plain, used-is, whole_here}
+use Rattle.lrp_wide.proofs.InlineScenes.{body-is, use-less, use-plain, used-is}
 use Rattle.lrp_wide.proofs.InlineSteps.{and_step, atom_step, compare_step, exists_step, forall_step, group_step, implies_step, member_step, not_step, or_step}
-use Rattle.lrp_wide.proofs.NumberKnown.{got}
 use Rattle.lrp_wide.proofs.Results.{if_ok_then}
 use Rattle.lrp_wide.proofs.inlining.+inlining.Goals as goal
 
@@ -99,20 +97,20 @@ inline_each-returns t c = λ file around.
 
 pub inline_use-returns : goal.inline_use-returns
 inline_use-returns t c =
-    let w = c.args.named.written in
-    let n = c.args.named.number in
     let p = c.args.met.place in
-    let d = c.index-written-number-2.result in
-    let x = get_or w.plain.now n d in
     let given = c.in_ok-given.given in
-    let whole = whole_here c.args.scene.now c.args.named c.requires.named c.requires.definitions in
-    let one = c.index-written-number.result in
-    let numbers = got w.numbers.now n one (omega (arith, c.requires.named.there, whole.numbers)) c.index-written-number.is ∙ ap Some c.index-written-number.is in
-    let body = got w.plain.now n d c.requires.named.there c.index-written-number-2.is ∙ ap Some c.index-written-number-2.is in
-    let args = subst (λ cs. AreArguments (setting_of c.args.scene.now.setting) c.args.met cs given) c.as_slice-columns.ensures c.in_ok-given.ensures in
     if_ok_then c.some_each-2.result _ _ c.some_each-2.ensures (λ made h file around.
-    used-is c.args.scene.now file c.args.met w n c.requires.named.written around x c.at.result.now (get_or w.numbers.now n one) c.as_slice.result.now given (raw_form_of c.in_ok-of.of.value) (raw_form_of made.value) c.at.ensures body numbers args c.as_slice.ensures.value
+    used-is c.args.scene.now file c.args.named.written c.requires.named.written around c.args.named c.args.met given c.as_slice-columns.result.now c.relation.result.now (raw_form_of c.in_ok-of.of.value) (raw_form_of made.value) c.relation.ensures c.as_slice-columns.ensures c.in_ok-given.ensures
     (c.in_ok-of.ensures file around) (h ∙ ap (some_each p given.stars.items) (c.in_ok-compared.ensures ∙ ap (some_each p given.columns.items) c.in_ok-all.ensures)))
+
+pub inline_body-returns : goal.inline_body-returns
+inline_body-returns t c =
+    let s = c.args.scene.now in
+    let b = c.in_ok-last.last in
+    let passed = c.in_ok-last.ensures in
+    let h : IsInsideBody s b (record { catalog = s.catalog; written = s.written; setting = c.setting.result }) = record { catalog = refl; written = refl; setting = c.setting.ensures } in
+    if_ok_then c.inline.result _ _ c.inline.ensures (λ made e file around.
+    passed.same file around (raw_form_of made.value) (record { body = λ k at. e file around ∙ body-is s file b.named.written passed.named.written around b _ refl passed.named h c.text.result.now c.text.ensures k at }))
 
 pub inline-returns-in_ok-number-in-Atom : goal.inline-returns-in_ok-number-in-Atom
 inline-returns-in_ok-number-in-Atom t c =
@@ -148,16 +146,12 @@ inline_each-inline-requires t c =
     let less = each-below c.args.fs.now c.loop-f.f-index c.f-item.result c.loop-f-test.true c.f-item.is in
     (omega (arith, c.decreases, less), (each-plain c.args.fs.now c.loop-f.f-index c.f-item.result c.requires.plain c.loop-f-test.true c.f-item.is, c.requires.definitions))
 
-pub inline_use-at-requires : goal.inline_use-at-requires
-inline_use-at-requires t c =
-    let whole = whole_here c.args.scene.now c.args.named c.requires.named c.requires.definitions in
-    omega (arith, c.requires.named.there, whole.definitions)
-
-pub inline_use-inline-requires : goal.inline_use-inline-requires
-inline_use-inline-requires t c =
-    let d = c.index-written-number-2.result in
-    let less = use-less c.args.scene.now c.args.named d c.requires.named c.index-written-number-2.is in
-    let same : depth_of (raw_form_of (get_or c.args.named.written.plain.now c.args.named.number d).body) ≡ depth_of (raw_form_of d.body) = ap (λ (y : RawDefinition). depth_of (raw_form_of y.body)) (sym c.index-written-number-2.is) in (
-      omega (arith, c.decreases, less, same),
-      (subst (λ (y : RawDefinition). HasNoOperator (raw_form_of y.body)) c.index-written-number-2.is (use-plain c.args.scene.now c.args.named d c.requires.named c.requires.definitions c.index-written-number-2.is), c.requires.definitions),
-    )
+pub inline_body-inline-requires : goal.inline_body-inline-requires
+inline_body-inline-requires t c =
+    let s = c.args.scene.now in
+    let b = c.in_ok-last.last in
+    let x = c.text.result.now in
+    let named = c.in_ok-last.ensures.named in
+    let less = use-less s b.named x named c.text.ensures in
+    let own : work_before s.written c.setting.result.before ≡ work_before s.written b.named.number = ap (work_before s.written) c.setting.ensures.before in
+    (omega (arith, c.decreases, less, own), (use-plain s b.named x named c.text.ensures, c.requires.definitions))

@@ -32,6 +32,9 @@ decreases-inline_atom l = work_left l.scene.now 0 2
 abbrev pub decreases-inline_use : goal.decreases-inline_use
 decreases-inline_use l = work_left l.scene.now 0 1
 
+abbrev pub decreases-inline_body : goal.decreases-inline_body
+decreases-inline_body l = work_left l.scene.now 0 0
+
 -- the formulas so far
 abbrev pub invariant-inline_each-loop-f : goal.invariant-inline_each-loop-f
 invariant-inline_each-loop-f l = (file : RawFileView) → IsAround l.scene file → raw_forms_of l.all.items ≡ each_inlined_here l.scene file (raw_forms_of (take l.f-index l.fs))

@@ -8,7 +8,7 @@ returns c =
     let e : c.args.scene.now.written ≡ Some c.in_ok-written.written = c.in_ok-written.was in
     let whole : IsWholeWritten c.in_ok-written.written = subst IsWholeIfAny e c.requires in
     record {
-      named = record { written = e; before = c.in_ok-number.ensures.before; there = omega (arith, c.in_ok-number.ensures.there, whole.definitions) };
+      named = record { whole = whole; written = e; before = c.in_ok-number.ensures.before; there = omega (arith, c.in_ok-number.ensures.there, whole.definitions) };
       meaning = λ file around. meant-named c.args.scene.now file c.args.name.now around c.in_ok-written.written e c.in_ok-number.number (sym c.in_ok-number.ensures.number) c.in_ok-number.ensures.before;
     }
 

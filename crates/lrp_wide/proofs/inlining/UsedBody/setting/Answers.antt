@@ -1,0 +1,9 @@
+use Rattle.std.proofs.Common.{refl}
+use Rattle.lrp_wide.proofs.InlineScenes.{body-reads}
+use Rattle.lrp_wide.proofs.inlining.UsedBody.setting.Goals as goal
+
+pub returns : goal.returns
+returns c = record {
+  before = refl;
+  reads = λ counted e. body-reads c.args.self.now c.as_slice.result.now c.numbers.result.now counted c.as_slice.ensures.value c.numbers.ensures e;
+}
