@@ -1,7 +1,7 @@
 -- Core forms of formulas and of their negations.
 use Rattle.std.proofs.Common.{◌≡◌, ℕ, ◌+◌, ◌<◌, Bool, List, [], ◌∷◌, ◌++◌, Vec, Global, refl, ap, sym, ◌∙◌, length, take, get_or}
 use Rattle.std.proofs.lemmas.List.{take_more}
-use Rattle.lrp_model.specs.Formulas.{Form, Forms, form_of, forms_of, negation, no_forms, form, joined}
+use Rattle.lrp_model.specs.Formulas.{Form, Forms, form_of, forms_of, conjunction, negation, no_forms, form, joined}
 use Rattle.lrp_model.specs.Core.{positive, negative, positives, conjuncts, disjuncts, and_list}
 use Rattle.lrp_model.specs.declared.raw.RawFormula.{RawFormula}
 use Rattle.lrp_model.specs.declared.raw.RawKind.{And as all_formulas, Or as some_formula}
@@ -15,9 +15,12 @@ use Rattle.lrp_core.specs.declared.polarities.Polarity.TheVariants.{Positive, Ne
 use Rattle.lrp_core.proofs.CoreViews.{joined_none}
 
 -- of an `and`
-pub formed-And : (p : Polarity) (f : RawFormula) (v : Vec RawFormula Global) (named : Bool) (all : Form) → f.kind ≡ all_formulas v → all ≡ and_list (positives (forms_of v.items) named) → with_polarity p all ≡ formed p (form_of f) named
-formed-And Positive f v named all is whole = whole ∙ ap (λ g. positive g named) (and_form f v v.items is refl)
-formed-And Negative f v named all is whole = ap negation whole ∙ ap (λ g. negative g named) (and_form f v v.items is refl)
+pub formed-all : (p : Polarity) (fs : Forms) (named : Bool) (all : Form) → all ≡ and_list (positives fs named) → with_polarity p all ≡ formed p (conjunction fs) named
+formed-all Positive fs named all whole = whole
+formed-all Negative fs named all whole = ap negation whole
+
+pub formed-And : (p : Polarity) (f : RawFormula) (v : Vec RawFormula Global) (named : Bool) → f.kind ≡ all_formulas v → formed p (conjunction (forms_of v.items)) named ≡ formed p (form_of f) named
+formed-And p f v named is = ap (λ g. formed p g named) (and_form f v v.items is refl)
 
 -- of an `or`
 pub formed-Or : (p : Polarity) (f : RawFormula) (v : Vec RawFormula Global) (named : Bool) → f.kind ≡ some_formula v → joined_elements (choice p) (all_formed p (forms_of v.items) named) ≡ formed p (form_of f) named

@@ -1,11 +1,11 @@
 // The core form of a formula, of its negation, and of a query.
 ghost use Rattle.std.specs.Prelude.{◌≡◌, map, IfOk, OnOk};
-ghost use Rattle.lrp_model.specs.Formulas.{form_of, forms_of, question_of, atom, exists, sorted as sorted_form, joined, form, no_forms};
+ghost use Rattle.lrp_model.specs.Formulas.{form_of, forms_of, question_of, atom, conjunction, exists, forall, sorted as sorted_form, joined, form, no_forms};
 ghost use Rattle.lrp_model.specs.RawTerms.{said_term};
 ghost use Rattle.lrp_model.specs.Core.{core_form as core_form_of, with_sort, column_elements, head_elements as elements_of, and_list};
 ghost use Rattle.lrp_core.specs.Cores.{core_of, cores_of};
-ghost use Rattle.lrp_core.specs.Junctions.{all_elements, elements, joined_elements};
-ghost use Rattle.lrp_core.specs.Polarities.{all_formed as all_formed_of, formed as formed_of, opposite};
+ghost use Rattle.lrp_core.specs.Junctions.{all_elements, elements, joined_elements, two_of};
+ghost use Rattle.lrp_core.specs.Polarities.{all_formed as all_formed_of, choice as choice_of, formed as formed_of, opposite};
 
 use crate::Core;
 use crate::comparisons::membership;
@@ -107,7 +107,8 @@ fn holding<'a>(relation: &'a Name, terms: &'a List<RawTerm>) -> Core<'a>
     Core::Atom { relation, terms }
 }
 
-// Which core form of a formula is made: its own, or that of its negation.
+// Which core form of a formula is made: its own, or that of its negation. The same functions make both: they call one
+// another in a circle, which is proved as a whole.
 #[derive(Clone, Copy)]
 struct Forming {
     named: bool,
@@ -145,27 +146,73 @@ fn formed<'a>(alloc: Global, forming: Forming, f: &'a RawFormula) -> Result<Core
         RawKind::Ranged { of, .. } => formed(alloc, forming, of),
         RawKind::Paired { right, .. } => formed(alloc, forming, right),
         RawKind::Not { of } => formed(alloc, forming.denied(), of),
-        RawKind::And { of } => {
-            let all = all_formed(alloc, forming.under(Polarity::Positive), Junction::And, of)?;
-            polarity.signed(alloc, all)
-        }
+        RawKind::And { of } => formed_conjunction(alloc, forming, of),
         RawKind::Or { of } => all_formed(alloc, forming, polarity.choice(), of),
         RawKind::Implies { left, right } => {
             let left = formed(alloc, forming.denied(), left)?;
-            let right = formed(alloc, forming, right)?;
-            polarity.choice().two(alloc, left, right)
+            formed_implication(alloc, forming, right, left)
         }
-        RawKind::Exists { binder, of } => {
-            let of = formed(alloc, forming.under(Polarity::Positive), of)?;
-            polarity.signed(alloc, some(alloc, forming.named, binder, of)?)
-        }
-        RawKind::Forall { binder, of } => {
-            let of = formed(alloc, forming.under(Polarity::Negative), of)?;
-            polarity
-                .opposite()
-                .signed(alloc, some(alloc, forming.named, binder, of)?)
-        }
+        RawKind::Exists { binder, of } => formed_existential(alloc, forming, binder, of),
+        RawKind::Forall { binder, of } => formed_universal(alloc, forming, binder, of),
     }
+}
+
+#[cycle(forming)]
+fn formed_conjunction<'a>(
+    alloc: Global,
+    forming: Forming,
+    fs: &'a [RawFormula],
+) -> Result<Core<'a>, Memory>
+    ensures { IfOk result (λ core. core_of core
+        ≡ formed_of forming.polarity (conjunction (forms_of fs.now)) forming.named) }
+{
+    let all = all_formed(alloc, forming.under(Polarity::Positive), Junction::And, fs)?;
+    forming.polarity.signed(alloc, all)
+}
+
+// The core form of an implication whose left side, or its negation, is this one.
+#[cycle(forming)]
+fn formed_implication<'a>(
+    alloc: Global,
+    forming: Forming,
+    f: &'a RawFormula,
+    left: Core<'a>,
+) -> Result<Core<'a>, Memory>
+    ensures { IfOk result (λ core. core_of core ≡ two_of (choice_of forming.polarity)
+        (core_of left.entry) (formed_of forming.polarity (form_of f.now) forming.named)) }
+{
+    let right = formed(alloc, forming, f)?;
+    forming.polarity.choice().two(alloc, left, right)
+}
+
+#[cycle(forming)]
+fn formed_existential<'a>(
+    alloc: Global,
+    forming: Forming,
+    binder: &'a RawColumn,
+    f: &'a RawFormula,
+) -> Result<Core<'a>, Memory>
+    ensures { IfOk result (λ core. core_of core ≡ formed_of forming.polarity
+        (exists binder.now.name binder.now.sort (form_of f.now)) forming.named) }
+{
+    let of = formed(alloc, forming.under(Polarity::Positive), f)?;
+    let core = some(alloc, forming.named, binder, of)?;
+    forming.polarity.signed(alloc, core)
+}
+
+#[cycle(forming)]
+fn formed_universal<'a>(
+    alloc: Global,
+    forming: Forming,
+    binder: &'a RawColumn,
+    f: &'a RawFormula,
+) -> Result<Core<'a>, Memory>
+    ensures { IfOk result (λ core. core_of core ≡ formed_of forming.polarity
+        (forall binder.now.name binder.now.sort (form_of f.now)) forming.named) }
+{
+    let of = formed(alloc, forming.under(Polarity::Negative), f)?;
+    let core = some(alloc, forming.named, binder, of)?;
+    forming.polarity.opposite().signed(alloc, core)
 }
 
 // All of the formulas, or of their negations, joined.
@@ -202,7 +249,7 @@ fn push_all<'a>(
     Ok(())
 }
 
-// Those of one formula; an inner list takes no list of its own.
+// Those of one formula; an inner list takes no list of its own, so its elements aren't moved once for each level.
 #[cycle(forming)]
 fn push_one<'a>(
     alloc: Global,
@@ -226,9 +273,22 @@ fn push_one<'a>(
             push_all(alloc, forming, junction, of, all)
         }
         RawKind::Not { of } => push_one(alloc, forming.denied(), junction, of, all),
-        _ => {
-            let core = formed(alloc, forming, f)?;
-            junction.push(core, all)
-        }
+        _ => push_formed(alloc, forming, junction, f, all),
     }
+}
+
+// The elements of its core form.
+#[cycle(forming)]
+fn push_formed<'a>(
+    alloc: Global,
+    forming: Forming,
+    junction: Junction,
+    f: &'a RawFormula,
+    all: &mut Vec<Core<'a>>,
+) -> Result<(), Memory>
+    ensures { OnOk result (cores_of all.new.items ≡ joined (cores_of all.old.items)
+        (elements junction (formed_of forming.polarity (form_of f.now) forming.named))) }
+{
+    let core = formed(alloc, forming, f)?;
+    junction.push(core, all)
 }

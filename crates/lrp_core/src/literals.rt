@@ -1,6 +1,6 @@
 // The data texts of a query, each with its sort.
 ghost use Rattle.std.specs.Prelude.{◌≡◌, List, [], ◌∷◌, ◌++◌, drop, true, false, map, slice_get, IfOk, OnOk};
-ghost use Rattle.lrp_model.specs.Formulas.{form_of, forms_of};
+ghost use Rattle.lrp_model.specs.Formulas.{exists, form_of, forms_of};
 ghost use Rattle.lrp_model.specs.RawTerms.{data_of, is_data_kind, said_term, said_test};
 ghost use Rattle.lrp_model.specs.Rows.{relation_named, columns_in};
 ghost use Rattle.lrp_model.specs.Domains.{term_texts, sort_beside, text_beside, test_texts, form_texts, forms_texts};
@@ -13,8 +13,8 @@ ghost use Rattle.lrp_core.specs.Literals.{AddsTexts, one_text, one_in};
 use crate::comparisons::are_data;
 use lrp_database::Database;
 use lrp_model::{
-    Column, Copies, DataText, List, Memory, Name, Op, Query, RawFormula, RawKind, RawTerm,
-    RawTermKind, Sort,
+    Column, Copies, DataText, List, Memory, Name, Op, Query, RawColumn, RawFormula, RawKind,
+    RawTerm, RawTermKind, Sort,
 };
 use std::alloc::Global;
 
@@ -81,14 +81,8 @@ fn add_formula(
             add_formula(lookup, left, binders, all)?;
             add_formula(lookup, right, binders, all)
         }
-        RawKind::Exists { binder, of } => {
-            let binder = binder_of(lookup.alloc, &binder.name, &binder.sort)?;
-            add_bound(lookup, binder, of, binders, all)
-        }
-        RawKind::Forall { binder, of } => {
-            let binder = binder_of(lookup.alloc, &binder.name, &binder.sort)?;
-            add_bound(lookup, binder, of, binders, all)
-        }
+        RawKind::Exists { binder, of } => add_bound(lookup, binder, of, binders, all),
+        RawKind::Forall { binder, of } => add_bound(lookup, binder, of, binders, all),
     }
 }
 
@@ -112,28 +106,31 @@ fn add_formulas(
 #[cycle(literals)]
 fn add_bound(
     lookup: Lookup<'_>,
-    binder: Column,
+    binder: &RawColumn,
     of: &RawFormula,
     binders: &mut Vec<Column>,
     all: &mut Vec<(Sort, DataText)>,
 ) -> Result<(), Memory>
-    ensures { OnOk result (AddsTexts (form_texts (form_of of.now) lookup.entry.database.now
-        (binder ∷ binders.old.items)) binders.old.items
-        binders.new.items all.old.items all.new.items) }
+    ensures { OnOk result (AddsTexts
+        (form_texts (exists binder.now.name binder.now.sort (form_of of.now))
+        lookup.entry.database.now binders.old.items)
+        binders.old.items binders.new.items all.old.items all.new.items) }
 {
-    binders.insert(0, binder)?;
+    bind(lookup.alloc, binder, binders)?;
     add_formula(lookup, of, binders, all)?;
     remove_first(binders);
     Ok(())
 }
 
-// A variable with its sort, as a quantifier binds it.
-fn binder_of(alloc: Global, name: &Name, sort: &Sort) -> Result<Column, Memory>
-    ensures { IfOk result (λ binder. binder ≡ record { name = name.now; sort = sort.now }) }
+// Puts a variable with its sort before the binders around it.
+fn bind(alloc: Global, binder: &RawColumn, binders: &mut Vec<Column>) -> Result<(), Memory>
+    ensures { OnOk result (binders.new.items
+        ≡ record { name = binder.now.name; sort = binder.now.sort } ∷ binders.old.items) }
 {
-    let name = name.copy(alloc)?;
-    let sort = sort.copy(alloc)?;
-    Ok(Column { name, sort })
+    let name = binder.name.copy(alloc)?;
+    let sort = binder.sort.copy(alloc)?;
+    binders.insert(0, Column { name, sort })?;
+    Ok(())
 }
 
 fn add_atom(

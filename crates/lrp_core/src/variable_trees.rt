@@ -2,7 +2,7 @@
 ghost use Rattle.std.specs.Prelude.{◌≡◌, ◌∷◌, [], IfOk, OnOk, List as ListOf, map};
 ghost use Rattle.lrp_model.specs.Variables.{Variable as VariableOf, bound_by, free};
 ghost use Rattle.lrp_core.specs.Cores.{core_of, cores_of};
-ghost use Rattle.lrp_model.specs.Formulas.{conjunction};
+ghost use Rattle.lrp_model.specs.Formulas.{conjunction, exists};
 ghost use Rattle.lrp_core.specs.FreeVariables.{variable_of, others, each_once};
 ghost use Rattle.lrp_core.specs.VariableTrees.{Trees, tree, no_trees, tree_of, free_tree};
 
@@ -40,11 +40,23 @@ pub fn variable_tree(alloc: Global, core: &Core<'_>) -> Result<VariableTree, Mem
         Core::Not { of } => variable_tree(alloc, of),
         Core::And { of } => tree_of_all(alloc, of),
         Core::Or { of } => tree_of_all(alloc, of),
-        Core::Exists { name, sort, of } => {
-            let inner = variable_tree(alloc, of)?;
-            inner.without(alloc, sort, name)
-        }
+        Core::Exists { name, sort, of } => tree_under(alloc, sort, name, of),
     }
+}
+
+// The tree of an element under a quantifier of this sort and name.
+#[cycle(trees)]
+fn tree_under(
+    alloc: Global,
+    sort: &Sort,
+    name: &Name,
+    core: &Core<'_>,
+) -> Result<VariableTree, Memory>
+    ensures { IfOk result (λ made. tree_of made
+        ≡ free_tree (exists name.now sort.now (core_of core.now))) }
+{
+    let inner = variable_tree(alloc, core)?;
+    inner.without(alloc, sort, name)
 }
 
 // The tree of these elements.

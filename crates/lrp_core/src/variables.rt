@@ -1,4 +1,6 @@
 // The variables that occur free in a core form.
+//
+// A formula has at most eight of each kind, so a list of them is searched faster than a hash table.
 ghost use Rattle.std.specs.Prelude.{◌≡◌, [], ◌∷◌, IfOk, OnOk, map, true};
 ghost use Rattle.std.specs.List.{flat_map};
 ghost use Rattle.lrp_model.specs.Variables.{Variable as VariableOf, bound_by, same_variable, is_among as is_member, variables_of_time, variables_of_data, variables_of_term, variables_of_test, free, free_each};

@@ -135,7 +135,7 @@ abbrev pub turned : Ground → Option Choice → Standing → Standing
 turned over None at = at
 turned over (Some choice) at = drop_spent over (take over choice at)
 
--- so many rounds
+-- a number of rounds
 abbrev pub turned_so_often : Ground → ℕ → Standing → Standing
 turned_so_often over zero at = at
 turned_so_often over (suc n) at = turned over (next_choice (turned_so_often over n at)) (turned_so_often over n at)

@@ -249,7 +249,7 @@ fn build_all(
     making.drop_block(result, block)
 }
 
-// So many elements, one after the other.
+// A number of elements, one after the other.
 #[cycle(building)]
 fn take_each(
     making: &mut Making<'_, '_>,

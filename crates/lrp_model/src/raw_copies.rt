@@ -64,8 +64,7 @@ fn copy_raw(alloc: Global, f: &RawFormula) -> Result<RawFormula, Memory>
         RawKind::Or { of } => copy_disjunction(alloc, place, of),
         RawKind::Implies { left, right } => {
             let left = copy_raw(alloc, left)?;
-            let right = copy_raw(alloc, right)?;
-            implied(alloc, place, left, right)
+            copy_implication(alloc, place, right, left)
         }
         RawKind::Group { of } => copy_group(alloc, place, of),
         RawKind::Exists { binder, of } => copy_existential(alloc, place, binder, of),
@@ -95,15 +94,14 @@ fn copy_raw(alloc: Global, f: &RawFormula) -> Result<RawFormula, Memory>
             left,
             right,
         } => {
-            let left = copy_raw(alloc, left)?;
-            let right = copy_raw(alloc, right)?;
             let pair = Pair {
                 place,
                 word: *word,
                 name,
                 name_place: *name_place,
             };
-            paired(alloc, pair, left, right)
+            let left = copy_raw(alloc, left)?;
+            copy_paired(alloc, pair, right, left)
         }
     }
 }
@@ -187,6 +185,20 @@ fn copy_disjunction(alloc: Global, place: Place, fs: &[RawFormula]) -> Result<Ra
 }
 
 #[cycle(raw_copying)]
+fn copy_implication(
+    alloc: Global,
+    place: Place,
+    f: &RawFormula,
+    left: RawFormula,
+) -> Result<RawFormula, Memory>
+    ensures { IfOk result (λ made. raw_form_of made
+        ≡ raw_implies place (raw_form_of left) (raw_form_of f.now)) }
+{
+    let right = copy_raw(alloc, f)?;
+    implied(alloc, place, left, right)
+}
+
+#[cycle(raw_copying)]
 fn copy_group(alloc: Global, place: Place, f: &RawFormula) -> Result<RawFormula, Memory>
     ensures { IfOk result (λ made. raw_form_of made ≡ raw_group place (raw_form_of f.now)) }
 {
@@ -231,6 +243,21 @@ fn copy_ranged(alloc: Global, range: Range<'_>, f: &RawFormula) -> Result<RawFor
 {
     let f = copy_raw(alloc, f)?;
     within(alloc, range, f)
+}
+
+#[cycle(raw_copying)]
+fn copy_paired(
+    alloc: Global,
+    pair: Pair<'_>,
+    f: &RawFormula,
+    left: RawFormula,
+) -> Result<RawFormula, Memory>
+    ensures { IfOk result (λ made. raw_form_of made ≡ raw_paired pair.entry.word
+        (operator_at pair.entry.place pair.entry.name.now pair.entry.name_place)
+        (raw_form_of left) (raw_form_of f.now)) }
+{
+    let right = copy_raw(alloc, f)?;
+    paired(alloc, pair, left, right)
 }
 
 #[cycle(raw_copying)]

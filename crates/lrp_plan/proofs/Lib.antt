@@ -13,6 +13,7 @@ pub mod Answered
 pub mod Texts
 pub mod Gathered
 pub mod Sorting
+pub mod Ranks
 pub mod Sorted
 pub mod WholePeriods
 pub mod Names

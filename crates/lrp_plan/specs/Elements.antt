@@ -88,7 +88,7 @@ pub record IsSplitOf (M : Structure) (fs : List Core) (split : Split) : Type 0 w
   pub checks : split.tests ≡ tests_in (cores_of fs)
   pub denials : AllZip (IsDenied fs) split.negations.items (negations_in (cores_of fs))
 
--- so many turns of positives, of tests and of negations
+-- a number of turns of positives, of tests and of negations
 pub record TakesPositives (M : Structure) (turns : ℕ) (fs : List Core) (ps qs : List Element) (before after : Draft) (old new : Taking) : Type 0 where
   pub follows : (K : ℕ) (ns : List Element) (s : State) → EachCanPlan M K fs → IsMakingAt M K fs before ps ns old s → IsMakingAt M K fs after qs ns new (take_positives turns M s)
 
@@ -98,7 +98,7 @@ pub record TakesTests (turns : ℕ) (before after : Draft) (old new : Taking) : 
 pub record TakesNegations (M : Structure) (turns : ℕ) (fs : List Core) (ns qs : List Element) (before after : Draft) (old new : Taking) : Type 0 where
   pub follows : (K : ℕ) (ps : List Element) (s : State) → EachCanPlan M K fs → IsMakingAt M K fs before ps ns old s → IsMakingAt M K fs after ps qs new (take_negations turns M s)
 
--- so many turns of elements of a kind
+-- a number of turns of elements of a kind
 abbrev pub TakesTurns : Kind → Structure → ℕ → List Core → List Element → List Element → Draft → Draft → Taking → Taking → Type 0
 TakesTurns Positive M turns fs es left before after old new = TakesPositives M turns fs es left before after old new
 TakesTurns Negation M turns fs es left before after old new = TakesNegations M turns fs es left before after old new

@@ -15,6 +15,9 @@ use std::alloc::Global;
 use std::collections::HashMap;
 
 /// The facts of each relation of the database, by its name. A database keeps periods of at least 1.
+///
+/// A relation's period is computed once, here, and is none where it is above the limit: so a relation that a query doesn't
+/// name refuses no query.
 pub(crate) fn facts_by_name(
     alloc: Global,
     database: &Database,

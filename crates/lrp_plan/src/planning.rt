@@ -100,6 +100,8 @@ fn plan_gathered(
         None => return Err(PlanFault::PeriodLimit),
     };
     let draft = whole_draft(alloc, sources, core, period)?;
+
+    // No step has a greater reach than the last one, so none is refused while steps are made.
     if scaled(draft.last.reach, query.head.columns.as_slice()) > LIMIT as u64 {
         return Err(PlanFault::BoundLimit);
     }

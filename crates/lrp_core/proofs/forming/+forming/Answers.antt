@@ -3,17 +3,16 @@ use Rattle.std.specs.Result.{IfOk, OnOk}
 use Rattle.lrp_model.specs.Formulas.{joined}
 use Rattle.lrp_core.specs.Cores.{core_of, cores_of}
 use Rattle.lrp_core.proofs.Joined.{elements-more}
-use Rattle.lrp_core.proofs.Formed.{formed-And, formed-Or, inner-And, inner-Or, no_elements, all_formed-more}
+use Rattle.lrp_core.proofs.Formed.{formed-And, formed-Or, formed-all, inner-And, inner-Or, no_elements, all_formed-more}
 use Rattle.lrp_core.proofs.forming.+forming.Goals as goal
 
-pub formed-returns-in_ok-all-in-And : goal.formed-returns-in_ok-all-in-And
-formed-returns-in_ok-all-in-And t c =
-    subst (λ x. IfOk c.signed-in-And.result (λ core. core_of core ≡ x))
-    (formed-And c.args.forming.polarity c.args.f.now c.in-And.of c.args.forming.named (core_of c.in_ok-all-in-And.all) c.in-And.is (rw (c.under.ensures, c.deref-in-And.ensures.value) at c.in_ok-all-in-And.ensures)) c.signed-in-And.ensures
+pub formed-returns-in-And : goal.formed-returns-in-And
+formed-returns-in-And t c =
+    subst (λ x. IfOk c.formed_conjunction.result (λ core. core_of core ≡ x)) (formed-And c.args.forming.polarity c.args.f.now c.in-And.of c.args.forming.named c.in-And.is) (rw c.deref-in-And.ensures.value at c.formed_conjunction.ensures)
 
 pub formed-returns-in-Or : goal.formed-returns-in-Or
 formed-returns-in-Or t c =
-    subst (λ x. IfOk c.all_formed-in-Or.result (λ core. core_of core ≡ x)) (formed-Or c.args.forming.polarity c.args.f.now c.in-Or.of c.args.forming.named c.in-Or.is) (rw (c.choice.ensures, c.deref-in-Or.ensures.value) at c.all_formed-in-Or.ensures)
+    subst (λ x. IfOk c.all_formed.result (λ core. core_of core ≡ x)) (formed-Or c.args.forming.polarity c.args.f.now c.in-Or.of c.args.forming.named c.in-Or.is) (rw (c.choice.ensures, c.deref-in-Or.ensures.value) at c.all_formed.ensures)
 
 pub push_all-loop-f-init : goal.push_all-loop-f-init
 push_all-loop-f-init t c = no_elements c.args.forming.polarity c.args.junction c.args.forming.named (cores_of c.args.all.now.items)

@@ -31,10 +31,14 @@ variable_tree-returns-in-Or t c =
     tree-as c.tree_of_all-in-Or.result (core_of c.args.core.now) (disjunction (cores_of c.deref-in-Or.result.now))
     (ap free_tree (sym (ap core_of c.in-Or.is ∙ core_of-Or c.in-Or.of ∙ ap (λ xs. disjunction (cores_of xs)) (sym c.deref-in-Or.ensures.value)))) c.tree_of_all-in-Or.ensures
 
-pub variable_tree-returns-in_ok-inner-in-Exists : goal.variable_tree-returns-in_ok-inner-in-Exists
-variable_tree-returns-in_ok-inner-in-Exists t c =
-    tree-exists c.without.result c.in-Exists.name.now c.in-Exists.sort.now (core_of c.deref-in-Exists.result.now) (core_of c.args.core.now) c.in_ok-inner-in-Exists.inner c.in_ok-inner-in-Exists.ensures
-    (ap core_of c.in-Exists.is ∙ ap (λ x. exists c.in-Exists.name.now c.in-Exists.sort.now (core_of x)) (sym c.deref-in-Exists.ensures)) c.without.ensures
+pub variable_tree-returns-in-Exists : goal.variable_tree-returns-in-Exists
+variable_tree-returns-in-Exists t c =
+    tree-as c.tree_under.result (core_of c.args.core.now) (exists c.in-Exists.name.now c.in-Exists.sort.now (core_of c.deref-in-Exists.result.now))
+    (ap free_tree (sym (ap core_of c.in-Exists.is ∙ ap (λ x. exists c.in-Exists.name.now c.in-Exists.sort.now (core_of x)) (sym c.deref-in-Exists.ensures)))) c.tree_under.ensures
+
+pub tree_under-returns : goal.tree_under-returns
+tree_under-returns t c =
+    tree-exists c.without.result c.args.name.now c.args.sort.now (core_of c.args.core.now) (exists c.args.name.now c.args.sort.now (core_of c.args.core.now)) c.in_ok-inner.inner c.in_ok-inner.ensures refl c.without.ensures
 
 pub tree_of_all-loop-core-preserved : goal.tree_of_all-loop-core-preserved
 tree_of_all-loop-core-preserved t c = record {

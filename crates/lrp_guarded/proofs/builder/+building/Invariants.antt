@@ -11,6 +11,6 @@ use Rattle.lrp_guarded.proofs.builder.+building.Given as goal
 abbrev pub invariant-build_members-loop-index : goal.invariant-build_members-loop-index
 invariant-build_members-loop-index l = AreInner l.inner (disjunction (cores_of l.of)) → MembersSoFar (cores_of (take l.index l.of)) l.guard l.fn.making l.making l.left
 
--- so many turns were made
+-- this many turns were made
 abbrev pub invariant-take_each-loop-turn : goal.invariant-take_each-loop-turn
 invariant-take_each-loop-turn l = FollowsIn l.of (λ over at. turned_so_often over l._turn at) l.fn.making l.making l.fn.standing l.standing
