@@ -1,4 +1,5 @@
 // Operands of steps, and what is made of them.
+use crate::lent::PatternRef;
 use crate::pattern::Pattern;
 use lrp_store::Store;
 use lrp_tables::Places;
@@ -14,6 +15,14 @@ pub struct Operand<'a> {
 #[derive(Clone, Copy)]
 pub struct Wanted<'a> {
     pub pattern: &'a Pattern,
+    pub size: u32,
+    pub cap: u32,
+}
+
+/// The same of a pattern whose zones stand elsewhere.
+#[derive(Clone, Copy)]
+pub struct Sought<'a, 'z> {
+    pub pattern: &'a PatternRef<'z>,
     pub size: u32,
     pub cap: u32,
 }

@@ -9,7 +9,7 @@ use Rattle.lrp_systems.specs.Parts.{PartView, Fits}
 use Rattle.lrp_systems.specs.Systems.{AreSolutionsAdded}
 use Rattle.lrp_lint.specs.Contents.{HasNoCommonTimes}
 
--- a store without cells over so many times
+-- a store without cells over this many times
 abbrev pub fresh : ℕ → ℕ → StoreView
 fresh times period = record { shape = record { times = times; texts = 0 }; period = period; tables = finite.empty; spare = 0 }
 

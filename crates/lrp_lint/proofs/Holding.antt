@@ -28,7 +28,7 @@ use Rattle.lrp_lint.proofs.Points.{in_parts, one_divides, parts_fit}
 
 -- ---- a tuple and its times
 
--- what stands after so many
+-- what stands after a front
 at_length : (front : List ℤ) (x : ℤ) (behind : List ℤ) → node (front ++ x ∷ behind) (suc (length front)) ≡ x
 at_length [] x behind = refl
 at_length (y ∷ front) x behind = at_length front x behind

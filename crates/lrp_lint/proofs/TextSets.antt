@@ -125,7 +125,7 @@ column_past [] i high = refl
 column_past (c ∷ cs) zero high = absurd (omega arith)
 column_past (c ∷ cs) (suc i) high = column_past cs i (omega arith)
 
--- so many in front
+-- what is taken from the front has the length that was asked for
 pub front_length : {A : Type 0} (xs : List A) (i : ℕ) → i ≤ length xs → length (take i xs) ≡ i
 front_length xs zero h = refl
 front_length [] (suc i) h = absurd (omega arith)

@@ -42,7 +42,7 @@ abbrev pub HasPointPeriod : Value → Type 0
 HasPointPeriod (Point at) = (pos 1 ≤ℤ at.period) × (at.period ≤ℤ pos (2 ^ 62))
 HasPointPeriod (Const t) = Unit {0}
 
--- a row with so many points, whose bounds are between its columns and small
+-- a row with this many points, whose bounds are between its columns and small
 pub record IsReadable (times : ℕ) (row : Row) : Type 0 where
   pub few : times ≤ 8
   pub count : length (row_points row.values) ≡ times
@@ -69,7 +69,7 @@ abbrev pub AreMembers : List ℤ → ℕ → List RowPoint → Type 0
 AreMembers xs place [] = Unit {0}
 AreMembers xs place (at ∷ points) = IsPointMember at.offset at.period (node xs place) × AreMembers xs (suc place) points
 
--- the zone holds the tuples of so many times that meet the bounds
+-- the zone holds the tuples of this many times that meet the bounds
 pub record IsBoundZone (bounds : List Bound) (times : ℕ) (z : ZoneView) : Type 0 where
   pub valid : IsZone z
   pub period : z.period ≡ 1
@@ -78,7 +78,7 @@ pub record IsBoundZone (bounds : List Bound) (times : ℕ) (z : ZoneView) : Type
   pub from : (xs : List ℤ) → length xs ≡ times → AllByRecursion (MeetsBound xs) bounds → IsMember z xs
   pub reach : (high : ℕ) → All (λ b. nat_abs b.most ≤ high) bounds → reach_of z ≤ high
 
--- no tuple of so many times meets the bounds
+-- no tuple of this many times meets the bounds
 pub record HasNoneBounded (bounds : List Bound) (times : ℕ) : Type 0 where
   pub none : (xs : List ℤ) → length xs ≡ times → AllByRecursion (MeetsBound xs) bounds → ⊥
 

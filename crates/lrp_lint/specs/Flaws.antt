@@ -40,7 +40,7 @@ pub data AreTied (bounds : List Bound) : ℕ → ℕ → Type 0 where
   itself : (p : ℕ) → AreTied bounds p p
   onward : (p q r : ℕ) → AreNeighbours bounds p q → AreTied bounds q r → AreTied bounds p r
 
--- two of so many time columns that no bounds tie
+-- two of a number of time columns that no bounds tie
 pub record HasUntied (times : ℕ) (bounds : List Bound) : Type 0 where
   pub one : ℕ
   pub other : ℕ

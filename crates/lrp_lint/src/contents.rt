@@ -14,7 +14,7 @@ use lrp_limits::facts::{bound_of, with_row};
 use lrp_limits::periods::{Period, one};
 use lrp_model::{Column, LIMIT, Memory, Row, Shape};
 use lrp_store::{Store, StoreFault};
-use lrp_systems::{Part, add_system};
+use lrp_systems::{Part, add_system, parts_of};
 use std::alloc::Global;
 
 /// Whether the row holds nothing, or passes the limits so that this isn't told; else none.
@@ -75,7 +75,10 @@ fn is_empty(alloc: Global, times: u8, row: &Row, period: i64) -> Result<bool, Me
     ensures { IfOk result (λ empty. IsTrue empty ↔ IsEmpty row.now) }
 {
     match row_parts(alloc, times, row)? {
-        Some(parts) => has_none(alloc, times, period, &parts),
+        Some(placed) => {
+            let parts = parts_of(alloc, &placed)?;
+            has_none(alloc, times, period, &parts)
+        }
         None => Ok(true),
     }
 }

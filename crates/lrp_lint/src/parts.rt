@@ -8,12 +8,12 @@ ghost use Rattle.lrp_lint.specs.Flaws.{IsEmpty};
 ghost use Rattle.lrp_lint.specs.Ties.{AreBetween};
 
 use lrp_model::{Bound, List, Memory, Row, RowPoint, Value};
-use lrp_systems::Part;
+use lrp_systems::PlacedZone;
 use lrp_zone::Zone;
 use std::alloc::Global;
 
 /// The parts of a row: those of its points, and that of its bounds. There are none where no times meet the bounds.
-pub fn row_parts(alloc: Global, times: u8, row: &Row) -> Result<Option<Vec<Part>>, Memory>
+pub fn row_parts(alloc: Global, times: u8, row: &Row) -> Result<Option<Vec<PlacedZone>>, Memory>
     requires { IsReadable times row.now }
     ensures { IfOk result (λ found. MatchOption found (IsEmpty row.now)
         (λ parts. IsSystemOf row.now times parts.items)) }
@@ -21,7 +21,7 @@ pub fn row_parts(alloc: Global, times: u8, row: &Row) -> Result<Option<Vec<Part>
     let mut parts = points_of(alloc, &row.values)?;
     match bounds_zone(row.bounds.as_slice(), usize::from(times)) {
         Some(zone) => {
-            parts.push(Part::in_order(&zone))?;
+            parts.push(PlacedZone::in_order(&zone))?;
             Ok(Some(parts))
         }
         None => Ok(None),
@@ -29,7 +29,7 @@ pub fn row_parts(alloc: Global, times: u8, row: &Row) -> Result<Option<Vec<Part>
 }
 
 // The points among the values as parts at the places 1, 2 and so on.
-fn points_of(alloc: Global, values: &List<Value>) -> Result<Vec<Part>, Memory>
+fn points_of(alloc: Global, values: &List<Value>) -> Result<Vec<PlacedZone>, Memory>
     requires few { length (row_points values.now) ≤ 8 }
     requires periods { AllByRecursion HasPointPeriod values.now }
     ensures { IfOk result (λ made. ArePointParts 1 (row_points values.now) made.items) }
@@ -45,13 +45,13 @@ fn points_of(alloc: Global, values: &List<Value>) -> Result<Vec<Part>, Memory>
 }
 
 // The members of a point, at a place.
-fn point_part(at: &RowPoint, place: usize) -> Part
+fn point_part(at: &RowPoint, place: usize) -> PlacedZone
     requires low { pos 1 ≤ℤ at.now.period }
     requires high { at.now.period ≤ℤ pos (2 ^ 62) }
     ensures { IsPointPart at.now place result }
 {
     match Zone::of(at.period, &[residue_of(at)], &[]) {
-        Some(zone) => Part::of(&zone, &[place, 0, 0, 0, 0, 0, 0, 0]),
+        Some(zone) => PlacedZone::of(&zone, &[place, 0, 0, 0, 0, 0, 0, 0]),
         None => unreachable!(),
     }
 }
@@ -65,7 +65,7 @@ fn residue_of(at: &RowPoint) -> i64
     at.offset.rem_euclid(at.period)
 }
 
-// The tuples of so many times that meet the bounds, or `None` where there are none.
+// The tuples of this many times that meet the bounds, or `None` where there are none.
 fn bounds_zone(bounds: &[Bound], times: usize) -> Option<Zone>
     requires few { times ≤ 8 }
     requires between { AllByRecursion (AreBetween times) bounds.now }

@@ -10,7 +10,7 @@ use lrp_model::Bound;
 // For each column the number of its group: columns of one group are tied. Number 0 is no column.
 type Groups = [u8; 9];
 
-/// Whether two of so many time columns are tied by no bounds.
+/// Whether two of a number of time columns are tied by no bounds.
 pub fn has_untied(times: u8, bounds: &[Bound]) -> bool
     requires times { times ≤ 8 }
     requires between { AllByRecursion (AreBetween 8) bounds.now }

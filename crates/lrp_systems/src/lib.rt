@@ -29,7 +29,7 @@ pub use frame::Frame;
 pub use front_walk::add_fronts;
 pub use fronts::Fronts;
 pub use order::Order;
-pub use part::Part;
+pub use part::{Part, PlacedZone, parts_of};
 pub use system::add_system;
 pub use wholes::add_zone;
 pub use window::ResidueWindow;
