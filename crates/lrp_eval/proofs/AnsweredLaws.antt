@@ -68,6 +68,7 @@ settled_as z w zs o h =
             (λ l. let x = m.0 l in (x.0, record { period = x.1.period ∙ sym o.period; residues = x.1.residues ∙ sym o.residues }, x.2)),
             λ x. m.1 (x.0, record { period = x.1.period ∙ o.period; residues = x.1.residues ∙ o.residues }, x.2),
           );
+      antichain = λ lt. h.antichain (subst (λ n. 1 < n) (sym e) lt);
     }
 
 module _ (old new : StoreView) (h : IsSettledStore old new) where

@@ -58,14 +58,14 @@ left_twice readers old mid new a b = record {
 }
 
 -- ---- an element that is another
-set_same : {X : Type 0} (xs : List X) (p i : ℕ) (x : X) → (slice_get (slice_set xs p x) i ≡ slice_get xs i) ⊎ (i ≡ p)
+pub set_same : {X : Type 0} (xs : List X) (p i : ℕ) (x : X) → (slice_get (slice_set xs p x) i ≡ slice_get xs i) ⊎ (i ≡ p)
 set_same [] p i x = inl refl
 set_same (y ∷ ys) zero zero x = inr refl
 set_same (y ∷ ys) zero (suc i) x = inl refl
 set_same (y ∷ ys) (suc p) zero x = inl refl
 set_same (y ∷ ys) (suc p) (suc i) x = ⊎_elim (λ e. inl e) (λ e. inr (ap suc e)) (set_same ys p i x)
 
-set_count : {X : Type 0} (xs : List X) (p : ℕ) (x : X) → length (slice_set xs p x) ≡ length xs
+pub set_count : {X : Type 0} (xs : List X) (p : ℕ) (x : X) → length (slice_set xs p x) ≡ length xs
 set_count [] p x = refl
 set_count (y ∷ ys) zero x = refl
 set_count (y ∷ ys) (suc p) x = ap suc (set_count ys p x)

@@ -14,6 +14,7 @@ pub mod StandingLaws
 pub mod AnsweredLaws
 pub mod JoinLaws
 pub mod FreeingLaws
+pub mod GrowingLaws
 pub mod LoopLaws
 pub mod HeadLaws
 pub mod HeadedLaws

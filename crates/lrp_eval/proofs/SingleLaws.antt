@@ -31,6 +31,7 @@ module _ (z : ZoneView) (valid : IsZone z) where
     one = λ e. intervals (z ∷ []) (λ w l. subst (λ y. IsZone y × (columns_of y ≡ 1)) (in_one z w l) (valid, one)) (pairs_one IsFarBelow z)
         (λ q v a b. subst (λ y. IsOfCell y v) (in_one z q a) (own_cell v b));
     more = λ l. absurd (omega (arith, one));
+    antichain = λ l. absurd (omega (arith, one));
   }
 
 alone : (z : ZoneView) → IsZone z → IsSettlement z (z ∷ []) (z ∷ [])

@@ -9,4 +9,5 @@ pub mod Running
 pub mod Settling
 pub mod Freeing
 pub mod Grouped
+pub mod Growing
 pub mod Together

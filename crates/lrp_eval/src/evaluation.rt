@@ -14,8 +14,8 @@ ghost use Rattle.lrp_eval.specs.Together.{AreInside};
 use crate::following::{Together, run_together};
 use crate::freeing::{give_up, last_readers, nothing};
 use crate::groups::run_in_parts;
+use crate::growing::run_growing;
 use crate::heading::is_headed;
-use crate::running::run_step;
 use lrp_database::Database;
 use lrp_model::{List, Memory, Plan};
 use lrp_tables::{Setting, StepFault, Table};
@@ -164,12 +164,13 @@ fn run_one(
     ensures more { IfOk result (λ new. length new ≡ length tables + 1) }
     ensures fault { IfErr result (NamesFirstMany database.now plan.now setting.now.cap tables) }
 {
-    let step = &plan.steps.as_slice()[tables.len()];
-    match run_step(setting, database, &plan.head, tables.as_slice(), step) {
+    let count = tables.len();
+    match run_growing(setting, database, plan, readers, &mut tables) {
         Ok(table) => tables.push(table)?,
-        Err(fault) => return Err(fault_behind(tables.len(), fault)),
+        Err(fault) => return Err(fault_behind(count, fault)),
     }
-    Ok(give_up(setting.alloc, &step.kind, readers, tables))
+    let kind = &plan.steps.at(count).kind;
+    Ok(give_up(setting.alloc, kind, readers, tables))
 }
 
 // The last of the tables.

@@ -86,7 +86,7 @@ fn is_worth(group: &Group<'_>, cap: u32) -> bool {
 }
 
 // Whether the rows have no more cells of the period than the cap, an eighth as many or less if each is one of its own period, and
-// as points that are independent of one another leave an eighth of all times, or less.
+// as points that are independent of one another leave an eighth of all times, or less. They have no more than the period.
 fn leaves_little(relation: &Relation, period: u64, cap: u32) -> bool {
     if relation.columns.len() != 1 {
         return false;
@@ -102,7 +102,8 @@ fn leaves_little(relation: &Relation, period: u64, cap: u32) -> bool {
         left -= left / longest;
     }
     let few = cells / 8;
-    left <= ALL / 8 && cells <= u64::from(cap) && few > 0 && few >= relation.rows.len() as u64
+    let most = cells.min(period);
+    left <= ALL / 8 && most <= u64::from(cap) && few > 0 && few >= relation.rows.len() as u64
 }
 
 // The longest period of a row's points.

@@ -8,6 +8,7 @@ mod evaluation;
 mod following;
 mod freeing;
 mod groups;
+mod growing;
 mod heading;
 mod laws;
 mod projecting;

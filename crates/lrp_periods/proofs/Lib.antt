@@ -8,7 +8,11 @@ pub mod PeriodLaws
 pub mod ReachLaws
 pub mod ScanParts
 pub mod SideBySide
+pub mod Sieving
+pub mod Covers
+pub mod Sifted
 pub mod Summing
+pub mod LineLaws
 pub mod TakenApart
 pub mod WayLaws
 pub mod WindowLaws

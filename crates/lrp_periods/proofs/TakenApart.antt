@@ -8,7 +8,7 @@ use Rattle.std.proofs.lemmas.List.Elements.{Contains-append_cases, Contains-appe
 use Rattle.lrp_theory.specs.Divides.{Divides}
 use Rattle.lrp_theory.proofs.Members.{front_more, in_none, in_one, one_in, head_in}
 use Rattle.lrp_theory.proofs.Multiples.{Divides-trans}
-use Rattle.lrp_model.specs.Texts.{Identifier, Text}
+use Rattle.lrp_model.specs.Texts.{Ascends, Identifier, Text}
 use Rattle.lrp_model.specs.Satisfaction.{Assignment}
 use Rattle.lrp_model.specs.declared.formulas.Test.{Test}
 use Rattle.lrp_store.specs.Stores.{HasReach, IsStore}
@@ -18,7 +18,7 @@ use Rattle.lrp_tables.specs.Columns.{joint}
 use Rattle.lrp_tables.specs.Steps.{CanComplement, CanJoin, CanMinus, IsMinusResult}
 use Rattle.lrp_tables.specs.Tables.{Has, HasTexts, IsComplement, IsJoined, IsMinus, IsTableOf}
 use Rattle.lrp_algebra.proofs.Steps.{farther}
-use Rattle.lrp_periods.specs.Combining.{AreAllParts, CanMeetAlike, CanTakeAll, CanTakeAway, HaveBoth, IsMadeOfSome, IsSomePart}
+use Rattle.lrp_periods.specs.Combining.{AreAllParts, CanTakeAll, CanTakeAway, IsMadeOfSome, IsSomePart}
 use Rattle.lrp_periods.specs.Operations.{AreOperand, CanBePart, CanMinusInParts}
 use Rattle.lrp_periods.specs.Parts.{ArePartsAdded, AreParts, ArePartsOf, HasSome, IsPeriodPart, IsPartOfSet, IsSmallPeriod, part_times, part_texts}
 use Rattle.lrp_periods.specs.Periods.{IsCommonPeriod, IsOwnPeriod}
@@ -27,36 +27,6 @@ use Rattle.lrp_periods.specs.declared.parts.PartsFault.{PartsFault}
 use Rattle.lrp_periods.proofs.Gathering.{Set, added_as, some_last, some_left, some_none, some_split}
 use Rattle.lrp_periods.proofs.PartLaws.{checked_part, if_part, joint_texts, joint_times, meet_alike, own_part, part_as, part_low, part_of_table, part_own}
 use Rattle.lrp_periods.proofs.PeriodLaws.{own_high}
-
--- ---- the join of two parts over the same variables
-
-module _ {domain : List Text} {period : ℤ} {left right : Table} (can : CanMeetAlike domain period left right) {k : ℤ} (is : IsCommonPeriod (pos left.store.period) (pos right.store.period) period k) where
-  alike_small : nat_abs k ≤ 2 ^ 56
-  alike_small = own_high period k can.period_is is.own
-
-  pub can_meet : {tests : List Test} → tests ≡ [] → CanJoin k left right tests
-  can_meet {tests} none = record {
-    tables = record {
-      low = is.own.low;
-      high = (let s = alike_small in let l = is.own.low in omega (arith, ints));
-      left_period = is.of_left;
-      right_period = is.of_right;
-      left_reach = farther left.store (2 ^ 59) _ (let s = alike_small in omega arith) can.left_is.reach;
-      right_reach = farther right.store (2 ^ 59) _ (let s = alike_small in omega arith) can.right_is.reach;
-      columns = meet_alike left right can.left_is.valid can.right_is.times_are can.right_is.texts_are;
-    };
-    carried = subst (λ ts. AllByRecursion (CanBeCarried (joint left.vars.times right.vars.times) (joint left.vars.texts right.vars.texts) k) ts) (sym none) tt;
-    tests_small = subst (λ ts. tests_reach ts + nat_abs k ≤ 2 ^ 62) (sym none) (let s = alike_small in omega arith);
-  }
-
-  pub met_part : {tests : List Test} {made : Table} → tests ≡ [] → (r : Result Table PartsFault) → IsTableOf domain (joint left.vars.times right.vars.times) (joint left.vars.texts right.vars.texts) (nat_abs k) (IsJoined domain left right tests) made
-      → IfOk r (λ m. m ≡ made) → IfOk r (λ m. IsStore m.store) → IfOk r (λ m. HasReach m.store (2 ^ 59))
-      → IfOk r (IsPartOfSet domain left.vars.times left.vars.texts period (HaveBoth domain left right))
-  met_part {tests} {made} none r table same valid reach = if_part _ _ _ _ _ _ r (λ env h. record { in_left = h.in_left; in_right = h.in_right }) (λ env h. record { in_left = h.in_left; in_right = h.in_right; passes = subst (AllByRecursion _) (sym none) tt })
-      (checked_part r
-      (subst (λ ns. IsTableOf domain left.vars.times ns (nat_abs k) (IsJoined domain left right tests) made) (joint_texts left right can.left_is.valid can.right_is.times_are can.right_is.texts_are)
-      (subst (λ ns. IsTableOf domain ns (joint left.vars.texts right.vars.texts) (nat_abs k) (IsJoined domain left right tests) made) (joint_times left right can.left_is.valid can.right_is.times_are can.right_is.texts_are) table))
-      is.own.low is.own.divides same valid reach)
 
 -- ---- complements
 
@@ -94,29 +64,36 @@ module _ {domain : List Text} {period : ℤ} {of : List Table} (can : AreOperand
       subst (λ ps. IsPartOfSet domain (part_times of) (part_texts of) period (IsComplementOf domain (part_texts of) (HasSome domain ps)) made) (sym e)
       (part_as (λ env h. record { known = h.known; none = λ s. h.none (subst (λ t. Has t domain env) (sym (in_one part s.part s.listed)) s.has) }) (λ env h. record { known = h.known; none = λ x. h.none (record { part = part; listed = one_in part; has = x }) }) is)
 
-  pub can_meet_lacked : {made outside : Table} {set other : Set} → IsPartOfSet domain (part_times of) (part_texts of) period set made → IsPartOfSet domain (part_times of) (part_texts of) period other outside → CanMeetAlike domain period made outside
-  can_meet_lacked {made} {outside} a b = record {
-    period_is = can.period_is;
-    left_is = own_part a.part;
-    right_is = subst (λ ns. IsPeriodPart domain made.vars.times ns period outside) (sym a.part.texts_are) (subst (λ ns. IsPeriodPart domain ns (part_texts of) period outside) (sym a.part.times_are) b.part);
-  }
-
-  pub lacks_more : (n : ℕ) (part : Table) {made outside new : Table} → n < length of → part ≡ get_or of n part → LacksFirst n made → IsPartOfSet domain (part_times of) (part_texts of) period (IsComplementOf domain (part_texts of) (Has part domain)) outside
-      → IsPartOfSet domain made.vars.times made.vars.texts period (HaveBoth domain made outside) new → LacksFirst (n + 1) new
-  lacks_more n part {made} {outside} {new} low at first own both =
-      subst (λ ps. IsPartOfSet domain (part_times of) (part_texts of) period (IsComplementOf domain (part_texts of) (HasSome domain ps)) new) (sym (front_more of n part low at))
-      (part_as to from (subst (λ ns. IsPartOfSet domain (part_times of) ns period (HaveBoth domain made outside) new) first.part.texts_are (subst (λ ns. IsPartOfSet domain ns made.vars.texts period (HaveBoth domain made outside) new) first.part.times_are both)))
-    where
-      to : (env : Assignment) → HaveBoth domain made outside env → IsComplementOf domain (part_texts of) (HasSome domain (take n of ++ part ∷ [])) env
-      to env h = record {
-        known = (first.sound env h.in_left).known;
-        none = λ s. ⊎_elim (λ a. (first.sound env h.in_left).none a) (λ b. (own.sound env h.in_right).none b) (some_split domain (take n of) part env s);
+  -- the next part can be taken from what the first ones lack
+  pub can_take_lacked : {part made : Table} {set : Set} → Ascends domain → Contains of part → IsPartOfSet domain (part_times of) (part_texts of) period set made → CanTakeAway domain period made part
+  can_take_lacked {part} {made} ascends k is =
+      let own = can.parts_are.each part k in record {
+        period_is = can.period_is;
+        ascends = ascends;
+        left_is = own_part is.part;
+        right_is = own_part own;
+        columns = record {
+          times = λ v c. subst (λ ns. Contains ns v) (own.times_are ∙ sym is.part.times_are) c;
+          texts = λ v c. subst (λ ns. Contains ns v) (own.texts_are ∙ sym is.part.texts_are) c;
+        };
       }
 
-      from : (env : Assignment) → IsComplementOf domain (part_texts of) (HasSome domain (take n of ++ part ∷ [])) env → HaveBoth domain made outside env
+  pub lacks_more : (n : ℕ) (part : Table) {made new : Table} → n < length of → part ≡ get_or of n part → LacksFirst n made
+      → IsPartOfSet domain made.vars.times made.vars.texts period (IsDifferenceOf (Has made domain) (Has part domain)) new → LacksFirst (n + 1) new
+  lacks_more n part {made} {new} low at first less =
+      subst (λ ps. IsPartOfSet domain (part_times of) (part_texts of) period (IsComplementOf domain (part_texts of) (HasSome domain ps)) new) (sym (front_more of n part low at))
+      (part_as to from (subst (λ ns. IsPartOfSet domain (part_times of) ns period (IsDifferenceOf (Has made domain) (Has part domain)) new) first.part.texts_are (subst (λ ns. IsPartOfSet domain ns made.vars.texts period (IsDifferenceOf (Has made domain) (Has part domain)) new) first.part.times_are less)))
+    where
+      to : (env : Assignment) → IsDifferenceOf (Has made domain) (Has part domain) env → IsComplementOf domain (part_texts of) (HasSome domain (take n of ++ part ∷ [])) env
+      to env h = record {
+        known = (first.sound env h.has).known;
+        none = λ s. ⊎_elim (λ a. (first.sound env h.has).none a) (λ b. h.none b) (some_split domain (take n of) part env s);
+      }
+
+      from : (env : Assignment) → IsComplementOf domain (part_texts of) (HasSome domain (take n of ++ part ∷ [])) env → IsDifferenceOf (Has made domain) (Has part domain) env
       from env h = record {
-        in_left = first.whole env (record { known = h.known; none = λ s. h.none (some_left domain (take n of) (part ∷ []) env s) });
-        in_right = own.whole env (record { known = h.known; none = λ s. h.none (some_last domain (take n of) part env s) });
+        has = first.whole env (record { known = h.known; none = λ s. h.none (some_left domain (take n of) (part ∷ []) env s) });
+        none = λ x. h.none (some_last domain (take n of) part env x);
       }
 
   pub lacks_all : (n : ℕ) {made : Table} → length of ≤ n → LacksFirst n made → IsPartOfSet domain (part_times of) (part_texts of) period (IsComplementOf domain (part_texts of) (HasSome domain of)) made

@@ -72,17 +72,6 @@ pub record CanSelectPart (domain : List Text) (period : ℤ) (part : Table) (tes
   pub carried : CanBeCarried part.vars.times part.vars.texts period test
   pub small : test_reach test + nat_abs period ≤ 2 ^ 62
 
--- two parts over the same variables
-pub record CanMeetAlike (domain : List Text) (period : ℤ) (left right : Table) : Type 0 where
-  pub period_is : IsSmallPeriod period
-  pub left_is : IsSomePart domain period left
-  pub right_is : IsPeriodPart domain left.vars.times left.vars.texts period right
-
--- both tables have the assignment
-pub record HaveBoth (domain : List Text) (left right : Table) (env : Assignment) : Type 0 where
-  pub in_left : Has left domain env
-  pub in_right : Has right domain env
-
 -- two parts, of which the first has the variables of the second
 pub record CanTakeAway (domain : List Text) (period : ℤ) (left right : Table) : Type 0 where
   pub period_is : IsSmallPeriod period

@@ -7,4 +7,5 @@ pub mod Parts
 pub mod Periods
 pub mod Scanning
 pub mod Sets
+pub mod Sieves
 pub mod Windows

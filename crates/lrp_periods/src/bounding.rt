@@ -1,5 +1,5 @@
 // How many cells tables can have at another period, and how far their bounds reach.
-ghost use Rattle.std.specs.Prelude.{◌≡◌, ◌⊎◌, ◌*◌, ◌≤◌, ◌<◌, ◌+ℤ◌, ◌<ℤ◌, Some, IfSome, IsTrue, Contains, pos};
+ghost use Rattle.std.specs.Prelude.{◌≡◌, ◌⊎◌, ◌*◌, ◌≤◌, ◌<◌, ◌+ℤ◌, ◌<ℤ◌, [], Some, IfSome, IsTrue, Contains, length, pos};
 ghost use Rattle.lrp_theory.specs.Divides.{Divides};
 ghost use Rattle.lrp_theory.specs.Entries.{AtMost};
 ghost use Rattle.lrp_zone.specs.Zones.{IsZone, columns_of, reach_of};
@@ -7,6 +7,7 @@ ghost use Rattle.lrp_store.specs.Stores.{HasReach, IsStore};
 ghost use Rattle.lrp_tables.specs.declared.table.Table.{Table as TableOf};
 ghost use Rattle.lrp_periods.specs.Windows.{AreWays, IsWaysLeft, IsWindowBetween};
 ghost use Rattle.lrp_periods.specs.Bounding.{HasReachIn, HaveFewCells, TableHasFewCells};
+ghost use Rattle.lrp_periods.specs.Parts.{part_texts, part_times};
 
 use lrp_model::Cell;
 use lrp_store::Store;
@@ -22,6 +23,29 @@ pub fn cells_at_most(parts: &[Table], period: u64, cap: u32) -> Option<u32>
     ensures few { IfSome result (λ count. HaveFewCells count period parts.now) }
     ensures capped { IfSome result (λ _. HaveFewCells cap period parts.now) }
 {
+    let together = cells_together(parts, period, cap);
+    lesser(together, cells_of_line(parts, period, cap))
+}
+
+// The lesser of the numbers, or the one that there is.
+fn lesser(count: Option<u32>, other: Option<u32>) -> Option<u32>
+    ensures { IfSome result (λ least. (count ≡ Some least) ⊎ (other ≡ Some least)) }
+{
+    match (count, other) {
+        (Some(a), Some(b)) if b < a => other,
+        (Some(_), _) => count,
+        (None, _) => other,
+    }
+}
+
+// The sum of what each part has.
+fn cells_together(parts: &[Table], period: u64, cap: u32) -> Option<u32>
+    requires low { 0 < period }
+    requires multiples { (part : TableOf) → Contains parts.now part
+        → Divides (pos part.store.period) (pos period) }
+    ensures within { IfSome result (λ count. count ≤ cap) }
+    ensures few { IfSome result (λ count. HaveFewCells count period parts.now) }
+{
     let mut total = 0;
     for part in parts {
         match cells_of_table(part, period, cap - total) {
@@ -32,12 +56,37 @@ pub fn cells_at_most(parts: &[Table], period: u64, cap: u32) -> Option<u32>
     Some(total)
 }
 
+// As many as there are residues, where the parts have one time column and no other.
+fn cells_of_line(parts: &[Table], period: u64, cap: u32) -> Option<u32>
+    requires low { 0 < period }
+    ensures within { IfSome result (λ count. count ≤ cap) }
+    ensures few { IfSome result (λ count. HaveFewCells count period parts.now) }
+{
+    if is_line(parts) && period <= u64::from(cap) {
+        Some(period as u32)
+    } else {
+        None
+    }
+}
+
+/// Whether the parts have one time column and no other.
+pub fn is_line(parts: &[Table]) -> bool
+    ensures times { IsTrue result → length (part_times parts.now) ≡ 1 }
+    ensures texts { IsTrue result → part_texts parts.now ≡ [] }
+{
+    match parts {
+        [part, ..] => part.vars.times.len() == 1 && part.vars.texts.len() == 0,
+        [] => false,
+    }
+}
+
 /// A number of cells of this period, at most the cap, than which the table's assignments inhabit no more.
 pub fn cells_of_table(table: &Table, period: u64, cap: u32) -> Option<u32>
     requires low { 0 < period }
     requires multiple { Divides (pos table.now.store.period) (pos period) }
     ensures within { IfSome result (λ count. count ≤ cap) }
     ensures few { IfSome result (λ count. TableHasFewCells count period table.now) }
+    ensures capped { IfSome result (λ _. TableHasFewCells cap period table.now) }
 {
     match cells_by_cells(table, period, cap) {
         Some(count) => Some(count),

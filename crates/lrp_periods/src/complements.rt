@@ -1,21 +1,23 @@
 // Complements of parts: what none of the parts has.
-ghost use Rattle.std.specs.Prelude.{IfOk};
+ghost use Rattle.std.specs.Prelude.{◌≡◌, [], length, Contains, IfOk, IsTrue};
+ghost use Rattle.lrp_tables.specs.declared.table.Table.{Table as TableOf};
 ghost use Rattle.lrp_tables.specs.Tables.{IsComplement};
-ghost use Rattle.lrp_periods.specs.Combining.{CanMeetAlike, HaveBoth};
 ghost use Rattle.lrp_periods.specs.Operations.{AreOperand, CanBePart};
 ghost use Rattle.lrp_periods.specs.Parts.{ArePartsOf, HasSome, IsPartOfSet, part_times, part_texts};
 ghost use Rattle.lrp_periods.specs.Sets.{IsComplementOf};
+ghost use Rattle.lrp_periods.specs.Sieves.{HasWholeCells};
 
+use crate::bounding::is_line;
+use crate::differences::take_away;
 use crate::parts::{PartsFault, small};
-use crate::periods::common_period;
-use lrp_algebra::join;
+use crate::sieves::{are_whole, sifted};
 use lrp_minus::complement;
 use lrp_model::List;
 use lrp_tables::{Setting, Table};
 
 /// The assignments of integers and texts of the domain to the table's variables that are none of the table.
 ///
-/// They are the join of the parts' complements, each made in its own period.
+/// From what the first part lacks, made in its own period, the others are taken away one after another.
 pub fn complement_in_parts(
     setting: &Setting<'_>,
     of: &[Table],
@@ -28,9 +30,33 @@ pub fn complement_in_parts(
         (HasSome setting.now.domain.now of.now))) }
 {
     let mut parts = List::new(setting.alloc);
-    let made = lacked(setting, of, period)?;
+    let made = left_by_all(setting, of, period)?;
     parts.push(made)?;
     Ok(parts)
+}
+
+// What none of the parts has: by a sieve where that can be.
+fn left_by_all(setting: &Setting<'_>, of: &[Table], period: i64) -> Result<Table, PartsFault>
+    requires { AreOperand setting.now.domain.now period of.now }
+    ensures { IfOk result (IsPartOfSet setting.now.domain.now (part_times of.now)
+        (part_texts of.now) period
+        (IsComplementOf setting.now.domain.now (part_texts of.now)
+        (HasSome setting.now.domain.now of.now))) }
+{
+    if !can_be_sifted(of) {
+        return lacked(setting, of, period);
+    }
+    sifted(setting, of, period)
+}
+
+// Whether the parts have one time column and no other, and whole cells.
+fn can_be_sifted(of: &[Table]) -> bool
+    ensures times { IsTrue result → length (part_times of.now) ≡ 1 }
+    ensures texts { IsTrue result → part_texts of.now ≡ [] }
+    ensures whole { IsTrue result → (part : TableOf) → Contains of.now part
+        → HasWholeCells part.store }
+{
+    is_line(of) && are_whole(of)
 }
 
 // What none of the parts has, in one period.
@@ -41,11 +67,11 @@ fn lacked(setting: &Setting<'_>, of: &[Table], period: i64) -> Result<Table, Par
         (IsComplementOf setting.now.domain.now (part_texts of.now)
         (HasSome setting.now.domain.now of.now))) }
 {
+    setting.domain.len();
     let mut made = outside_of(setting, &of[0], period)?;
     for place in 1..of.len() {
-        let outside = outside_of(setting, &of[place], period)?;
-        let both = join_lacked(setting, &made, &outside, period)?;
-        made = both;
+        let less = take_away(setting, &made, &of[place], period)?;
+        made = less;
     }
     Ok(made)
 }
@@ -57,22 +83,5 @@ fn outside_of(setting: &Setting<'_>, part: &Table, period: i64) -> Result<Table,
         part.now.vars.texts period (IsComplement setting.now.domain.now part.now)) }
 {
     let made = complement(setting, part)?;
-    small(made)
-}
-
-// What two tables over the same variables have in common.
-fn join_lacked(
-    setting: &Setting<'_>,
-    left: &Table,
-    right: &Table,
-    period: i64,
-) -> Result<Table, PartsFault>
-    requires { CanMeetAlike setting.now.domain.now period left.now right.now }
-    ensures { IfOk result (IsPartOfSet setting.now.domain.now left.now.vars.times
-        left.now.vars.texts period (HaveBoth setting.now.domain.now left.now right.now)) }
-{
-    let tests = List::new(setting.alloc);
-    let own = common_period(left.store.period(), right.store.period(), period);
-    let made = join(setting, left, right, &tests, own)?;
     small(made)
 }

@@ -7,8 +7,8 @@ use Rattle.lrp_periods.proofs.PeriodLaws.{in_word, of_word}
 use Rattle.lrp_periods.proofs.TakenApart.{one_part}
 use Rattle.lrp_periods.proofs.complements.complement_in_parts.Goals as goal
 
-pub lacked-requires : goal.lacked-requires
-lacked-requires c = in_word c.requires.period_is (λ p. AreOperand c.args.setting.now.domain.now p c.args.of.now) c.requires
+pub left_by_all-requires : goal.left_by_all-requires
+left_by_all-requires c = in_word c.requires.period_is (λ p. AreOperand c.args.setting.now.domain.now p c.args.of.now) c.requires
 
 pub returns : goal.returns
 returns c = one_part (c.in_ok-push.ensures.ok ∙ ap (λ ps. ps ++ c.in_ok-made.made ∷ []) c.new-parts.ensures)

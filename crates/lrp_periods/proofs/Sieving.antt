@@ -1,0 +1,343 @@
+-- The numbers of one time column that parts cover.
+use Rattle.std.proofs.Common.{◌≡◌, ◌⊎◌, inl, inr, ⊎_elim, ℕ, zero, suc, ◌+◌, ◌<◌, ◌≤◌, ◌^◌, List, [], ◌∷◌, ◌++◌, length, map, take, replicate, Option, Some, None, Bool, true, false, Contains, get_or, refl, sym, ap, subst, ◌∙◌, arith, length-append, ◌%◌}
+use Rattle.std.specs.Prelude.{ℤ, pos, nat_abs, ◌-ℤ◌, ◌≤ℤ◌, ◌<ℤ◌, slice_get, slice_index_or}
+use Rattle.std.specs.FinMap as finite
+use Rattle.std.specs.Int.{int_rem_euclid}
+use Rattle.std.proofs.lemmas.Int.{ints}
+use Rattle.std.proofs.lemmas.List.{take_all}
+use Rattle.std.proofs.lemmas.List.Elements.{Contains-append_cases, Contains-append_left, Contains-append_right}
+use Rattle.lrp_theory.specs.Divides.{Divides}
+use Rattle.lrp_theory.specs.Entries.{node}
+use Rattle.lrp_theory.proofs.Members.{front_more, in_none, in_one, one_in}
+use Rattle.lrp_theory.proofs.Modulo.{Divides--, Divides-is, Divides-zero, rem_between, rem_divides, small_multiple}
+use Rattle.lrp_theory.proofs.Multiples.{Divides-trans}
+use Rattle.lrp_model.specs.Texts.{Ascends, Identifier, Text}
+use Rattle.lrp_model.specs.Satisfaction.{Assignment}
+use Rattle.lrp_model.specs.declared.tuples.Cell.{Cell}
+use Rattle.lrp_model.specs.declared.tuples.Shape.{Shape}
+use Rattle.lrp_zone.specs.Zones.{IsInCell, IsMember, IsResidue, ZoneView, greatest_of}
+use Rattle.lrp_store.specs.Growing.{IsAdded, IsTupleOf}
+use Rattle.lrp_store.specs.Stores.{BeginsWhole, InStore, IsCellOf, IsPadded, IsStore, LiesInCell, StoreView, tables_at, zone_of}
+use Rattle.lrp_store.proofs.Counted.{lies_in, one_cell}
+use Rattle.lrp_store.proofs.Grown.{Set, grown_same}
+use Rattle.lrp_store.proofs.Held.{cell_held, node_take}
+use Rattle.lrp_tables.proofs.FreeZones.{free_zone}
+use Rattle.lrp_tables.proofs.Gathering.{IsGathering, added_as, gathered, gathering_more, gathering_none}
+use Rattle.lrp_periods.specs.Sieves.{CanSift, HasWholeCells, IsCoveredNumber, IsCoverOf, IsLeftOpen, IsLineStore, IsOpen, IsShut, MarksWhole, line_cell}
+use Rattle.lrp_periods.specs.declared.sieves.Cover.{Cover}
+
+-- ---- the cell of a residue
+
+-- a list of one value and noughts
+no_bound : (n i : ℕ) → get_or {A = Option ℤ} (replicate n None) i None ≡ None
+no_bound zero i = refl
+no_bound (suc n) zero = refl
+no_bound (suc n) (suc i) = no_bound n i
+
+no_reach : (n : ℕ) → greatest_of (replicate n None) ≤ 0
+no_reach zero = omega arith
+no_reach (suc n) = let r : greatest_of (replicate n None) ≤ 0 = no_reach n in omega (arith, r)
+
+nought : {X : Type 0} (z : X) (n i : ℕ) → get_or (replicate n z) i z ≡ z
+nought z zero i = refl
+nought z (suc n) zero = refl
+nought z (suc n) (suc i) = nought z n i
+
+one_and_noughts : (r : ℤ) (i : ℕ) → 1 ≤ i → get_or (r ∷ replicate 7 (pos 0)) i (pos 0) ≡ pos 0
+one_and_noughts r zero l = absurd (omega arith)
+one_and_noughts r (suc i) l = nought (pos 0) 7 i
+
+pub line_proper : (shape : Shape) (k r : ℕ) → shape.times ≡ 1 → shape.texts ≡ 0 → r < k → IsCellOf shape k (line_cell r)
+line_proper shape k r t x low = record {
+  texts = record { size = refl; zeros = λ i h. nought 0 8 i };
+  residues = record { size = refl; zeros = λ i h. one_and_noughts (pos r) i (let e : shape.times ≡ 1 = t in omega (arith, e, h)) };
+  range = λ i h. range i (let e : shape.times ≡ 1 = t in omega (arith, e, h));
+}
+  where
+    range : (i : ℕ) → i ≤ 1 → IsResidue k (node (pos r ∷ replicate 7 (pos 0)) i)
+    range zero l = record { low = omega (arith, ints); high = omega (arith, ints, low) }
+    range (suc zero) l = record { low = omega (arith, ints); high = omega (arith, ints, low) }
+    range (suc (suc i)) l = absurd (omega arith)
+
+-- a number lies in it where the residue is its own
+pub line_lies : (shape : Shape) (k r : ℕ) (x : ℤ) → shape.times ≡ 1 → shape.texts ≡ 0 → Divides (pos k) (x -ℤ pos r) → LiesInCell shape k (line_cell r) (x ∷ []) []
+line_lies shape k r x t e d = record {
+  count = sym t;
+  residues = λ i h. at i (let s : shape.times ≡ 1 = t in omega (arith, s, h));
+  named = ap (λ n. take n (replicate 8 0)) e;
+}
+  where
+    at : (i : ℕ) → i ≤ 1 → Divides (pos k) (node (x ∷ []) i -ℤ node (pos r ∷ replicate 7 (pos 0)) i)
+    at zero l = Divides-zero (pos k)
+    at (suc zero) l = d
+    at (suc (suc i)) l = absurd (omega arith)
+
+-- an integer between is a natural number
+natural_below : (z : ℤ) (k : ℕ) → pos 0 ≤ℤ z → z <ℤ pos k → (n : ℕ) × (z ≡ pos n) × (n < k)
+natural_below z k low high = (nat_abs z, (omega (arith, ints)), omega (arith, ints))
+
+-- ---- one store
+
+module _ (s : StoreView) (line : IsLineStore s) where
+  few : s.shape.times ≤ 8
+  few = let e : s.shape.times ≡ 1 = line.times in omega (arith, e)
+
+  -- the zone without bounds of the cell
+  columns : (r : ℕ) → length (take s.shape.times (line_cell r).residues) ≡ 1
+  columns r = ap (λ n. length (take n (pos r ∷ replicate 7 (pos 0)))) line.times
+
+  pub in_line : (r : ℕ) (x : ℤ) → Divides (pos s.period) (x -ℤ pos r) → IsMember (zone_of s (line_cell r) (replicate 81 None)) (x ∷ [])
+  in_line r x d = free_zone (zone_of s (line_cell r) (replicate 81 None)) (let e = columns r in omega (arith, e)) (λ i l. no_bound 81 i) (x ∷ []) (record {
+    count = sym (columns r);
+    each = λ i l. let low : i ≤ 1 = (let e = columns r in omega (arith, e, l)) in
+        subst (λ (t : ℤ). Divides (pos s.period) (node (x ∷ []) i -ℤ t)) (sym (node_take s.shape.times (line_cell r).residues i (let e : s.shape.times ≡ 1 = line.times in omega (arith, e, low)))) ((line_lies s.shape s.period r x line.times line.texts d).residues i (let e : s.shape.times ≡ 1 = line.times in omega (arith, e, low)));
+  })
+
+  -- and what is in it has the residue
+  pub of_line : (r : ℕ) (xs : List ℤ) → IsMember (zone_of s (line_cell r) (replicate 81 None)) xs → (x : ℤ) × (xs ≡ x ∷ []) × Divides (pos s.period) (x -ℤ pos r)
+  of_line r [] m = absurd (let c : 0 ≡ length (take s.shape.times (line_cell r).residues) = m.cell.count in let e = columns r in omega (arith, c, e))
+  of_line r (x ∷ y ∷ xs) m = absurd (let c : suc (suc (length xs)) ≡ length (take s.shape.times (line_cell r).residues) = m.cell.count in let e = columns r in omega (arith, c, e))
+  of_line r (x ∷ []) m = (x, refl, subst (λ (t : ℤ). Divides (pos s.period) (x -ℤ t)) (node_take s.shape.times (line_cell r).residues 1 (let e : s.shape.times ≡ 1 = line.times in omega (arith, e))) (m.cell.each 1 (let e = columns r in omega (arith, e))))
+
+  -- a cell that is held whole holds each number of its residue
+  pub whole_holds : (r : ℕ) (x : ℤ) → BeginsWhole s (line_cell r) → Divides (pos s.period) (x -ℤ pos r) → InStore s (x ∷ []) []
+  whole_holds r x begins d = record {
+    cell = line_cell r;
+    table = replicate 81 None;
+    held = first (tables_at s (line_cell r)) begins;
+    named = ap (λ n. take n (replicate 8 0)) line.texts;
+    inside = in_line r x d;
+  }
+    where
+      first : (ts : List (List (Option ℤ))) → slice_get ts 0 ≡ Some (replicate 81 None) → Contains ts (replicate 81 None)
+      first [] e = cc
+      first (t ∷ ts) e = (0, omega arith, cc)
+
+  -- where each cell is, a number that is held has its residue's cell whole
+  pub held_whole : HasWholeCells s → (x : ℤ) → InStore s (x ∷ []) [] → (r : ℕ) × (r < s.period) × BeginsWhole s (line_cell r) × Divides (pos s.period) (x -ℤ pos r)
+  held_whole all x h =
+      let low : 0 < s.period = line.valid.period_low in
+      let one : pos 1 ≤ℤ pos s.period = omega (arith, ints) in
+      let b = rem_between (pos s.period) x (int_rem_euclid x (pos s.period)) one refl in
+      let d = rem_divides (pos s.period) x (int_rem_euclid x (pos s.period)) one refl in
+      let n = natural_below (int_rem_euclid x (pos s.period)) s.period b.0 b.1 in
+      let e : Divides (pos s.period) (x -ℤ pos n.0) = subst (λ (t : ℤ). Divides (pos s.period) (x -ℤ t)) n.1 d in
+      let proper = cell_held s line.valid h.cell h.table h.held in
+      let same : h.cell ≡ line_cell n.0 = one_cell s.shape s.period h.cell (line_cell n.0) (x ∷ []) [] proper (line_proper s.shape s.period n.0 line.times line.texts n.2) (lies_in s line.valid (x ∷ []) [] h) (line_lies s.shape s.period n.0 x line.times line.texts e) in
+      (n.0, n.2, subst (BeginsWhole s) same (all h.cell h.table h.held), e)
+
+  -- so the marks of its whole cells are a cover of it
+  pub is_cover : HasWholeCells s → (cover : Cover) → length cover.residues ≡ s.period → MarksWhole s cover.residues → IsCoverOf s cover
+  is_cover all cover count marks = record {
+    count = count;
+    sound = λ x c. whole_holds c.residue x (marks.sound c.residue c.marked) (subst (λ k. Divides (pos k) (x -ℤ pos c.residue)) count c.is);
+    whole = λ x h. let w = held_whole all x h in record {
+      residue = w.0;
+      marked = marks.whole w.0 (let l : w.0 < s.period = w.1 in omega (arith, l, count)) w.2;
+      is = subst (λ k. Divides (pos k) (x -ℤ pos w.0)) (sym count) w.3;
+    };
+  }
+
+-- ---- marks
+
+got_at : {X : Type 0} (xs : List X) (x y : X) (i : ℕ) → slice_get (xs ++ x ∷ []) i ≡ Some y → (slice_get xs i ≡ Some y) ⊎ ((i ≡ length xs) × (x ≡ y))
+got_at [] x y zero e = inr (refl, cc)
+got_at [] x y (suc i) e = cc
+got_at (z ∷ zs) x y zero e = inl e
+got_at (z ∷ zs) x y (suc i) e = ⊎_elim (λ l. inl l) (λ r. inr (ap suc r.0, r.1)) (got_at zs x y i e)
+
+front_at : {X : Type 0} (xs : List X) (x : X) (i : ℕ) → i < length xs → slice_get (xs ++ x ∷ []) i ≡ slice_get xs i
+front_at [] x i lt = absurd (omega arith)
+front_at (y ∷ xs) x zero lt = refl
+front_at (y ∷ xs) x (suc i) lt = front_at xs x i (omega arith)
+
+last_at : {X : Type 0} (xs : List X) (x : X) → slice_get (xs ++ x ∷ []) (length xs) ≡ Some x
+last_at [] x = refl
+last_at (z ∷ zs) x = last_at zs x
+
+pub marks_none : (s : StoreView) (marks : List Bool) → marks ≡ [] → MarksWhole s marks
+marks_none s marks none = subst (MarksWhole s) (sym none) (record { sound = λ r e. cc; whole = λ r l b. absurd (omega arith) })
+
+pub marks_more : (s : StoreView) (marks new : List Bool) (n : ℕ) (mark : Bool) → n ≡ length marks → new ≡ marks ++ mark ∷ [] → (mark ≡ true → BeginsWhole s (line_cell n)) → (BeginsWhole s (line_cell n) → mark ≡ true) → MarksWhole s marks → MarksWhole s new
+marks_more s marks new n mark count same to from m = subst (MarksWhole s) (sym same) (record {
+  sound = λ r e. ⊎_elim (λ old. m.sound r old) (λ own. subst (λ k. BeginsWhole s (line_cell k)) (count ∙ sym own.0) (to own.1)) (got_at marks mark true r e);
+  whole = λ r l b. elim (below r (length marks)) [
+    | inl less ↦ front_at marks mark r less ∙ m.whole r less b
+    | inr more ↦ (let e : r ≡ length marks = (let a : length (marks ++ mark ∷ []) ≡ length marks + 1 = length-append marks (mark ∷ []) in omega (arith, a, l, more)) in
+        rw e (last_at marks mark ∙ ap Some (from (subst (λ k. BeginsWhole s (line_cell k)) (e ∙ sym count) b))))
+  ];
+})
+  where
+    below : (m n : ℕ) → (m < n) ⊎ (n ≤ m)
+    below m n = grind arith
+
+-- ---- whether a cover has a residue's numbers
+
+only_mark : (cover : Cover) (residue place : ℕ) → place < length cover.residues → Divides (pos (length cover.residues)) (pos residue -ℤ pos place) → slice_get cover.residues place ≡ Some false → IsCoveredNumber cover (pos residue) → ⊥
+only_mark cover residue place low d unmarked c =
+    let within : c.residue < length cover.residues = inside cover.residues c.residue true c.marked in
+    let e : pos c.residue -ℤ pos place ≡ pos 0 = small_multiple (length cover.residues) (pos c.residue -ℤ pos place)
+    (Divides-is (pos (length cover.residues)) ((pos residue -ℤ pos place) -ℤ (pos residue -ℤ pos c.residue)) (pos c.residue -ℤ pos place) (omega (arith, ints)) (Divides-- (pos (length cover.residues)) (pos residue -ℤ pos place) (pos residue -ℤ pos c.residue) d c.is))
+    (omega (arith, ints, low, within)) (omega (arith, ints, low, within)) in
+    let same : c.residue ≡ place = omega (arith, ints, e) in
+    let both : Some true ≡ Some false = sym c.marked ∙ ap (λ i. slice_get cover.residues i) same ∙ unmarked in
+    cc
+  where
+    inside : {X : Type 0} (xs : List X) (i : ℕ) (x : X) → slice_get xs i ≡ Some x → i < length xs
+    inside [] i x e = cc
+    inside (y ∷ ys) zero x e = omega arith
+    inside (y ∷ ys) (suc i) x e = let l : i < length ys = inside ys i x e in omega (arith, l)
+
+read_at : (marks : List Bool) (i : ℕ) → i < length marks → slice_get marks i ≡ Some (slice_index_or marks i false)
+read_at [] i l = absurd (omega arith)
+read_at (m ∷ marks) zero l = refl
+read_at (m ∷ marks) (suc i) l = read_at marks i (omega arith)
+
+module _ (cover : Cover) (residue : ℕ) (marks : List Bool) (same : marks ≡ cover.residues) (some : 0 < length cover.residues) where
+  place_low : residue % length marks < length marks
+  place_low = let l : 0 < length marks = subst (λ (ms : List Bool). 0 < length ms) (sym same) some in omega (arith, l)
+
+  place_is : Divides (pos (length marks)) (pos residue -ℤ pos (residue % length marks))
+  place_is = let l : 0 < length marks = subst (λ (ms : List Bool). 0 < length ms) (sym same) some in rem_divides (pos (length marks)) (pos residue) (pos (residue % length marks)) (omega (arith, ints, l)) refl
+
+  -- the mark at its remainder tells whether a residue is covered
+  pub marked_there : slice_index_or marks (residue % length marks) false ≡ true → IsCoveredNumber cover (pos residue)
+  marked_there e = record {
+    residue = residue % length marks;
+    marked = subst (λ (ms : List Bool). slice_get ms (residue % length marks) ≡ Some true) same (read_at marks (residue % length marks) place_low ∙ ap Some e);
+    is = subst (λ (ms : List Bool). Divides (pos (length ms)) (pos residue -ℤ pos (residue % length marks))) same place_is;
+  }
+
+  pub unmarked_there : slice_index_or marks (residue % length marks) false ≡ false → IsCoveredNumber cover (pos residue) → ⊥
+  unmarked_there e = only_mark cover residue (residue % length marks) (subst (λ (ms : List Bool). residue % length marks < length ms) same place_low)
+      (subst (λ (ms : List Bool). Divides (pos (length ms)) (pos residue -ℤ pos (residue % length marks))) same place_is)
+      (subst (λ (ms : List Bool). slice_get ms (residue % length marks) ≡ Some false) same (read_at marks (residue % length marks) place_low ∙ ap Some e))
+
+-- ---- covers, one after another
+
+-- none of the first covers has the number
+abbrev pub AreFirstOpen : List Cover → ℤ → ℕ → Type 0
+AreFirstOpen covers x n = IsOpen (take n covers) x
+
+pub none_open : (covers : List Cover) (x : ℤ) (n : ℕ) → n ≡ 0 → AreFirstOpen covers x n
+none_open covers x n e cover k c = in_none cover (subst (λ m. Contains (take m covers) cover) e k)
+
+pub more_open : (covers : List Cover) (x : ℤ) (n : ℕ) (cover : Cover) → n < length covers → cover ≡ get_or covers n cover → AreFirstOpen covers x n → (IsCoveredNumber cover x → ⊥) → AreFirstOpen covers x (n + 1)
+more_open covers x n cover low at first own other k c = elim (Contains-append_cases (take n covers) (cover ∷ []) other (subst (λ cs. Contains cs other) (front_more covers n cover low at) k)) [
+  | inl a ↦ first other a c
+  | inr b ↦ own (subst (λ d. IsCoveredNumber d x) (sym (in_one cover other b)) c)
+]
+
+pub all_open : (covers : List Cover) (x : ℤ) (n : ℕ) → length covers ≤ n → AreFirstOpen covers x n → IsOpen covers x
+all_open covers x n high first = subst (λ cs. IsOpen cs x) (take_all n covers high) first
+
+-- ---- numbers of one residue
+
+-- what is covered at a residue is so at each of its numbers, and the other way round
+module _ (covers : List Cover) (own : ℕ) (divide : (cover : Cover) → Contains covers cover → Divides (pos (length cover.residues)) (pos own)) where
+  moved : (cover : Cover) → Contains covers cover → (x y : ℤ) → Divides (pos own) (x -ℤ y) → IsCoveredNumber cover x → IsCoveredNumber cover y
+  moved cover k x y d c = record {
+    residue = c.residue;
+    marked = c.marked;
+    is = Divides-is (pos (length cover.residues)) ((x -ℤ pos c.residue) -ℤ (x -ℤ y)) (y -ℤ pos c.residue) (omega (arith, ints)) (Divides-- (pos (length cover.residues)) (x -ℤ pos c.residue) (x -ℤ y) c.is (Divides-trans (pos (length cover.residues)) (pos own) (x -ℤ y) (divide cover k) d));
+  }
+
+  back : (x y : ℤ) → Divides (pos own) (x -ℤ y) → Divides (pos own) (y -ℤ x)
+  back x y d = Divides-is (pos own) (pos 0 -ℤ (x -ℤ y)) (y -ℤ x) (omega (arith, ints)) (Divides-- (pos own) (pos 0) (x -ℤ y) (Divides-zero (pos own)) d)
+
+  pub open_there : (x y : ℤ) → Divides (pos own) (x -ℤ y) → IsOpen covers y → IsOpen covers x
+  open_there x y d uncovered cover k c = uncovered cover k (moved cover k x y d c)
+
+  pub shut_there : (x y : ℤ) → Divides (pos own) (x -ℤ y) → IsShut covers y → IsOpen covers x → ⊥
+  shut_there x y d shut uncovered = uncovered shut.0 shut.1 (moved shut.0 shut.1 y x (back x y d) shut.2)
+
+-- ---- residue after residue
+
+-- a number whose residue is this one or a later one
+pub record IsLater (own residue : ℕ) (xs : List ℤ) (ns : List ℕ) : Type 0 where
+  pub at : ℕ
+  pub later : residue ≤ at
+  pub high : at < own
+  pub is : Divides (pos own) (node xs 1 -ℤ pos at)
+
+-- one whose residue is this
+record IsOpenAt (covers : List Cover) (own residue : ℕ) (xs : List ℤ) (ns : List ℕ) : Type 0 where
+  uncovered : IsLeftOpen covers xs ns
+  is : Divides (pos own) (node xs 1 -ℤ pos residue)
+
+-- what was added of the residues before this one
+abbrev pub IsSifting : List Cover → ℕ → ℕ → StoreView → ℕ → StoreView → Type 0
+IsSifting covers own cap start residue out = IsGathering (IsLeftOpen covers) (IsLater own residue) cap 0 start out
+
+module _ (covers : List Cover) (own cap : ℕ) (start : StoreView) (can : CanSift covers own start) where
+  pub sifting_none : IsSifting covers own cap start 0 start
+  sifting_none = gathering_none (IsLeftOpen covers) cap 0 start (IsLater own 0) can.line.valid (λ xs ns h. from xs ns)
+    where
+      from : (xs : List ℤ) (ns : List ℕ) → IsLater own 0 xs ns
+      from xs ns =
+          let one : pos 1 ≤ℤ pos own = (let l = can.low in omega (arith, ints, l)) in
+          let b = rem_between (pos own) (node xs 1) (int_rem_euclid (node xs 1) (pos own)) one refl in
+          let d = rem_divides (pos own) (node xs 1) (int_rem_euclid (node xs 1) (pos own)) one refl in
+          let n = natural_below (int_rem_euclid (node xs 1) (pos own)) own b.0 b.1 in
+          record { at = n.0; later = omega arith; high = n.2; is = subst (λ (t : ℤ). Divides (pos own) (node xs 1 -ℤ t)) n.1 d }
+
+  to_left : (residue : ℕ) (xs : List ℤ) (ns : List ℕ) → IsOpenAt covers own residue xs ns → IsLeftOpen covers xs ns
+  to_left residue xs ns h = h.uncovered
+
+  split : (residue : ℕ) (xs : List ℤ) (ns : List ℕ) → IsLeftOpen covers xs ns → IsLater own residue xs ns → IsOpenAt covers own residue xs ns ⊎ IsLater own (residue + 1) xs ns
+  split residue xs ns h l = elim (cases residue l.at l.later) [
+    | inl e ↦ inl (record { uncovered = h; is = subst (λ (t : ℕ). Divides (pos own) (node xs 1 -ℤ pos t)) (sym e) l.is })
+    | inr more ↦ inr (record { at = l.at; later = more; high = l.high; is = l.is })
+  ]
+    where
+      cases : (m n : ℕ) → m ≤ n → (m ≡ n) ⊎ (m + 1 ≤ n)
+      cases m n h = grind arith
+
+  module _ (residue : ℕ) (out : StoreView) (g : IsSifting covers own cap start residue out) where
+    pub sifting_line : IsLineStore out
+    sifting_line = record {
+      valid = g.grown.valid;
+      times = ap (λ (q : Shape). q.times) g.grown.shape ∙ can.line.times;
+      texts = ap (λ (q : Shape). q.texts) g.grown.shape ∙ can.line.texts;
+    }
+
+    out_period : out.period ≡ own
+    out_period = g.grown.period ∙ can.period_is
+
+    pub sifting_proper : residue < own → IsCellOf out.shape out.period (line_cell residue)
+    sifting_proper low = line_proper out.shape out.period residue sifting_line.times sifting_line.texts (subst (λ k. residue < k) (sym out_period) low)
+
+    -- a residue that a cover has leaves nothing
+    pub sifting_shut : IsShut covers (pos residue) → IsSifting covers own cap start (residue + 1) out
+    sifting_shut shut = gathering_more (IsLeftOpen covers) cap 0 start (IsLater own residue) (IsLater own (residue + 1)) (IsOpenAt covers own residue) 0 out out g (omega arith) (to_left residue) (split residue)
+        (record { grown = grown_same cap 0 (IsOpenAt covers own residue) out g.grown.valid; whole = record { each = λ xs ns h. absurd (none xs ns h) } })
+      where
+        none : (xs : List ℤ) (ns : List ℕ) → IsOpenAt covers own residue xs ns → ⊥
+        none xs ns h = shut_there covers own can.divide h.uncovered.number (pos residue) (subst (λ (l : List ℤ). Divides (pos own) (node l 1 -ℤ pos residue)) h.uncovered.times_are h.is) shut h.uncovered.uncovered
+
+    -- another one is added whole
+    pub sifting_open : (new : StoreView) → IsOpen covers (pos residue) → IsAdded (IsTupleOf (zone_of out (line_cell residue) (replicate 81 None)) (take out.shape.texts (line_cell residue).texts)) cap (greatest_of (replicate 81 None)) out new → IsSifting covers own cap start (residue + 1) new
+    sifting_open new uncovered a = gathering_more (IsLeftOpen covers) cap 0 start (IsLater own residue) (IsLater own (residue + 1)) (IsOpenAt covers own residue) 0 out new g (omega arith) (to_left residue) (split residue)
+        (added_as cap (IsTupleOf (zone_of out (line_cell residue) (replicate 81 None)) (take out.shape.texts (line_cell residue).texts)) (IsOpenAt covers own residue) (greatest_of (replicate 81 None)) 0 (no_reach 81) out new g.grown.valid to from a)
+      where
+        no_texts : take out.shape.texts (line_cell residue).texts ≡ []
+        no_texts = ap (λ n. take n (replicate 8 0)) sifting_line.texts
+
+        to : (xs : List ℤ) (ns : List ℕ) → IsTupleOf (zone_of out (line_cell residue) (replicate 81 None)) (take out.shape.texts (line_cell residue).texts) xs ns → IsOpenAt covers own residue xs ns
+        to xs ns h =
+            let m = of_line out sifting_line residue xs h.member in
+            let d : Divides (pos own) (m.0 -ℤ pos residue) = subst (λ (k : ℕ). Divides (pos k) (m.0 -ℤ pos residue)) out_period m.2 in
+            record {
+              uncovered = record { number = m.0; times_are = m.1; none = sym h.same ∙ no_texts; uncovered = open_there covers own can.divide m.0 (pos residue) d uncovered };
+              is = subst (λ (l : List ℤ). Divides (pos own) (node l 1 -ℤ pos residue)) (sym m.1) d;
+            }
+
+        from : (xs : List ℤ) (ns : List ℕ) → IsOpenAt covers own residue xs ns → IsTupleOf (zone_of out (line_cell residue) (replicate 81 None)) (take out.shape.texts (line_cell residue).texts) xs ns
+        from xs ns h = record {
+          member = subst (IsMember (zone_of out (line_cell residue) (replicate 81 None))) (sym h.uncovered.times_are)
+              (in_line out sifting_line residue h.uncovered.number (subst (λ (k : ℕ). Divides (pos k) (h.uncovered.number -ℤ pos residue)) (sym out_period) (subst (λ (l : List ℤ). Divides (pos own) (node l 1 -ℤ pos residue)) h.uncovered.times_are h.is)));
+          same = no_texts ∙ sym h.uncovered.none;
+        }
+
+  pub sifting_all : (residue : ℕ) (out : StoreView) → own ≤ residue → IsSifting covers own cap start residue out → IsAdded (IsLeftOpen covers) cap 0 start out
+  sifting_all residue out high g = gathered (IsLeftOpen covers) cap 0 start (IsLater own residue) out g (λ xs ns h l. let a = l.later in let b = l.high in absurd (omega (arith, a, b, high)))
