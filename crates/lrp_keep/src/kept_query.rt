@@ -14,6 +14,9 @@ use lrp_tables::StepFault;
 use std::alloc::Global;
 
 /// A query with its disjuncts, the constants, and the greatest number of cells that a part of a choice may have.
+///
+/// The query is read where it stands: a copy means the same but is another value, and what a keeper stands for names the
+/// query that it was opened with.
 #[derive(Drop)]
 pub(crate) struct KeptQuery<'a> {
     pub(crate) alloc: Global,

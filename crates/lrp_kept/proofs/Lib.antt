@@ -23,3 +23,4 @@ pub mod EmptyRows
 pub mod FirstEqual
 pub mod Zipped
 pub mod Sketched
+pub mod Spanning

@@ -16,3 +16,5 @@ pub mod Sizes
 pub mod Held
 pub mod Keyed
 pub mod Sketches
+pub mod Features
+pub mod Passing

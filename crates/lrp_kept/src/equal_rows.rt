@@ -7,7 +7,7 @@ ghost use Rattle.lrp_kept.specs.EqualRows.{AreEqualPoints, AreEqualRows, AreEqua
 use lrp_model::{Bound, Row, RowPoint, Value};
 
 /// Whether the rows have equal texts, equal points with offsets taken modulo their periods, and equal lists of bounds.
-pub(crate) fn are_equal(left: &Row, right: &Row) -> bool
+pub fn are_equal(left: &Row, right: &Row) -> bool
     ensures { IsTrue result ↔ AreEqualRows left.now right.now }
 {
     are_equal_values(left.values.as_slice(), right.values.as_slice())

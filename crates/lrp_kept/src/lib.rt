@@ -3,17 +3,21 @@
 
 mod disjuncts;
 mod equal_rows;
+mod features;
 mod kept;
 mod laws;
 mod limits;
 mod looking;
 mod outlines;
+mod passing;
 mod rows;
 mod signs;
 mod sketches;
 mod spans;
 
 pub use disjuncts::{Disjunct, JoinedAtom, disjuncts_of};
+pub use equal_rows::are_equal;
+pub use features::Feature;
 pub use kept::is_kept;
 pub use laws::kept_queries_are_choices;
 pub use limits::{is_read, scaled_reach, tested_period, with_bounds, with_periods};

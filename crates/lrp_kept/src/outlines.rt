@@ -8,7 +8,7 @@ ghost use Rattle.lrp_zone.specs.Zones.{columns_of, IsMember, IsZone};
 ghost use Rattle.lrp_kept.specs.Outlines.{AreFirstKnown, AreNarrowed, IsFull, IsInOutline, IsOutlineFor, IsOutlineOf};
 ghost use Rattle.lrp_kept.specs.Spans.{IsAtLeast, IsAtMost, IsInSpan, IsOfPoint};
 
-use crate::spans::{ColumnSpan, are_apart_somewhere, differ_somewhere};
+use crate::spans::{ColumnSpan, OPEN, are_apart_somewhere, differ_somewhere, lowered, raised};
 use lrp_algebra::{Known, Pattern, Placed, row_pattern};
 use lrp_model::{Domain, List, Memory, Row, Term};
 use lrp_point::Point;
@@ -19,16 +19,9 @@ use std::alloc::Global;
 /// The texts that are known, by number, and the spans of times, each by the place of its variable.
 #[derive(Clone, Copy)]
 pub struct Outline {
-    texts: [Option<u32>; 8],
-    times: [ColumnSpan; 8],
+    pub(crate) texts: [Option<u32>; 8],
+    pub(crate) times: [ColumnSpan; 8],
 }
-
-// Nothing is known.
-const OPEN: ColumnSpan = ColumnSpan {
-    least: None,
-    most: None,
-    point: None,
-};
 
 impl Outline {
     /// What a row leaves to the variables, the values of which an atom's terms have.
@@ -155,15 +148,6 @@ fn later(least: Option<i64>, bound: Option<i64>) -> Option<i64>
     }
 }
 
-fn raised(least: Option<i64>, further: i64) -> Option<i64>
-    ensures { (x : ℤ) → IsAtLeast least x → further ≤ℤ x → IsAtLeast result x }
-{
-    match least {
-        Some(own) if own > further => Some(own),
-        _ => Some(further),
-    }
-}
-
 // The number below 0 as a bound is above it, where there is one.
 fn negated(bound: Option<i64>) -> Option<i64>
     ensures { (x : ℤ) → IsAtMost bound (pos 0 -ℤ x) → IsAtLeast result x }
@@ -181,15 +165,6 @@ fn sooner(most: Option<i64>, bound: Option<i64>) -> Option<i64>
     match bound {
         Some(further) => lowered(most, further),
         None => most,
-    }
-}
-
-fn lowered(most: Option<i64>, further: i64) -> Option<i64>
-    ensures { (x : ℤ) → IsAtMost most x → x ≤ℤ further → IsAtMost result x }
-{
-    match most {
-        Some(own) if own < further => Some(own),
-        _ => Some(further),
     }
 }
 

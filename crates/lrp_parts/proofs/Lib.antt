@@ -21,3 +21,5 @@ pub mod Packing
 pub mod SmallAnswers
 pub mod Reading
 pub mod Firsts
+pub mod Candidates
+pub mod Indexing

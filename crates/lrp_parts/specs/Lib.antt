@@ -6,3 +6,4 @@ pub mod Firsts
 -- What functions inside say to one another.
 pub mod Patterns
 pub mod Conjunctions
+pub mod Indexes

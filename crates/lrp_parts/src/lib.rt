@@ -5,6 +5,7 @@ mod bound;
 mod conjunctions;
 mod derivation;
 mod heads;
+mod indexes;
 mod parts;
 mod patterns;
 

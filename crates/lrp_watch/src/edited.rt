@@ -9,9 +9,9 @@ ghost use Rattle.lrp_model.specs.Kept.{AreKept};
 ghost use Rattle.lrp_watch.specs.Changes.{IsFirstEqualAt, IsWithoutPlace};
 ghost use Rattle.lrp_watch.specs.Edited.{IsEdited};
 
-use crate::equal_rows::are_equal;
 use lrp_database::Database;
 use lrp_edits::Edit;
+use lrp_kept::are_equal;
 use lrp_model::{Copies, List, Memory, Name, Relation, Row};
 use std::alloc::Global;
 

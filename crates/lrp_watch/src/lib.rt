@@ -4,7 +4,6 @@
 mod anew;
 mod domains;
 mod edited;
-mod equal_rows;
 mod faults;
 mod watching;
 

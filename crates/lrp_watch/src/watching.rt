@@ -46,7 +46,7 @@ pub fn least_answers(
     Ok(Leasts { answer, spots })
 }
 
-/// No answers of a query: its head and the constants, by which spots are told.
+/// No answers of a query: its head and the constants, by which spots are told, so that no zone is made beside those kept.
 pub(crate) fn no_answers(alloc: Global, query: &Query, domain: Domain) -> Result<Answer, Memory>
     requires { HasFewColumns query.now.head.columns }
     ensures { IfOk result (IsOverHead query.now domain) }
