@@ -9,3 +9,5 @@ pub mod Told
 pub mod Paging
 pub mod TextsOrder
 pub mod Few
+pub mod Pauses
+pub mod Given

@@ -4,6 +4,8 @@
 pub mod Cursors
 pub mod Listing
 pub mod Giving
+pub mod Standing
+pub mod Pauses
 -- What functions inside say to one another.
 pub mod Following
 pub mod Progress

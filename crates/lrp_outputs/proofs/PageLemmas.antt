@@ -10,7 +10,7 @@ use Rattle.lrp_model.specs.Tuples.{texts_at}
 use Rattle.lrp_model.specs.declared.tuples.Spot.{Spot}
 use Rattle.lrp_store.specs.Stores.{IsStore}
 use Rattle.lrp_answers.specs.declared.answer.Answer.{Answer}
-use Rattle.lrp_civil.specs.Moments.{IsCivilMinute}
+use Rattle.lrp_calendar.specs.Moments.{IsCivilMinute}
 use Rattle.lrp_answers.proofs.HeadOrder.{head_is}
 use Rattle.lrp_token.specs.Spots.{spot_token}
 use Rattle.lrp_outputs.specs.Known.{HaveCivilTimes}

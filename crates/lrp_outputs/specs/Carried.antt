@@ -19,7 +19,7 @@ use Rattle.lrp_answers.specs.declared.answer.Answer.{Answer}
 use Rattle.lrp_answer_text.specs.Lines.{IsFormOf}
 use Rattle.lrp_answer_text.specs.declared.texts.Form.{Form}
 use Rattle.lrp_answer_text.specs.declared.texts.Form.TheVariants.{Plain, Json}
-use Rattle.lrp_civil.specs.Moments.{IsCivilMinute}
+use Rattle.lrp_calendar.specs.Moments.{IsCivilMinute}
 use Rattle.lrp_print.specs.Writable.{TestHasPeriod, KindHasPeriods, StepHasPeriods}
 use Rattle.lrp_outputs.specs.Spots.{IsKnownLeast}
 use Rattle.lrp_outputs.specs.Known.{IsKnownSpot, HasCivilTimes, HaveCivilTimes}

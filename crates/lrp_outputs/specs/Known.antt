@@ -1,7 +1,7 @@
 -- Spots of an answer that can be written: their texts are known, and their times have a magnitude of at most 2^62.
 use Rattle.std.specs.Prelude.{◌≡◌, Bool, true, false, List, length, take}
 use Rattle.std.specs.List.{AllByRecursion}
-use Rattle.lrp_civil.specs.Moments.{IsCivilMinute}
+use Rattle.lrp_calendar.specs.Moments.{IsCivilMinute}
 use Rattle.lrp_model.specs.PrintedPages.{IsSmall}
 use Rattle.lrp_model.specs.declared.tuples.Spot.{Spot}
 use Rattle.lrp_answers.specs.declared.answer.Answer.{Answer}

@@ -4,7 +4,7 @@ use Rattle.std.specs.Fmt.{decimal, signed_decimal}
 use Rattle.std.specs.List.{AllByRecursion}
 use Rattle.lrp_model.specs.Rows.{time}
 use Rattle.lrp_civil.specs.CivilLines.{civil_time_bytes}
-use Rattle.lrp_civil.specs.Moments.{IsCivilMinute}
+use Rattle.lrp_calendar.specs.Moments.{IsCivilMinute}
 use Rattle.lrp_count.specs.declared.windows.Range.{Range}
 use Rattle.lrp_outputs.specs.PageLines.{line_as}
 

@@ -4,7 +4,7 @@ use Rattle.std.specs.Prelude.{ℤ, ◌≤ℤ◌, Contains}
 use Rattle.std.specs.List.{AllByRecursion}
 use Rattle.std.proofs.lemmas.Int.{ints}
 use Rattle.lrp_theory.proofs.Members.{head_in, later}
-use Rattle.lrp_civil.specs.Moments.{IsCivilMinute}
+use Rattle.lrp_calendar.specs.Moments.{IsCivilMinute}
 use Rattle.lrp_model.specs.Formulas.{Question}
 use Rattle.lrp_model.specs.Rows.{Tuple, time}
 use Rattle.lrp_model.specs.Satisfaction.{IsAnswer}

@@ -1,32 +1,29 @@
 -- A database that is kept, and what is due for questions of it.
 use Rattle.std.proofs.Common.{◌≡◌, ◌≤◌, ℕ, false, List, [], length, Option, None, Result, Ok, Err, refl, sym, subst}
+use Rattle.std.specs.Prelude.{IfSome}
+use Rattle.lrp_answers.specs.declared.answer.Answer.{Answer}
 use Rattle.lrp_civil.specs.declared.values.CivilText.{CivilText}
-use Rattle.lrp_model.specs.DatabaseReading.{IsDatabase}
+use Rattle.lrp_list.specs.Pauses.{IsPausedOf}
+use Rattle.lrp_list.specs.declared.paused.Paused.{Paused}
 use Rattle.lrp_model.specs.Formulas.{question_of}
 use Rattle.lrp_model.specs.Limits.{most_bytes}
 use Rattle.lrp_model.specs.Texts.{Identifier}
 use Rattle.lrp_model.specs.declared.relations.Relation.{Relation}
 use Rattle.lrp_outputs.specs.declared.refusal.Refusal.{Refusal}
 use Rattle.lrp_top.specs.Due.{IsDatabaseRead, IsQueryRead, IsQueryReadOf}
-use Rattle.lrp_top.specs.Keeping.{IsFileRead, IsDatabaseKept, IsKeptOf, IsQuerySaid}
+use Rattle.lrp_top.specs.Keeping.{IsAnswerKept, IsFileRead, IsDatabaseKept, IsKeptOf, IsQuerySaid}
 use Rattle.lrp_top.specs.Questions.{asked_as, database_source, query_source}
 use Rattle.lrp_top.specs.Seen.{AreBytesOf, ShelfSeen}
-use Rattle.lrp_top.specs.Written.{IsSortedAs, plain_by}
+use Rattle.lrp_top.specs.Written.{IsSortedAs}
 use Rattle.lrp_top.specs.declared.files.DatabaseFile.{DatabaseFile}
 use Rattle.lrp_top.specs.declared.files.QueryFile.{QueryFile}
+use Rattle.lrp_top.specs.declared.keeping.KeptAnswer.{KeptAnswer}
 use Rattle.lrp_top.specs.declared.keeping.KeptDatabase.{KeptDatabase}
 use Rattle.lrp_top.specs.declared.language.QueryLanguage.{QueryLanguage}
 
 -- a shelf of which nothing is seen
 abbrev pub unseen : ShelfSeen
 unseen = record { files = None; faults_before = λ name. 0; faults = λ name. 0; given = 0; may_be = λ name. false }
-
--- a file whose bytes are these
-pub file_read : (civil : Option CivilText) (file : DatabaseFile) (bytes : List ℕ) → file.bytes ≡ bytes → length bytes ≤ most_bytes → IsDatabase (plain_by civil bytes) file.relations → IsFileRead civil file
-file_read civil file bytes e short means = record {
-  short = subst (λ b. length b ≤ most_bytes) (sym e) short;
-  means = subst (λ b. IsDatabase (plain_by civil b) file.relations) (sym e) means;
-}
 
 -- a database that is kept was read, wherever its file has its bytes
 pub kept_read : (civil : Option CivilText) (file : DatabaseFile) (seen : ShelfSeen) (name : Identifier) → IsFileRead civil file → AreBytesOf seen name file.bytes → IsDatabaseRead civil seen name (Ok (database_source file))
@@ -56,3 +53,16 @@ kept_as civil kept e is = subst (λ (c : Option CivilText). IsKeptOf c kept.file
 
 pub kept_own : (civil : Option CivilText) (bytes : List ℕ) (kept : KeptDatabase) → IsKeptOf civil bytes kept → IsDatabaseKept kept
 kept_own civil bytes kept is = record { civil_is = refl; bytes_are = refl; read = subst (λ (c : Option CivilText). IsFileRead c kept.file) (sym is.civil_is) is.read; last = is.last }
+
+-- answers that are kept, with the listing of them as it stands
+pub kept_again : (d : DatabaseFile) (kept : KeptAnswer) (answer : Answer) (paused : Option Paused) → IsAnswerKept d kept → answer ≡ kept.answer → IfSome paused (IsPausedOf kept.answer) → IsAnswerKept d (record { query = kept.query; answer = answer; paused = paused })
+kept_again d kept answer paused is same stands = subst (λ (a : Answer). IsAnswerKept d (record { query = kept.query; answer = a; paused = paused })) (sym same) (record {
+  said = is.said;
+  plan = is.plan;
+  planned = is.planned;
+  sound = is.sound;
+  counted = is.counted;
+  answers = is.answers;
+  digest = is.digest;
+  paused = stands;
+})

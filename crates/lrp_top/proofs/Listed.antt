@@ -1,10 +1,10 @@
--- Spots that follow one another, and their page.
-use Rattle.std.proofs.Common.{◌≡◌, ◌≤◌, ◌+◌, ◌^◌, ℕ, suc, List, [], ◌∷◌, ◌++◌, length, map, Option, Some, None, Bool, refl, sym, ap, subst, ◌∙◌, arith, to_z, of_z, w64}
-use Rattle.std.specs.Prelude.{ℤ, pos, negsuc, neg_ℤ, ◌≤ℤ◌, nat_abs, ◌↔◌, IsTrue, IfSome}
+-- The page of spots that follow one another.
+use Rattle.std.proofs.Common.{◌≡◌, ◌≤◌, ◌+◌, ◌^◌, ℕ, suc, List, [], ◌∷◌, ◌++◌, length, map, Option, Some, None, Result, Ok, Err, Bool, refl, sym, ap, ap₂, subst, ◌∙◌, arith, to_z, of_z, w64}
+use Rattle.std.specs.Prelude.{ℤ, pos, negsuc, neg_ℤ, ◌≤ℤ◌, nat_abs, ◌↔◌, IsTrue, IfOk, IfSome}
 use Rattle.std.specs.Borrow.{Bor}
 use Rattle.std.specs.List.{AllByRecursion}
 use Rattle.std.proofs.lemmas.Int.{ints}
-use Rattle.std.proofs.lemmas.List.{length-map, map-append}
+use Rattle.std.proofs.lemmas.List.{length-map}
 use Rattle.lrp_model.specs.Limits.{greatest_number}
 use Rattle.lrp_model.specs.Formulas.{Question}
 use Rattle.lrp_model.specs.Pages.{IsPage}
@@ -21,12 +21,12 @@ use Rattle.lrp_answers.specs.declared.answer.Answer.{Answer}
 use Rattle.lrp_model.specs.Steps.{Steps}
 use Rattle.lrp_eval.specs.Answered.{IsAnswerOf}
 use Rattle.lrp_store.specs.Tables.{InAnswer}
-use Rattle.lrp_list.specs.Giving.{GivesTuples, IsFirstTuple}
+use Rattle.lrp_list.specs.Giving.{GivesTuples}
 use Rattle.lrp_answer_text.specs.Lines.{is_json}
-use Rattle.lrp_list.specs.Listing.{AreEnds, HasNoneLeft, HasShapeOf, IsFirstLeft, IsLeft, WindowView, window_tuple, window_of}
+use Rattle.lrp_list.specs.Listing.{AreEnds, HasShapeOf, IsLeft, ListerView, WindowView, window_tuple, window_of}
 use Rattle.lrp_token.specs.Reading.{HasCounts}
 use Rattle.lrp_outputs.specs.Known.{HasTimes, IsKnownSpot}
-use Rattle.lrp_top.specs.Standing.{IsStanding}
+use Rattle.lrp_list.specs.Standing.{IsStanding}
 use Rattle.lrp_outputs.specs.Spots.{answer_tuple}
 use Rattle.lrp_outputs.specs.Outputs.{page_text}
 use Rattle.lrp_top.specs.Resuming.{shape_of}
@@ -34,36 +34,6 @@ use Rattle.lrp_top.specs.Telling.{TellsPage}
 use Rattle.lrp_outputs.specs.PageLines.{listed_bytes}
 use Rattle.lrp_outputs.specs.declared.page.Page.{Page}
 use Rattle.lrp_top.proofs.Answered.{HaveKnownTexts, same_page}
-
--- ---- one more
-
-gives_more : (w : WindowView) (p e : Option Tuple) (ts : List Tuple) (t : Tuple) → GivesTuples w p ts e → IsFirstTuple w e t → GivesTuples w p (ts ++ t ∷ []) (Some t)
-gives_more w p e [] t g f = (subst (λ o. IsFirstTuple w o t) (sym g) f, refl)
-gives_more w p e (u ∷ us) t g f = (g.0, gives_more w (Some u) e us t g.1 f)
-
-all_more : {A : Type 0} (P : A → Type 0) (xs : List A) (x : A) → AllByRecursion P xs → P x → AllByRecursion P (xs ++ x ∷ [])
-all_more P [] x h k = (k, tt)
-all_more P (y ∷ ys) x h k = (h.0, all_more P ys x h.1 k)
-
-pub length_more : {A : Type 0} (xs : List A) (x : A) → length (xs ++ x ∷ []) ≡ length xs + 1
-length_more [] x = omega arith
-length_more (y ∷ ys) x = let r : length (ys ++ x ∷ []) ≡ length ys + 1 = length_more ys x in omega arith
-
--- what stands for the first tuple that is left is given next
-pub given_next : (w v : WindowView) (p e : Option Tuple) (spots : List Spot) (spot : Spot) → v ≡ w → GivesTuples w p (map (window_tuple w) spots) e → IsFirstLeft v e spot → GivesTuples w p (map (window_tuple w) (spots ++ spot ∷ [])) (Some (window_tuple v spot))
-given_next w v p e spots spot same g f =
-    let P : WindowView → Type 0 = λ u. IsFirstLeft u e spot → GivesTuples w p (map (window_tuple w) (spots ++ spot ∷ [])) (Some (window_tuple u spot)) in
-    subst P (sym same) (λ h. subst (λ ts. GivesTuples w p ts (Some (window_tuple w spot))) (sym (map-append (window_tuple w) spots (spot ∷ []))) (gives_more w p e (map (window_tuple w) spots) (window_tuple w spot) g (record { is = h.is; first = h.first }))) f
-
-pub standing_more : (w v : WindowView) (e : Option Tuple) (spots : List Spot) (spot : Spot) → v ≡ w → AllByRecursion (IsStanding w) spots → IsFirstLeft v e spot → AllByRecursion (IsStanding w) (spots ++ spot ∷ [])
-standing_more w v e spots spot same h f =
-    let P : WindowView → Type 0 = λ u. IsFirstLeft u e spot → IsStanding u spot in
-    let standing : IsStanding v spot = record { stands = f.stands; inside = f.is.inside } in
-    all_more (IsStanding w) spots spot h (subst (λ u. IsStanding u spot) same standing)
-
--- nothing is left, whatever stands for the window and the position
-pub none_left : (w v : WindowView) (p e : Option Tuple) → v ≡ w → e ≡ p → HasNoneLeft v p → (t : Tuple) → IsLeft w e t → ⊥
-none_left w v p e vw ep none t left = none t (subst (λ o. IsLeft v o t) ep (subst (λ (x : WindowView). IsLeft x e t) (sym vw) left))
 
 -- what a listing gives up to a limit, with the flag that something is left, is a page
 abbrev pub AreGivenPages : Type 0
@@ -83,6 +53,11 @@ page_given page_is w v u p after end spots limit more vw uv pa g few full is =
 -- an end of a window is its word
 pub word : (z : ℤ) → neg_ℤ (pos (2 ^ 62)) ≤ℤ z → z ≤ℤ pos (2 ^ 62) → to_z w64 (of_z w64 z) ≡ z
 word z l h = omega (arith, ints)
+
+-- a listing of a window whose ends were handed over as words
+pub new_window : {E : Type 0} (answer : Answer) (from to : ℤ) (made : Result ListerView E) → AreEnds from to → IfOk made (λ l. l.window ≡ window_of answer (to_z w64 (of_z w64 from)) (to_z w64 (of_z w64 to))) → IfOk made (λ l. l.window ≡ window_of answer from to)
+new_window answer from to (Ok l) ends is = is ∙ ap₂ (window_of answer) (word from ends.from_low ends.from_high) (word to ends.to_low ends.to_high)
+new_window answer from to (Err e) ends is = tt
 
 -- ---- what is known of spots in a window
 

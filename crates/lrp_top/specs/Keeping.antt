@@ -12,6 +12,7 @@ use Rattle.lrp_model.specs.declared.plans.Plan.{Plan}
 use Rattle.lrp_model.specs.declared.plans.Planning.{Planning}
 use Rattle.lrp_model.specs.declared.relations.Relation.{Relation}
 use Rattle.lrp_plan_laws.specs.GuardedPlans.{plan_by}
+use Rattle.lrp_list.specs.Pauses.{IsPausedOf}
 use Rattle.lrp_outputs.specs.Outcomes.{Outcome}
 use Rattle.lrp_outputs.specs.declared.refusal.Refusal.{Refusal}
 use Rattle.lrp_outputs.specs.declared.status.Status.{Status}
@@ -70,6 +71,7 @@ pub record IsAnswerKept (d : DatabaseFile) (kept : KeptAnswer) : Type 0 where
   pub counted : IsCounted kept.query.planning d.relations (question_of kept.query.file.query) kept.query.cap (Ok tt)
   pub answers : IsAnswerOf (plan_by kept.query.planning d.relations (question_of kept.query.file.query)) d.relations (question_of kept.query.file.query) kept.query.cap kept.answer
   pub digest : kept.query.files ≡ files_digest d.bytes kept.query.file.bytes
+  pub paused : IfSome kept.paused (IsPausedOf kept.answer)
 
 -- the database is that of these bytes, with answers of a query over it, if any
 pub record IsKeptOf (civil : Option CivilText) (bytes : List ℕ) (kept : KeptDatabase) : Type 0 where

@@ -19,6 +19,5 @@ pub mod Questions
 pub mod Keeping
 -- What functions inside say to one another.
 pub mod Lengths
-pub mod Standing
 pub mod Refusals
 pub mod Samples

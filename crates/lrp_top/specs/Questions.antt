@@ -40,6 +40,9 @@ use Rattle.lrp_outputs.specs.Outcomes.{Outcome}
 use Rattle.lrp_outputs.specs.Spots.{answer_tuple}
 use Rattle.lrp_store.specs.Tables.{InAnswer}
 use Rattle.lrp_answers.specs.declared.answer.Answer.{Answer}
+use Rattle.lrp_list.specs.Listing.{window_tuple}
+use Rattle.lrp_list.specs.Pauses.{paused_window}
+use Rattle.lrp_list.specs.declared.paused.Paused.{Paused}
 use Rattle.lrp_top.specs.Seen.{ShelfSeen}
 use Rattle.lrp_top.specs.Sources.{Source}
 use Rattle.lrp_top.specs.declared.asking.Asked.{Asked}
@@ -197,6 +200,12 @@ need_of _ = None
 abbrev pub IsPageOf : Answer → Paging → Option Tuple → List Spot → Bool → Type 0
 IsPageOf answer paging after spots more =
     IsPage (InAnswer answer.head.columns answer.domain answer.store) paging.from paging.to after paging.limit (map (answer_tuple answer) spots) more
+
+-- the listing is one of the page's window, and stands at this position
+pub record IsPausedAt (answer : Answer) (paging : Paging) (after : Option Tuple) (paused : Paused) : Type 0 where
+  pub from_is : paused.from ≡ paging.from
+  pub to_is : paused.to ≡ paging.to
+  pub tuple : after ≡ Some (window_tuple (paused_window answer paused) paused.spot)
 
 -- what holds of a purpose that words ask for: the name of its answers' relation is a name, and the ends of its window are ends
 abbrev pub IsProperPurpose : Purpose → Type 0

@@ -21,7 +21,8 @@ use lrp_outputs::{Refusal, WatchRefusal};
 use lrp_words::QuestionFiles;
 use std::alloc::Global;
 
-/// The bytes of a database's file, and the relations that they mean.
+/// The bytes of a database's file, and the relations that they mean: the digest of a page's token is of the bytes that were
+/// read.
 pub struct DatabaseFile {
     pub bytes: List<u8>,
     pub relations: Database,
@@ -43,6 +44,17 @@ impl DatabaseFile {
             relations,
         } = self;
         relations
+    }
+
+    /// Its bytes alone.
+    pub fn into_bytes(self) -> List<u8>
+        ensures { result ≡ self.bytes }
+    {
+        let DatabaseFile {
+            bytes,
+            relations: _relations,
+        } = self;
+        bytes
     }
 }
 

@@ -1,16 +1,16 @@
 // A database that is kept, and the answers of the page that was asked of it last.
-ghost use Rattle.std.specs.Prelude.{◌≡◌, ◌≤◌, IfOk, IfSome, IsTrue, Some, length};
+ghost use Rattle.std.specs.Prelude.{◌≡◌, ◌≤◌, IfErr, IfOk, IfSome, IsTrue, Some, length};
 ghost use Rattle.lrp_model.specs.Limits.{most_bytes};
 ghost use Rattle.lrp_top.specs.Keeping.{AsksAgain, AsksSame, IsDatabaseKept, IsReadFor};
 
 use crate::asking::Asked;
 use crate::files::{DatabaseFile, QueryFile};
 use crate::language::{QueryLanguage, civil_of, language_of};
-use crate::reading::database_in;
+use crate::reading::relations_of;
 use lrp_answers::Answer;
 use lrp_civil::CivilText;
+use lrp_list::Paused;
 use lrp_model::{List, Planning};
-use lrp_outputs::Refusal;
 use lrp_words::QuestionFiles;
 use std::alloc::Global;
 
@@ -24,11 +24,12 @@ pub struct KeptQuery {
     pub files: [u8; 32],
 }
 
-/// A query over a database that is kept, and all of its answers.
+/// A query over a database that is kept, all of its answers, and the listing of them as its last page left it.
 #[derive(Drop)]
 pub struct KeptAnswer {
     pub query: KeptQuery,
     pub answer: Answer,
+    pub paused: Option<Paused>,
 }
 
 /// A database that was read, which civil values it may have, and the answers of the page that was asked of it last.
@@ -39,21 +40,33 @@ pub struct KeptDatabase {
     pub last: Option<KeptAnswer>,
 }
 
-/// The database of a file's bytes, read as a question reads it, of which nothing was asked yet.
-pub fn keep(alloc: Global, bytes: List<u8>, asked: &Asked<'_>) -> Result<KeptDatabase, Refusal>
+impl KeptDatabase {
+    /// The bytes of its file.
+    pub fn into_bytes(self) -> List<u8>
+        ensures { result ≡ self.file.bytes }
+    {
+        let KeptDatabase { file, .. } = self;
+        file.into_bytes()
+    }
+}
+
+/// The database of a file's bytes, read as a question reads it, of which nothing was asked yet. Bytes that can't be read so
+/// are given back.
+pub fn keep(alloc: Global, bytes: List<u8>, asked: &Asked<'_>) -> Result<KeptDatabase, List<u8>>
     requires { length bytes ≤ most_bytes }
     ensures kept { IfOk result IsDatabaseKept }
     ensures bytes { IfOk result (λ kept. kept.file.bytes ≡ bytes) }
     ensures reads { IfOk result (IsReadFor asked.now) }
+    ensures given { IfErr result (λ given. given ≡ bytes) }
 {
     let civil = civil_of(&asked.files);
-    match database_in(alloc, bytes, civil) {
-        Ok(file) => Ok(KeptDatabase {
+    match relations_of(alloc, bytes.as_slice(), civil) {
+        Ok(relations) => Ok(KeptDatabase {
             civil,
-            file,
+            file: DatabaseFile { bytes, relations },
             last: None,
         }),
-        Err(refusal) => Err(refusal),
+        Err(_) => Err(bytes),
     }
 }
 

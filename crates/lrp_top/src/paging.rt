@@ -17,7 +17,7 @@ use crate::asking::{Asked, asked_by};
 use crate::files::DatabaseFile;
 use crate::keeping::{KeptAnswer, KeptDatabase, KeptQuery, kept_for};
 use crate::language::{civil_of, language_of};
-use crate::listing::page_of;
+use crate::listing::{PageStart, Paged, page_of};
 use crate::purpose::{Paging, Purpose};
 use crate::question::Question;
 use crate::questioning::{Served, Unasked, answer_over, question_over};
@@ -276,7 +276,11 @@ fn answered(
                 cap: page.paging.cap,
                 files,
             };
-            let kept = KeptAnswer { query, answer };
+            let kept = KeptAnswer {
+                query,
+                answer,
+                paused: None,
+            };
             Ok(Begun { file, kept })
         }
         Err(refusal) => Err(unasked_of(refusal, question)),
@@ -338,13 +342,26 @@ fn page_from<S: Sink>(
     ensures kept { IsKeptOf (civil_asked page.now.files) begun.file.bytes result.kept }
 {
     let Begun { file, kept } = begun;
-    let KeptAnswer { query, answer } = kept;
+    let KeptAnswer {
+        query,
+        answer,
+        paused,
+    } = kept;
     let civil = civil_of(&page.files);
-    match page_of(alloc, answer, &page.paging, after, query.files) {
+    let start = PageStart { after, paused };
+    match page_of(alloc, answer, &page.paging, start, query.files) {
         Ok(made) => {
-            let status = tell_page(out, &made);
-            let Page { answer, .. } = made;
-            let last = Some(KeptAnswer { query, answer });
+            let Paged {
+                page: listed,
+                paused,
+            } = made;
+            let status = tell_page(out, &listed);
+            let Page { answer, .. } = listed;
+            let last = Some(KeptAnswer {
+                query,
+                answer,
+                paused,
+            });
             let kept = KeptDatabase { civil, file, last };
             Told { status, kept }
         }

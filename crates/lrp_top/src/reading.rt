@@ -59,7 +59,7 @@ pub fn database_in(
 }
 
 /// The relations of a text, or of its plain text where times are civil ones.
-fn relations_of(
+pub fn relations_of(
     alloc: Global,
     bytes: &[u8],
     civil: Option<CivilText>,

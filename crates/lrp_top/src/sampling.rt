@@ -10,7 +10,7 @@ ghost use Rattle.lrp_top.specs.Sampled.{TellsSample};
 ghost use Rattle.lrp_top.specs.Samples.{IsSampleOrMemory};
 
 use crate::language::QueryLanguage;
-use crate::listing::gather;
+use crate::listing::{PageStart, gather};
 use crate::purpose::Paging;
 use crate::question::{Question, plan_of};
 use crate::reading::{database_in, query_in};
@@ -87,7 +87,11 @@ fn report_of(alloc: Global, answer: Answer, size: u32) -> Result<Report, Memory>
         cap: CAP,
         civil: false,
     };
-    let found = gather::<Brand>(alloc, &answer, &day, None, Blank::new(1))?;
+    let start = PageStart {
+        after: None,
+        paused: None,
+    };
+    let found = gather::<Brand>(alloc, &answer, &day, start, Blank::new(1))?;
     let cells = answer.store.len();
     Ok(Report {
         rows: size,

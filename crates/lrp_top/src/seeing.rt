@@ -1,7 +1,7 @@
 // What is seen of a shelf and of a sink from one state to a later one.
 use lrp_io::{Shelf, Sink};
 
-/// A shelf over a run.
+/// A shelf over a run: each shelf is one, and a clause names all that is seen of it by one word.
 pub trait Watched {
     ghost use Rattle.lrp_top.specs.Seen.{ShelfSeen};
 
@@ -15,7 +15,7 @@ impl<F: Shelf> Watched for F {
     ghost seen = { λ old new. record { files = F.files old; faults_before = F.faults old; faults = F.faults new; given = F.given new; may_be = F.may_be new } };
 }
 
-/// A sink over a run.
+/// A sink over a run, as each sink is.
 pub trait Filled {
     ghost use Rattle.lrp_top.specs.Seen.{SinkSeen};
 

@@ -21,7 +21,7 @@ returns-in-Ok-page_of c =
       page = record {
         first = Ok tt;
         is = c.in-Ok.ensures.counted;
-        next = told_page (question_steps question) question.database.relations (question_of question.query.query) p.cap c.in-Ok.answer p.from p.to begins p.limit p.civil p.json c.args.files c.in-Ok-page_of.page
+        next = told_page (question_steps question) question.database.relations (question_of question.query.query) p.cap c.in-Ok.answer p.from p.to begins p.limit p.civil p.json c.args.files c.in-Ok-page_of.made.page
             c.in-Ok.ensures.answers c.in-Ok-page_of.ensures.answer c.in-Ok-page_of.ensures.civil c.in-Ok-page_of.ensures.form c.in-Ok-page_of.ensures.files c.in-Ok-page_of.ensures.page;
       };
     }

@@ -1,5 +1,5 @@
 -- The answers are kept with their query.
-use Rattle.std.proofs.Common.{◌≡◌, Err, ap, refl, sym, subst}
+use Rattle.std.proofs.Common.{◌≡◌, Err, None, ap, refl, sym, subst}
 use Rattle.lrp_model.specs.Formulas.{question_of}
 use Rattle.lrp_top.specs.Due.{IsCounted}
 use Rattle.lrp_top.specs.Keeping.{IsAnswerKept, IsQuerySaid}
@@ -12,7 +12,7 @@ pub returns-in-Ok-clause-begun : goal.returns-in-Ok-clause-begun
 returns-in-Ok-clause-begun c =
     let question = c.args.question in
     let page = c.args.page.now in
-    let made : IsAnswerKept question.database (record { query = record { file = question.query; language = c.language_of.result; planning = question.planning; cap = page.paging.cap; files = c.args.files }; answer = c.in-Ok.answer }) = record {
+    let made : IsAnswerKept question.database (record { query = record { file = question.query; language = c.language_of.result; planning = question.planning; cap = page.paging.cap; files = c.args.files }; answer = c.in-Ok.answer; paused = None }) = record {
       said = subst (λ (l : QueryLanguage). IsQuerySaid l question.database.relations question.query) (sym c.language_of.ensures) c.requires.said;
       plan = question.plan;
       planned = c.requires.planned;
@@ -20,10 +20,11 @@ returns-in-Ok-clause-begun c =
       counted = c.in-Ok.ensures.counted;
       answers = c.in-Ok.ensures.answers;
       digest = c.requires.digest;
+      paused = tt;
     } in
     record {
       database = c.into_files-file.ensures.database;
-      kept = subst (λ (f : QueryFile). IsAnswerKept question.database (record { query = record { file = f; language = c.language_of.result; planning = question.planning; cap = page.paging.cap; files = c.args.files }; answer = c.in-Ok.answer })) (sym c.into_files-file.ensures.query) made;
+      kept = subst (λ (f : QueryFile). IsAnswerKept question.database (record { query = record { file = f; language = c.language_of.result; planning = question.planning; cap = page.paging.cap; files = c.args.files }; answer = c.in-Ok.answer; paused = None })) (sym c.into_files-file.ensures.query) made;
       same = record { language = c.language_of.ensures; planning = c.requires.planning; cap_is = refl; bytes_are = ap (λ (f : QueryFile). f.bytes) c.into_files-file.ensures.query };
     }
 
