@@ -4,7 +4,7 @@ import ctypes
 import os
 from collections.abc import Callable, Iterable, Mapping, Sequence
 from functools import cache
-from mmap import mmap
+from mmap import MAP_ANONYMOUS, MAP_PRIVATE, mmap
 from pathlib import Path
 from threading import Lock, local
 from typing import Any, NamedTuple
@@ -103,7 +103,8 @@ def run(words: Sequence[str], files: Mapping[str, bytes]) -> Output:
 
 
 class Room(local):
-    """Where a text is written, of which each thread has its own; pages of it that nothing wrote to take no memory."""
+    """Where a text is written, of which each thread and each process has its own; pages of it that nothing wrote to take
+    no memory."""
 
     def __init__(self) -> None:
         self.make(ROOM)
@@ -111,7 +112,7 @@ class Room(local):
     def make(self, size: int) -> None:
         """Room for a text of this length."""
         self.size = size
-        self.pages = (ctypes.c_char * size).from_buffer(mmap(-1, size))
+        self.pages = (ctypes.c_char * size).from_buffer(mmap(-1, size, MAP_PRIVATE | MAP_ANONYMOUS))
         self.place = ctypes.addressof(self.pages)
 
 

@@ -2,4 +2,5 @@
 pub mod Packed
 pub mod Calls
 pub mod Handles
+pub mod KeptFiles
 pub mod Sessions

@@ -1,37 +1,22 @@
--- Sessions: files that are kept, and the database that was read of them last.
-use Rattle.std.specs.Prelude.{◌≡◌, ◌⊎◌, ◌≤◌, ◌++◌, ℕ, ℤ, pos, Bool, true, false, List, length, Option, Some, None, Result, Ok, Err, IfSome}
+-- Sessions: files that are kept.
+use Rattle.std.specs.Prelude.{◌≡◌, ◌⊎◌, ◌≤◌, ◌++◌, ℕ, ℤ, pos, Bool, true, false, List, length, Option, Some, None, Result, Ok, Err, String}
+use Rattle.std.specs.declared.alloc.Global.{Global}
 use Rattle.lrp_io.specs.Files.{content_of, holds_file}
 use Rattle.lrp_io.specs.declared.shelf.File.{File}
 use Rattle.lrp_model.specs.Limits.{most_bytes}
-use Rattle.lrp_top.specs.Keeping.{IsDatabaseKept, IsReadFor}
+use Rattle.lrp_top.specs.Keeping.{MeansDue}
 use Rattle.lrp_top.specs.declared.asking.Asked.{Asked}
 use Rattle.lrp_outputs.specs.Statuses.{status_number}
-use Rattle.lrp_c.specs.Calls.{AreUnpacked, IsReplied, IsUnreplied, filled_with}
+use Rattle.lrp_c.specs.Calls.{AreUnpacked, IsReplied, IsRunOver, IsUnreplied, filled_with}
 use Rattle.lrp_c.specs.Packed.{packed_files, AreFiles}
 use Rattle.lrp_c.specs.declared.packed.Unread.{Unread}
 use Rattle.lrp_c.specs.declared.packed.Unread.TheVariants as unread
 use Rattle.lrp_c.specs.declared.reply.Reply.{Reply}
-use Rattle.lrp_c.specs.declared.session.NamedDatabase.{NamedDatabase}
 use Rattle.lrp_c.specs.declared.session.Session.{Session}
 
--- the database is the one that the first file of its name says
-pub record IsNamedOf (files : List File) (named : NamedDatabase) : Type 0 where
-  pub content : named.kept.file.bytes ≡ content_of files named.name
-  pub kept : IsDatabaseKept named.kept
-
--- the database of a session is one of its files
-abbrev pub IsSession : Session → Type 0
-IsSession session = IfSome session.database (IsNamedOf session.files)
-
 -- a session of these files
-pub record IsSessionOf (files : List File) (session : Session) : Type 0 where
-  pub sound : IsSession session
-  pub files_are : session.files ≡ files
-
--- the database is the question's, read as it asks
-pub record IsNamedFor (asked : Asked) (named : NamedDatabase) : Type 0 where
-  pub reads : IsReadFor asked named.kept
-  pub name : named.name ≡ asked.files.database.now
+abbrev pub IsSessionOf : List File → Session → Type 0
+IsSessionOf files session = session.files ≡ files
 
 -- these are the bytes of the question's query in files that don't hold its database
 pub record HasQuery (asked : Asked) (files : List File) (query : List ℕ) : Type 0 where
@@ -39,6 +24,15 @@ pub record HasQuery (asked : Asked) (files : List File) (query : List ℕ) : Typ
   pub held : holds_file files asked.files.query.now ≡ true
   pub bytes : query ≡ content_of files asked.files.query.now
   pub short : length query ≤ most_bytes
+
+-- wherever the question's database and its query have these bytes, the reply is that of a run of words that ask it
+abbrev pub AnswersAsked : Asked → List ℕ → List ℕ → Reply → Type 0
+AnswersAsked asked database query reply =
+    (words : List (String Global)) (own files : List File) → MeansDue words asked → HasQuery asked own query → database ≡ content_of files asked.files.database.now → IsRunOver words (own ++ files) reply.text.items reply.status
+
+-- the reply is that of a run of words that ask the question, over files with its query in front of these
+abbrev pub AnswersOver : Asked → List File → List ℕ → Reply → Type 0
+AnswersOver asked files query reply = (words : List (String Global)) (own : List File) → MeansDue words asked → HasQuery asked own query → IsRunOver words (own ++ files) reply.text.items reply.status
 
 -- ---- calls
 

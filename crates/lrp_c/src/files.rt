@@ -3,6 +3,7 @@ ghost use Rattle.std.specs.Prelude.{◌≡◌, ◌++◌, ◌<◌, ◌≤◌, IfN
 ghost use Rattle.lrp_io.specs.Files.{bytes_at, content_of, holds_file};
 ghost use Rattle.lrp_model.specs.Limits.{most_bytes};
 
+use crate::kept_file::KeptFile;
 use lrp_io::File;
 use lrp_model::{Copies, List, Memory};
 use std::alloc::Global;
@@ -11,7 +12,11 @@ use std::alloc::Global;
 const MOST_BYTES: usize = 16_777_216;
 
 /// Files, and copies of others after them.
-pub fn all_files(alloc: Global, files: List<File>, others: &[File]) -> Result<List<File>, Memory>
+pub fn all_files(
+    alloc: Global,
+    files: List<File>,
+    others: &[KeptFile],
+) -> Result<List<File>, Memory>
     ensures { IfOk result (λ all. all ≡ files ++ others.now) }
 {
     let mut all = files;
@@ -49,6 +54,19 @@ pub fn place_of(files: &[File], name: &str) -> Option<usize>
 {
     for (i, file) in files.iter().enumerate() {
         if file.name.as_bytes() == name.as_bytes() {
+            return Some(i);
+        }
+    }
+    None
+}
+
+/// The place of the first kept file of this name.
+pub fn kept_place(files: &[KeptFile], name: &str) -> Option<usize>
+    ensures within { IfSome result (λ i. i < length files.now) }
+    ensures bytes { IfSome result (λ i. bytes_at files.now i ≡ content_of files.now name.now) }
+{
+    for (i, file) in files.iter().enumerate() {
+        if file.has_name(name) {
             return Some(i);
         }
     }

@@ -1,7 +1,6 @@
 // A caller's database: a session that is open, or none.
 ghost use Rattle.std.specs.Prelude.{◌≡◌, IfOk, IfSome, IsErrOf, IsNone, List as ListOf, None, Some};
 ghost use Rattle.lrp_c.specs.Handles.{is_some};
-ghost use Rattle.lrp_c.specs.Sessions.{IsSession};
 ghost use Rattle.lrp_c.specs.Packed.{packed_files, AreFiles};
 ghost use Rattle.lrp_io.specs.declared.shelf.File.{File as FileOf};
 
@@ -24,15 +23,11 @@ pub struct OpenDatabase {
 /// A session of the packed files.
 pub fn open(alloc: Global, files: &[u8]) -> Result<Box<Session>, Unread>
     ensures packed { IfOk result (λ boxed. files.now ≡ packed_files boxed.value.files) }
-    ensures sound { IfOk result (λ boxed. IsSession boxed.value) }
     ensures unpacked { (held : ListOf FileOf) → IsErrOf result Unread.Unpacked
         → AreFiles held → files.now ≡ packed_files held → ⊥ }
 {
     let files = files_in(alloc, files)?;
-    let session = Session {
-        files,
-        database: None,
-    };
+    let session = Session::new(alloc, files)?;
     let boxed = Box::new(alloc, session)?;
     Ok(boxed)
 }
@@ -41,7 +36,6 @@ pub fn open(alloc: Global, files: &[u8]) -> Result<Box<Session>, Unread>
 pub fn take(alloc: Global, database: &mut OpenDatabase) -> Option<Box<Session>>
     ensures closed { database.new.held.files ≡ None }
     ensures files { IfSome result (λ boxed. database.old.held.files ≡ Some boxed.value.files) }
-    ensures sound { IfSome result (λ boxed. IsSession boxed.value) }
     ensures none { IsNone result → database.old.held.files ≡ None }
 {
     let closed = OpenDatabase {
@@ -59,7 +53,6 @@ pub fn take(alloc: Global, database: &mut OpenDatabase) -> Option<Box<Session>>
 
 /// Opens a database that is closed with this session.
 pub fn give_back(database: &mut OpenDatabase, boxed: Box<Session>)
-    requires { IsSession boxed.value }
     ensures { database.new.held.files ≡ Some boxed.value.files }
 {
     *database = OpenDatabase {

@@ -1,7 +1,7 @@
 // What a caller holds of a session: a pointer that tells nothing of what it points to but the files.
 ghost use Rattle.std.specs.Prelude.{◌≡◌, IfSome, List as ListOf, None, Option, Some, true};
 ghost use Rattle.lrp_c.specs.Handles.{is_some, owned_at};
-ghost use Rattle.lrp_c.specs.Sessions.{IsSession, IsSessionOf};
+ghost use Rattle.lrp_c.specs.Sessions.{IsSessionOf};
 ghost use Rattle.lrp_c.specs.contracts.session.Session.{the_row};
 ghost use Rattle.lrp_io.specs.declared.shelf.File.{File as FileOf};
 
@@ -38,7 +38,6 @@ impl Held {
 
     /// The session that a pointer owns.
     pub fn of(loose: Loose<Session, Global>) -> Held
-        requires { IsSession loose.value }
         ensures { result.files ≡ Some loose.value.files }
     {
         let Loose { at, alloc } = loose;

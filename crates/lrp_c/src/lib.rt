@@ -6,6 +6,7 @@
 mod files;
 mod handle;
 mod held;
+mod kept_file;
 mod loose;
 mod packed;
 mod reply;
@@ -86,8 +87,8 @@ pub extern "C" fn fizhedul_open(alloc: Global, files: &[u8], database: &mut Open
     }
 }
 
-/// Does what the words say, as `fizhedul_run` does, over these files in front of those that are kept. The database that was
-/// read of them last is kept, and so are the answers of its last page.
+/// Does what the words say, as `fizhedul_run` does, over these files in front of those that are kept. A database that was
+/// read of one of them is kept in its place, and so are the answers of its last page.
 #[unsafe(no_mangle)]
 pub extern "C" fn fizhedul_ask(
     alloc: Global,

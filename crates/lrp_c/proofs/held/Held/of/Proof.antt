@@ -14,7 +14,7 @@ use denote.Exit.{yes}
 use denote.RattleType.{RattleType, owns}
 use denote.Signature.{types_at, plain}
 use denote.RawPtr.{null_ptr, block_ptr, ptr_val}
-use denote.Steps.{nothing, heard}
+use denote.Steps.{nothing}
 use denote.Param.{layout}
 use denote.Triple.Entry.{alive}
 use denote.Triple.Walked.{Stays, stay_dropped, walk_of, Goes-dropped}
@@ -24,7 +24,7 @@ use Rattle.std.specs.contracts.impls.GlobalAllocator.TheImpl.{ghosts}
 use Rattle.std.specs.Box.Ownership.{box_owns}
 use Rattle.std.proofs.alloc.Global.TheLaws as heap_laws
 use Rattle.lrp_c.specs.Handles.{owned_at, is_some}
-use Rattle.lrp_c.specs.Sessions.{IsSession, IsSessionOf}
+use Rattle.lrp_c.specs.Sessions.{IsSessionOf}
 use Rattle.lrp_c.proofs.LooseSteps.{both, loose_out}
 use Rattle.lrp_c.proofs.HeldSteps.{Z, R, Out, In, both_good, some_of, held_out, held_in, made_in}
 use Rattle.lrp_c.specs.contracts.held.Held.of.{ended, clauses}
@@ -38,13 +38,13 @@ of_spec 𝓤 𝓛 𝓜 𝓡 wired =
     let hs : Stays En.signature.params En.kept = (stay_dropped (plain (λ _. In)) yes, tt) in
     proved_at 𝓛 En hs c 𝓜 𝓡 (Goes-dropped 𝓛 0 (plain (λ _. In)) yes (λ κs x f. refl), tt) #self fn (code.unfolded 𝓤 H 𝓜 𝓡 wired) (λ z are.
     let κs = z.0.0 in let qs = z.0.1 in let v = z.0.3.0 in let a = v.alloc in let Post : Val → SProp 𝓤 = (walk_of 𝓛 En hs c).post z in let Run : List Val → SProp 𝓤 = λ ws. WpFn 𝓤 H 𝓣.C 𝓣.Λ fn ws Post in
-    qed 𝓛 ((raw (alive 𝓛 En.signature κs qs) ⊛ ‵ (owns (types_at En.signature.params κs) z.0.3 z.0.4)) ∷ raw (fact 𝓤 (IsSession v.value)) ∷ []) ∵ move ! (1 ∷ []) $ heard ! (IsSession v.value) (λ is. split ! $ move ! (1 ∷ []) $ fsplit ! $
+    qed 𝓛 ((raw (alive 𝓛 En.signature κs qs) ⊛ ‵ (owns (types_at En.signature.params κs) z.0.3 z.0.4)) ∷ raw ((c κs z.0.3).requires z.1) ∷ []) ∵ split ! $ move ! (1 ∷ []) $ fsplit ! $
     loose_out R Z heap_laws.the_row_laws ghosts ! v z.0.4.0 (λ b o h e ws fits.
     let w : Val = both (vptr b o) h in let typed = both_good (block_ptr b o) h fits in
     suffices ! (Run (w ∷ [])) (subst (λ (us : List Val). ent 𝓤 (Run (w ∷ [])) (Run us)) (sym (λ i. ws i ++ [])) (id⊢ 𝓤 (Run (w ∷ [])))) $
     enter ! 𝓣.C 𝓣.Λ fn (w ∷ []) Post $ alloc_all ! (λ l. pass_all ! refl (typed, tt) $
     sets ! (of_opd ! (get_in ! (fld ! refl (stop !)) (sub ! 0 refl (whole !)))) refl (tt, tt) $ sets ! (of_opd ! (get_in ! (fld ! refl (stop !)) (sub ! 1 refl (whole !)))) refl fits $
     sets ! (of_opd ! (get ! refl)) refl (tt, tt) $ sets ! (agg ! (and_then ! (get ! refl) (and_then ! (get ! refl) (no_more !)))) refl typed $
-    fpack ! ((x : R.Denot) × IsSessionOf v.value.files x) (λ s. box_owns (ghosts.dealloc_token a) R (block_ptr b o) s.0) (v.value, record { sound = is; files_are = refl }) $ held_in ! (block_ptr b o) h a (Some v.value.files) $
+    fpack ! ((x : R.Denot) × IsSessionOf v.value.files x) (λ s. box_owns (ghosts.dealloc_token a) R (block_ptr b o) s.0) (v.value, refl) $ held_in ! (block_ptr b o) h a (Some v.value.files) $
     use0 𝓛 (raw (fact 𝓤 (Some v.value.files ≡ Some v.value.files))) (fact_i 𝓤 (Some v.value.files ≡ Some v.value.files) (emp 𝓤) refl) $ nothing ! $ nothing ! $ fjoin ! $
-    returns ! (look_at ! 0 refl) $ free_all ! refl $ keep ! (4 ∷ 0 ∷ 2 ∷ 1 ∷ []) $ by ! (leaves 𝓛 En hs c z w (record { at = block_ptr b o; alloc = a; files = Some v.value.files }) (tt, tt) (tt, tt))))))
+    returns ! (look_at ! 0 refl) $ free_all ! refl $ keep ! (4 ∷ 0 ∷ 2 ∷ 1 ∷ []) $ by ! (leaves 𝓛 En hs c z w (record { at = block_ptr b o; alloc = a; files = Some v.value.files }) (tt, tt) (tt, tt)))))
