@@ -12,7 +12,7 @@ use lrp_model::{DataText, List, Memory, Name, Relation};
 use std::alloc::Global;
 
 // What a database keeps of them: the texts of all sorts, those of the sort `data`, and beside each name of a sort those
-// of that sort, as lists; and the empty list, for sorts that have none.
+// of that sort, as lists; and the empty list, for sorts that have none. Sets serve only while the texts are gathered.
 #[derive(Drop)]
 pub struct TextLists {
     pub all: List<DataText>,

@@ -30,7 +30,7 @@ fn doubled_for(reach: u64, column: &Column) -> u64
     }
 }
 
-/// Twice a reach so many times; 2^62 + 1 where that is above 2^62.
+/// A reach doubled this many times; 2^62 + 1 where that is above 2^62.
 pub fn doubled_times(reach: u64, times: u64) -> u64
     ensures { (n : ℕ) → reach ≡ capped_at n → result ≡ capped_at (2 ^ times * n) }
 {

@@ -8,7 +8,7 @@ use Rattle.lrp_model.specs.Steps.{PlanStep, Steps, formula_at}
 use Rattle.lrp_model.specs.Caps.{step_variables}
 use Rattle.lrp_plan_laws.specs.Made.{operands}
 
--- at most 8 different names are such
+-- at most 8 different names are such: this depends on the set alone, so it holds of each part of it too
 abbrev pub AtMostEight : (Identifier → Type 0) → Type 0
 AtMostEight is = (names : List Identifier) → AreDistinct names → AllByRecursion is names → length names ≤ 8
 

@@ -9,7 +9,7 @@ ghost use Rattle.lrp_print.specs.Conditions.{behind_where};
 use crate::pieces::write_bytes;
 use lrp_io::{Failed, Sink};
 
-/// How items of one kind are written.
+/// How items of one kind are written, so that one loop writes the lists of every kind.
 pub trait Notation {
     type Item;
 

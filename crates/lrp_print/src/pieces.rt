@@ -1,4 +1,7 @@
 // The pieces of written texts: bytes, numbers, data texts, sorts, points and offsets.
+//
+// Signed numbers come by reference or within their point: the prover sees fields of a structure plainly, and a bare signed
+// number only through its bits.
 ghost use Rattle.std.specs.Prelude.{◌≡◌, ◌≤ℤ◌, ◌++◌, ◌∷◌, [], pos, codes};
 ghost use Rattle.std.specs.List.{flat_map};
 ghost use Rattle.std.specs.Fmt.{signed_decimal, decimal};

@@ -28,7 +28,7 @@ use Rattle.lrp_reading_laws.proofs.InnerParts.{query_inner}
 use Rattle.lrp_reading_laws.proofs.LastTokens.{Something}
 use Rattle.lrp_reading_laws.proofs.QueryTurns.{same_plain, same_tense}
 
--- the written tree of tokens, with so many turns for each list
+-- the written tree of tokens, with this number of turns for each list
 abbrev read : (n : Narrow) → ℕ → Tokens → ParseOutcome (WrittenQuery (language_of n))
 read n turns = query_with (trees (grammar n)) (reader n).behind turns
 

@@ -125,7 +125,7 @@ relations_count (r ∷ rs) =
     let d = relations_count rs in
     omega (arith, a, b, c, d)
 
--- a database of so many parts at most has fewer texts
+-- a database of at most n parts has fewer texts than that
 fewer : (rs : List RawRelation) (n : ℕ) → 0 < n → length (flat_map relation_text rs) ≤ n → length (database_texts (database_of rs)) < n
 fewer [] n some le = omega (arith, some)
 fewer (r ∷ rs) n some le =

@@ -22,7 +22,7 @@ time_names cs = map (λ c. c.name) (filter (λ c. is_time c.sort) cs)
 abbrev pub AreTimesOf : List RawColumn → List Identifier → Type 0
 AreTimesOf cs names = names ≡ once (time_names cs)
 
--- the number of the first of the names that is this one, after so many; 0 where none is
+-- the number of the first of the names that is this one, counted on from `before`; 0 where none is
 abbrev pub place_from : ℕ → List Identifier → Identifier → ℕ
 place_from before [] n = 0
 place_from before (m ∷ ms) n = if bytes_eq n m then before + 1 else place_from (before + 1) ms n

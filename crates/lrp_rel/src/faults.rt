@@ -28,7 +28,8 @@ fn standing(fault: &DbFault) -> [u32; 3]
     ]
 }
 
-// The earlier of two faults; of two that stand alike, the first.
+// The earlier of two faults; of two that stand alike, the first. No fault is skipped by its place, since a tree alone
+// doesn't say that its places ascend.
 fn earlier_of(left: DbFault, right: DbFault) -> DbFault
     ensures { Some result ≡ sooner database_standing (Some left) (Some right) }
 {
@@ -99,7 +100,7 @@ struct Counts {
     texts: usize,
 }
 
-// The fault of a column after so many, and how many there are with it.
+// The fault of a column after those counted, and the counts with it.
 fn counted(counts: Counts, column: &RawColumn) -> (Option<DbFault>, Counts)
     requires { counts.times + counts.texts < 2 ^ 63 }
     ensures found { (rest : ListOf ColumnOf) → earliest database_standing

@@ -88,7 +88,7 @@ fn keep_bound(
     }
 }
 
-// The bounds of an instant, after so many time columns, and how many there are with the value.
+// The bounds of an instant, by how many time columns are before it, and how many there are with the value.
 fn keep_value(bounds: &mut List<Bound>, before: u8, value: &WrittenValue) -> Result<u8, Memory>
     requires few { before + point_count value.now ≤ 8 }
     requires fits { FitsValue value.now }

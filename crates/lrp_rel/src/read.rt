@@ -37,7 +37,7 @@ fn database_of_bytes(alloc: Global, bytes: &[u8]) -> Result<Database, ReadFault>
     database_of(alloc, gathered)
 }
 
-/// The database of a text of at most 16,777,216 bytes. A text that is none has the one fault that is reported: of its bytes,
+/// The database of a text of at most 16,777,216 bytes. A text that isn't one has the one fault that is reported: of its bytes,
 /// else of the grammar, else of what it says.
 pub fn read_database(alloc: Global, bytes: &[u8]) -> Result<Database, ReadFault>
     requires { length bytes.now ≤ most_bytes }

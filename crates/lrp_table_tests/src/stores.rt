@@ -30,7 +30,7 @@ fn put(
     store.add(&cell, zone, cap)
 }
 
-// Adds the times that are 3 modulo 10 and at most so many, with a text.
+// Adds the times that are 3 modulo 10 and at most this number, with a text.
 fn add(
     rt: &impl Abort,
     store: &mut Store,

@@ -59,7 +59,7 @@ module _ {C : Type 0} (p : C → Type 0) where
   pack_each [] h = tt
   pack_each (x ∷ xs) h = (tt, pack_each xs h.1)
 
-  -- so many cells, with what is known of each
+  -- as many cells, with what is known of each
   pub many_known : (differ : C → C → Type 0) (cap : ℕ) → Many differ p cap → Many {C = Known} (λ a b. differ a.0 b.0) (λ k. Unit {0}) cap
   many_known differ cap m = record {
     cells = pack m.cells m.each;

@@ -58,7 +58,7 @@ less_tuples domain ascends times texts left right one other l r =
 
 -- ---- longer tuples
 
--- a tuple of so many times and of so many numbers of the domain, whose values at the places the store has
+-- a tuple of a number of times and a number of texts of the domain, whose values at the places the store has
 pub record IsWider (size times texts : ℕ) (time_places text_places : List ℕ) (s : StoreView) (xs : List ℤ) (ns : List ℕ) : Type 0 where
   pub times_count : length xs ≡ times
   pub texts_count : length ns ≡ texts

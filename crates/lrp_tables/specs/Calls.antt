@@ -59,7 +59,7 @@ abbrev pub CanStand : List Text → ℤ → Column → Value → Type 0
 CanStand domain period c (Point at) = (is_time c.sort ≡ true) × (pos 1 ≤ℤ at.period) × Divides at.period period
 CanStand domain period c (Const t) = (is_data c.sort ≡ true) × Contains domain t
 
--- a bound between two of so many time columns, or one of them and zero
+-- a bound between two of these time columns, or one of them and zero
 pub record IsColumnBound (times : ℕ) (bound : Bound) : Type 0 where
   pub left : bound.left ≤ times
   pub right : bound.right ≤ times

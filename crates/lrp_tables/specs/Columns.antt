@@ -15,7 +15,7 @@ use Rattle.lrp_model.specs.declared.formulas.Term.TheVariants.{Time as time_term
 use Rattle.lrp_model.specs.declared.formulas.Test.{Test}
 use Rattle.lrp_model.specs.declared.formulas.Test.TheVariants.{Compare, Member, Equal}
 
--- the names, and after them those of the second list that are new, each once
+-- the columns of a step's table: the names, and after them those of the second list that are new, each once
 abbrev pub joint : List Identifier → List Identifier → List Identifier
 joint names [] = names
 joint names (name ∷ more) = joint (cond (list_any (bytes_eq name) names) names (names ++ name ∷ [])) more

@@ -128,7 +128,7 @@ pub record CanMinus (period : ℤ) (left right : Table) : Type 0 where
   pub right_reach : HasReach right.store (2 ^ 62 - 2 * nat_abs period)
   pub columns : AreVariablesOf left right
 
--- the same table, in each domain that has the texts of the first one
+-- the same table, in each domain that has the texts of the first one, since a difference reads no text
 pub record IsMinusResult (cap : ℕ) (period : ℤ) (left right : Table) (result : Result Table StepFault) : Type 0 where
   pub reach : IfOk result (λ made. (high : ℕ) → BothReach left right high → HasReach made.store (high + 2 * nat_abs period))
   pub step : (domain : List Text) → Ascends domain → AreNumbered domain left.store → IsStepResult cap domain left.vars.times left.vars.texts (nat_abs period) (IsMinus domain left right) (BothReach left right) (λ high. high + 2 * nat_abs period) result

@@ -28,7 +28,7 @@ impl Model for RememberedCells {
 }
 
 impl RememberedCells {
-    /// No cell is remembered. There are places for so many, but 16,384 at most.
+    /// No cell is remembered. There are places for this many, but 16,384 at most.
     pub fn new(alloc: Global, cells: usize) -> Result<RememberedCells, Memory>
         ensures { IfOk result RemembersNone }
     {

@@ -43,7 +43,8 @@ struct Counted {
     positions: Vec<u64>,
 }
 
-/// The query without operators that is satisfied exactly where this one is. The variables that it has beside the written ones have a `~` in their names.
+/// The query without operators that is satisfied exactly where this one is. The variables that it has beside the written
+/// ones have a `~` in their names.
 pub fn expand(alloc: Global, query: &RawQuery) -> Result<RawQuery, Memory>
     requires { IsExpandable (raw_question_of query.now) }
     ensures tree { IfOk result (λ made. raw_question_of made
@@ -118,7 +119,8 @@ fn renamed_column(alloc: Global, column: &RawColumn, name: Name) -> Result<RawCo
 
 // The formula inside the variables of the scope.
 //
-// A function clears its locals when it begins. So each kind of formula has a function of its own, and a formula pays for its own kind alone.
+// A function clears its locals when it begins. So each kind of formula has a function of its own, and a formula pays for its
+// own kind alone.
 #[cycle(expanding)]
 fn expand_formula<'a>(
     alloc: Global,

@@ -25,6 +25,8 @@ pub struct Moments {
 
 /// The variables around a formula, the innermost last, and how operators are numbered: in the order in which they are met,
 /// whose places are kept, or by the positions of all of them in order. Beside them room for the text of a name.
+///
+/// An occurrence of a variable finds its present name here, so no part of a formula is copied only to be renamed.
 pub struct OperatorScope<'a> {
     variables: Vec<ScopedVariable<'a>>,
     is_ranked: bool,

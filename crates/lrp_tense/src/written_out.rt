@@ -1,6 +1,7 @@
 // What each operator stands for, by quantifiers over time.
 //
-// A formula is moved as rarely as can be: it stands in a box as soon as it is made, and what can fail is done before its parts are put together.
+// A formula is moved as rarely as can be: it stands in a box as soon as it is made, and what can fail is done before its
+// parts are put together.
 ghost use Rattle.std.specs.Prelude.{◌≡◌, IfOk};
 ghost use Rattle.lrp_model.specs.RawQueries.{raw_kind, raw_form_of, raw_forms_of, raw_and, raw_not, raw_group, raw_exists, raw_implies};
 ghost use Rattle.lrp_model.specs.declared.raw.Ranged.TheVariants.{Once, Always};

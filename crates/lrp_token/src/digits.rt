@@ -1,4 +1,4 @@
-// Bytes as lower-case hex digits, and back, in place.
+// Bytes as lower-case hex digits, and back, in place: the room for digits takes no memory.
 ghost use Rattle.std.specs.Prelude.{◌≡◌, ◌≢◌, ◌≤◌, ◌/◌, ℕ, List, length, MatchBool};
 ghost use Rattle.lrp_model.specs.PrintedPages.{hex as hex_of};
 ghost use Rattle.lrp_token.specs.Parts.{IsHex};

@@ -30,7 +30,7 @@ pub fn write_token<S: Sink>(
         (spot_token shape domain.now digest.now spot.now) result }
     ensures cause { HasCause (S.faults out.old) (S.faults out.new) result }
 
-    // What is written is a token, where the texts are data texts.
+    // What is written is a token where the texts are data texts, as those of every domain are (`Domain::len`).
     ensures token { AllByRecursion IsDataText (texts_in shape domain.now spot.now)
         → IsToken (spot_token shape domain.now digest.now spot.now) (Some digest.now)
         (times_in shape spot.now) (texts_in shape domain.now spot.now) }

@@ -3,7 +3,7 @@ use Rattle.std.specs.Prelude.{◌≡◌, ℕ, ◌-◌, ◌≤◌, List, ◌++◌
 use Rattle.std.specs.Prelude.{ℤ}
 use Rattle.lrp_zone.specs.Zones.{IsZone}
 
--- so many values and zeros after them, eight in all
+-- a number of values and zeros after them, eight in all
 pub record HasZerosBehind (count : ℕ) (values : List ℤ) : Type 0 where
   pub high : count ≤ 8
   pub size : length values ≡ 8
