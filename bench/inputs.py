@@ -565,6 +565,31 @@ def covered(rows, start, end):
     return found
 
 
+@family("disjuncts", "two", (200, 800, 3200), "N disjuncts of one relation of N rows, each shifted by another number")
+def disjuncts(size):
+    """A relation that stands in each member of an `or`."""
+    starts = [7 * i % (16 * size) for i in range(size)]
+    database = relation("r", times("t") + ["d: data"], ['(%d, "d%d")' % at for at in zip(starts, range(size))])
+    text = query(times("t"), "(%s)" % " or ".join('r(t + %d, "d%d")' % (i % 5, i) for i in range(size)))
+    found = sorted({(start - i % 5,) for i, start in enumerate(starts)})
+    return Case(listed(-10, LIMIT), database, text, units=size, unit="disjuncts", output=whole_page(found))
+
+
+@family("satellites", "two", (14, 28, 94), "passes of three satellites of periods N, N + 3 and N + 7, as rows of one relation: two at once", by_units=True)
+def satellites(size):
+    """Each meets the others, and none itself."""
+    periods = (size, size + 3, size + 7)
+    rows = [
+        '(%d+%dn, %d+%dn, "S%d") where e = b + 9' % (3 * i % p, p, (3 * i + 9) % p, p, i) for i, p in enumerate(periods)
+    ]
+    database = relation("pass", times("b", "e") + ["s: data"], rows)
+    text = query(
+        times("b", "c") + ["s: data", "r: data"],
+        "exists e: time exists f: time (pass(b, e, s) and pass(c, f, r) and not s = r and b <= c and c < e)",
+    )
+    return Case(["decide"], database, text, units=sum(math.lcm(*periods) // p for p in periods))
+
+
 @family("union of rows", "two", (20, 100, 1000, 100000), "the first 1,000 instants of N bounded rows of period 60")
 def union_of_rows(size):
     rows = bounded(size, (60,))

@@ -1,0 +1,97 @@
+"""Families of `watch` over relations of many rows, of which few have something in common."""
+
+from inputs import DAY, WEEK, Case, family, query, relation, times
+
+
+def shift(number, drivers):
+    """The start, the end and the driver of a shift of a week."""
+    start = 37 * number % WEEK
+    return (start, start + 240 + number % 240, "d%d" % (number % drivers))
+
+
+def shift_row(row):
+    return '(%d, %d, "%s")' % row
+
+
+def overlaps(row, rows):
+    """The starts of the row and of those that begin within it, or within which it begins."""
+    start, end, driver = row
+    for first, last, other in rows:
+        if other == driver and start < first < end:
+            yield (start, first, driver)
+        if other == driver and first < start < last:
+            yield (first, start, driver)
+
+
+def shifts_case(size, edits):
+    """Shifts of which one driver's overlap, 50 for each driver; half of the edits add one, and half take one out."""
+    drivers = max(size // 50, 1)
+    held = [shift(number, drivers) for number in range(size)]
+    added = [shift(size + number, drivers) for number in range(edits // 2)]
+    of = lambda driver: [row for row in held if row[2] == driver]
+    found = sorted({it for driver in {row[2] for row in held} for row in of(driver) for it in overlaps(row, of(driver))})
+    lines = ['%d, %d, "%s"' % found[0]]
+    for row in added:
+        found = sorted({*found, *overlaps(row, of(row[2]))})
+        held.append(row)
+        lines.append('%d, %d, "%s"' % found[0])
+    for row in added:
+        held.remove(row)
+        gone = set(overlaps(row, of(row[2])))
+        kept = {it for other in of(row[2]) for it in overlaps(other, of(row[2]))}
+        found = [it for it in found if it not in gone or it in kept]
+        lines.append('%d, %d, "%s"' % found[0])
+    rows = [shift_row(shift(number, drivers)) for number in range(size)]
+    return Case(
+        ["watch"],
+        relation("shift", [*times("s", "e"), "d: data"], rows),
+        query(
+            [*times("s", "u"), "d: data"],
+            "exists e: time exists v: time (shift(s, e, d) and shift(u, v, d) and s < u and u < e)",
+        ),
+        units=edits or size,
+        unit="edits" if edits else "rows",
+        output="\n".join([*lines, ""]),
+        edits="".join("%s shift %s;\n" % (sign, shift_row(row)) for sign in "+-" for row in added),
+    )
+
+
+@family("shifts watched", "two", (625, 2500, 10000), "opening of a watch of N shifts, of which those of one driver overlap")
+def shifts_watched(size):
+    return shifts_case(size, 0)
+
+
+@family("shifts edited", "two", (625, 2500, 10000), "200 edits of N shifts, of which those of one driver overlap")
+def shifts_edited(size):
+    return shifts_case(size, 200)
+
+
+@family("instants watched", "two", (625, 2500, 10000), "opening of a watch of N instants beside N others, a tenth of them in common")
+def instants_watched(size):
+    first = range(0, 2 * size, 2)
+    second = [at + (at % 20 != 10) for at in first]
+    instants = lambda name, these: relation(name, times("t"), ["(%d)" % at for at in these])
+    least = min(set(first) & set(second))
+    return Case(
+        ["watch"],
+        instants("a", first) + instants("b", second),
+        query(times("t"), "(a(t) and b(t))"),
+        units=2 * size,
+        unit="rows",
+        output="%d\n" % least,
+    )
+
+
+@family("texts watched", "two", (625, 2500, 10000), "opening of a watch of N rows of a day, each with a text of its own, beside N others")
+def texts_watched(size):
+    rows = lambda step: ['(%d+%dn, "x%d")' % (step * number % DAY, DAY, number) for number in range(size)]
+    text = query([*times("t"), "d: data"], "(r(t, d) and s(t, d))")
+    columns = [*times("t"), "d: data"]
+    return Case(
+        ["watch"],
+        relation("r", columns, rows(7)) + relation("s", columns, rows(11)),
+        text,
+        units=2 * size,
+        unit="rows",
+        output='0, "x0"\n',
+    )
