@@ -1,4 +1,8 @@
-"""The stack that the deepest queries take, in kilobytes: each is read, planned and decided under ever smaller limits."""
+"""The stack that the deepest queries take, in kilobytes: each is read, planned and decided under ever smaller limits.
+
+Queries of the wide language that are as deep as they may be, once their definitions are written out, have to do with less
+than what a program has, and long chains of definitions with little.
+"""
 
 import resource
 
@@ -38,6 +42,34 @@ def shapes():
     yield "forall a time", nested(b"forall t%d: time not ", b"", b"0 < 1", depth=40, width=2)
 
 
+def chained(count, first, piece, query):
+    """Definitions, each of which names the one before it, and a query of the last one."""
+    pieces = [piece % ((number,) + (number - 1,) * (piece.count(b"%d") - 1)) for number in range(1, count + 1)]
+    return first + b"".join(pieces) + query % count
+
+
+def wide_shapes():
+    """Queries of the wide language, what is decided of each, and the kilobytes that have to do."""
+    holds, alone = b"define d0() as 0 = 0;", b"{ | d%d() }"
+    yield chained(398, holds, b"define d%d() as not d%d();", alone), True, 4096
+    yield chained(397, holds, b"define d%d() as not d%d();", alone), False, 4096
+    yield chained(398, holds, b"define d%d() as (d%d());", alone), True, 4096
+    yield chained(398, holds, b"define d%d() as 0 < 1 and d%d();", alone), True, 4096
+    yield chained(398, holds, b"define d%d() as 0 < 1 implies d%d();", alone), True, 4096
+    yield chained(100000, holds, b"define d%d() as d%d();", alone), True, 512
+    first, next_one = b"define d0(t: time, l: line) as r(t, l);", b"define d%d(t: time, l: line) as d%d(t, l);"
+    yield chained(20000, first, next_one, b'{ | d%d(4, "a") }'), True, 512
+
+
+def wide_stack(program):
+    """Counts whether each is decided with the stack that has to do."""
+    for query, is_met, kilobytes in wide_shapes():
+        limit = lambda size=kilobytes << 10: resource.setrlimit(resource.RLIMIT_STACK, (size, size))
+        how = {"statuses": range(-255, 256), "preexec_fn": limit}
+        wanted = b"Nonempty\n()\n" if is_met else b"Empty\n"
+        program.expect(wanted, 0, "decide", "wide=yes", database=DATABASE, query=query, **how)
+
+
 def stack(program, tally):
     """Counts whether a megabyte is enough, and shows what is."""
     needed = {}
@@ -61,6 +93,7 @@ def stack(program, tally):
                 if got != whole:
                     break
                 needed[command, name] = kilobytes
+    wide_stack(program)
     most = max(needed.values())
     print(
         "    the most that a query takes: %d KB, as %s"

@@ -165,6 +165,28 @@ def kept_as_run(library, tally, seeds):
     tally.check(library.close(handle) == 0, "a database isn't closed")
 
 
+def pages_in_any_order(library, tally, seeds):
+    """Pages of a kept database are those of runs: one after the other, with others of them, other windows and other questions
+    between them."""
+    chance, handle = random.Random(4), Handle()
+    for seed in seeds:
+        words, files = list(questions(seed))[-1]
+        tally.check(library.open(handle, db=files["db"]) == 0, "a database isn't opened")
+        starts = [[]]
+        for _, text in pages(library.run, words, files):
+            last = text.splitlines()[-1].partition(b" ")
+            starts += [["after=" + last[2].decode()]] if last[0] == b"more" else []
+        narrower = [word.replace("to=60", "to=50") for word in words]
+        for start in starts:
+            others = [[*words, *start], [*narrower, *start], [*words, *chance.choice(starts)], ["decide", *words[1:3], *words[6:]],
+                      ["check", "db=db"]]
+            for said in [[*words, *start], *chance.choices(others, k=2)]:
+                wanted = library.run(*said, **files)
+                got = library.ask(handle, *said, query=files["query"])
+                tally.check(got == wanted, "page: " + " ".join(said), *files.values(), wanted[1])
+    tally.check(library.close(handle) == 0, "a database isn't closed")
+
+
 def closed(library, tally):
     """A database that isn't open is told, and one that is opened twice is the second one."""
     handle = Handle()
@@ -250,6 +272,7 @@ def calls_of_library(program, tally, seeds):
     in_threads(library, tally, seeds[:20])
     closed(library, tally)
     kept_as_run(library, tally, seeds)
+    pages_in_any_order(library, tally, seeds)
     kept_in_threads(library, tally, seeds[:20])
     growth(library, tally, 100)
     refused_memory(program, tally, path)
