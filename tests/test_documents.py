@@ -298,10 +298,19 @@ class Links(unittest.TestCase):
                 # Definitions and proofs are named without their ending.
                 self.assertTrue((TOP / name).exists() or (TOP / f"{name}.antt").exists(), f"{document.name}: {name}")
 
+    def test_wrong_bodies_have_their_edits(self):
+        table = (TOP / "docs/gate.md").read_text().split("## Wrong bodies that are refused")[1].split("\n## ")[0]
+        named = [(crate, name) for crate, names in re.findall(r"`(lrp_\w+)`: ((?:`\w+`(?:, )?)+)", table)
+                 for name in re.findall(r"\w+", names)]
+        self.assertGreater(len(named), 10)
+        for crate, name in named:
+            self.assertTrue((TOP / f"crates/{crate}/must-fail/{name}.edit").exists(), f"{crate}: {name}")
+
     def test_named_definitions_are_there(self):
         crates = re.findall(r"(?m)^(lrp_\w+)(?: staticlib)?:", (TOP / "crates.txt").read_text())
         folders = [TOP / "crates" / crate / kind for crate in crates for kind in ("src", "specs", "proofs")]
         words = {*crates, *(file.stem for folder in folders for file in folder.rglob("*"))}
+        words.update(file.stem for file in TOP.glob("crates/*/must-fail/*.edit"))
         for file in (file for folder in folders for file in folder.rglob("*.*")):
             words.update(re.findall(r"\w+", file.read_text()))
         count = 0

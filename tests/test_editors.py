@@ -180,7 +180,7 @@ class Editors(unittest.TestCase):
             listed, dumped = Path(name, "listed"), Path(name, "dumped")
             dump.write_text(DUMP)
             listed.write_text("".join(f"{path}\n" for path in [*self.files, *more]))
-            words = [vim, "-es", "-N", "-u", "NONE", "-i", "NONE", "--cmd", f"set rtp^={TOP}/editors/vim enc=utf-8", "-S", dump]
+            words = [vim, "-es", "-n", "-N", "-u", "NONE", "-i", "NONE", "--cmd", f"set rtp^={TOP}/editors/vim enc=utf-8", "-S", dump]
             subprocess.run(words, stdin=subprocess.DEVNULL, capture_output=True, check=False, timeout=PATIENCE,
                            env=environment(LISTED=str(listed), DUMPED=str(dumped), HOME=name))
             classes = {Path(path): rows for path, rows in json.loads(dumped.read_text()).items()}
@@ -193,7 +193,7 @@ class Editors(unittest.TestCase):
             said = Path(name, "said")
             launcher = Path(name, "fizhedul")
             launcher.symlink_to(TOP / "fizhedul")
-            subprocess.run([vim, "-es", "-N", "-u", "NONE", "-i", "NONE", "--cmd", f"set rtp^={TOP}/editors/vim",
+            subprocess.run([vim, "-es", "-n", "-N", "-u", "NONE", "-i", "NONE", "--cmd", f"set rtp^={TOP}/editors/vim",
                             "-c", "filetype plugin on", "-c", "edit", "-c", "silent make",
                             "-c", f"call writefile([line('.') . ' ' . col('.') . ' ' . getqflist()[0].text], '{said}')",
                             "-c", "qa!", TOP / "examples/week/broken.lrp"], stdin=subprocess.DEVNULL, capture_output=True,
@@ -210,7 +210,7 @@ class Editors(unittest.TestCase):
             (package / "fizhedul").symlink_to(TOP / "editors/vim")
             (home / "fizhedul").symlink_to(TOP / "fizhedul")
             words = [each for command in ("filetype plugin on", "edit", *commands, "qa!") for each in ("-c", command)]
-            subprocess.run([vim, "-es", "-N", "-u", "NORC", "-i", "NONE", *words, file], stdin=subprocess.DEVNULL, cwd=home,
+            subprocess.run([vim, "-es", "-n", "-N", "-u", "NORC", "-i", "NONE", *words, file], stdin=subprocess.DEVNULL, cwd=home,
                            capture_output=True, check=False, timeout=PATIENCE, env=environment(HOME=name, PATH=f"{name}:/usr/bin:/bin"))
             return (home / "said").read_text().splitlines() if (home / "said").exists() else []
 

@@ -149,6 +149,38 @@ class Library(unittest.TestCase):
         self.assertEqual(database.ask(*words, "after=00", q=ALL)[0], 4)
         self.assertEqual(database.close(), 0)
 
+    def test_a_page_is_that_of_a_run_wherever_the_last_one_ended(self):
+        rows = b"relation seen(t: time, who: data) { (1+7n, \"a\"); (3+5n, \"b\"); (3+5n, \"c\") where t >= 20; (40, \"a\"); (41, \"d\"); }\n"
+        query, words = b"{ t: time, who: data | seen(t, who) }\n", ("list", *ASK[1:], "from=0", "to=99", "limit=4")
+        tokens = [()]
+        while True:
+            _, length, text = asked(*words, *tokens[-1], d=rows, q=query)
+            last = text[:length].splitlines()[-1].decode().partition(" ")
+            if last[0] != "more":
+                break
+            tokens.append(("after=" + last[2],))
+        self.assertGreater(len(tokens), 8)
+        database = Database()
+        self.assertEqual(database.open(d=rows), 0)
+        others = [("list", *ASK[1:], "from=0", "to=98", "limit=4"), ("list", *ASK[1:], "from=1", "to=99", "limit=4"),
+                  (*words[:-1], "limit=1"), (*words, "json=yes"), ("count", *ASK[1:], "from=0", "to=99"), ("explain", *ASK[1:])]
+        for at, token in enumerate(tokens):
+            for more in (words, words, *(others[(at + turn) % len(others)] for turn in range(2))):
+                said = (*more, *token) if more[0] == "list" else more
+                status, length, text = asked(*said, d=rows, q=query)
+                self.assertEqual(database.ask(*said, q=query), (status, text[:length]), said)
+        self.assertEqual(database.close(), 0)
+
+    def test_several_databases_are_kept_side_by_side(self):
+        other, database = b"relation bus(t: time) { (7+60n); }\n", Database()
+        self.assertEqual(database.open(d=BUS, e=other), 0)
+        for words in (("list", "from=0", "to=200", "limit=2"), ("ask",), ("list", "from=0", "to=200", "limit=2"), ("check",)):
+            for name in ("d", "e", "d"):
+                said = (words[0], f"db={name}", *(() if words[0] == "check" else ("query=q",)), *words[1:])
+                status, length, text = asked(*said, d=BUS, e=other, q=ALL)
+                self.assertEqual(database.ask(*said, q=ALL), (status, text[:length]), said)
+        self.assertEqual(database.close(), 0)
+
     def test_only_the_names_of_the_header_are_seen(self):
         nm = need("nm")
         declared = set(re.findall(r"^int32_t (\w+)\(", (BUILD / "fizhedul.h").read_text(), re.MULTILINE))

@@ -128,6 +128,13 @@ class Package(unittest.TestCase):
             thread.join()
         self.assertEqual(wrong, [])
 
+    def test_a_hundred_questions_are_asked_side_by_side_in_processes(self):
+        done = subprocess.run([sys.executable, PACKAGE / "examples/many.py"], capture_output=True, text=True, check=False,
+                              env={**os.environ, "PYTHONPATH": str(PACKAGE)})
+        buses = [(d, d + 26) for d in range(367, 1321, 40)] + [(d, d + 20) for d in range(15, 3000, 60)]
+        wanted = [f"from {minute}: {min(bus for bus in buses if bus[0] >= minute)}\n" for minute in range(0, 1400, 14)]
+        self.assertEqual((done.returncode, done.stdout, done.stderr), (0, "".join(wanted), ""))
+
     def test_pages_of_two_queries_are_those_of_each_alone(self):
         texts = ["{ t: time | bus(t) }", "{ t: time | (bus(t) and t >= 100) }", "{ t: time | buss(t) }"]
         database = self.package.Database("relation bus(t: time) { (5+60n); (7+60n); }")
