@@ -59,6 +59,8 @@ impl<K: Stock> Shelf for CallShelf<K> {
     // A file that is held is never failed at.
     ghost faults = { λ s name. if holds_file K.files name then 0 else s.held.faults };
 
+    ghost starts = { λ s. s.held.history.starts };
+
     ghost names_started = { Prim.search rules };
 
     ghost tells_left = { Prim.search rules };

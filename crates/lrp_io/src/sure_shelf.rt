@@ -1,10 +1,10 @@
 // A shelf in memory that never fails.
-ghost use Rattle.std.specs.Prelude.{◌≡◌, false, Some};
+ghost use Rattle.std.specs.Prelude.{◌≡◌, [], false, Some};
 ghost use Rattle.lrp_io.specs.Files.{bytes_at, content_of};
 ghost use Rattle.lrp_io.specs.Held.{left_of};
 
 use crate::held::{HeldFiles, find_file};
-use crate::{Failed, File, Shelf};
+use crate::{Failed, File, History, Note, Shelf};
 use lrp_model::{Copies, List, Memory};
 use std::alloc::Global;
 
@@ -14,15 +14,18 @@ use std::alloc::Global;
 #[derive(Drop)]
 pub struct SureShelf {
     held: HeldFiles,
+    history: History,
 }
 
 impl SureShelf {
     pub fn new(files: List<File>) -> SureShelf
         ensures files { result.held.files ≡ files }
         ensures stopped { result.held.started ≡ false }
+        ensures unasked { result.history.starts ≡ [] }
     {
         SureShelf {
             held: HeldFiles::new(files),
+            history: History::new(),
         }
     }
 }
@@ -31,6 +34,7 @@ impl Copies for SureShelf {
     fn copy(&self, alloc: Global) -> Result<Self, Memory> {
         Ok(SureShelf {
             held: self.held.copy(alloc)?,
+            history: self.history.then(&Note::Same),
         })
     }
 }
@@ -50,6 +54,8 @@ impl Shelf for SureShelf {
 
     ghost faults = { λ s name. 0 };
 
+    ghost starts = { λ s. s.history.starts };
+
     ghost names_started = { Prim.search rules };
 
     ghost tells_left = { Prim.search rules };
@@ -57,12 +63,15 @@ impl Shelf for SureShelf {
     fn start(&mut self, name: &str) -> Result<(), Failed> {
         let file = place_of(self.held.files.as_slice(), name);
         self.held.open(file);
+        self.history = self.history.then(&Note::Started(name));
         Ok(())
     }
 
     fn read(&mut self, buf: &mut [u8]) -> Result<usize, Failed> {
         let most = buf.len();
-        Ok(self.held.take(buf, most))
+        let count = self.held.take(buf, most);
+        self.history = self.history.then(&Note::Given(count));
+        Ok(count)
     }
 }
 

@@ -8,8 +8,10 @@ mod tests;
 
 ghost use Rattle.std.specs.Prelude.{◌≡◌, drop};
 ghost use Rattle.std.specs.Process.{exit_status};
+ghost use Rattle.lrp_io.specs.Starts.{StartsOnly};
 ghost use Rattle.lrp_main.specs.Exits.{IsExit, IsExitOf, IsUnbegun};
 ghost use Rattle.lrp_outputs.specs.Statuses.{status_number as number_of_status};
+ghost use Rattle.lrp_top.specs.Due.{files_named};
 
 use lrp_io::{RealShelf, RealSink, Shelf, Sink};
 use lrp_top::{Status, run};
@@ -54,7 +56,7 @@ fn run_after_name<F: Shelf, S: Sink>(
     shelf: &mut F,
     out: &mut S,
 ) -> ExitCode
-    ensures { IsExitOf (drop 1 words.now)
+    ensures exit { IsExitOf (drop 1 words.now)
         (record {
           files = F.files shelf.old;
           faults_before = F.faults shelf.old;
@@ -69,6 +71,8 @@ fn run_after_name<F: Shelf, S: Sink>(
           faults = S.faults out.new;
         })
         (exit_status result) }
+    ensures starts { StartsOnly (F.starts shelf.old) (F.starts shelf.new)
+        (files_named (drop 1 words.now)) }
 {
     exit_code(run(alloc, after_first(words), shelf, out))
 }
