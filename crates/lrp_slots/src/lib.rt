@@ -6,12 +6,10 @@ mod held;
 mod iterators;
 mod line;
 mod narrow;
-mod refusal;
 mod remembered;
 mod slots;
 mod tree;
 
 pub use iterators::{Cells, ChainValues, Lists};
-pub use refusal::SlotFault;
 pub use remembered::Remembered;
 pub use slots::{Ends, Slots};

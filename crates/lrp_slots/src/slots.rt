@@ -1,15 +1,13 @@
 // Lists of values by cell in slots of one vector.
-ghost use Rattle.std.specs.Prelude.{◌≡◌, ◌≢◌, Err, Ok, true, false, IsTrue, ◌+◌, ◌-◌, ◌<◌, ◌≤◌, ◌↔◌, All, Some, None, [], ◌∷◌, ◌++◌, length, sum_by, slice_get, IsSome, IsOk, IfOk, OnOk, OnErr, OnSome, IfSome, IfNone, option_copied};
+ghost use Rattle.std.specs.Prelude.{◌≡◌, ◌≢◌, Ok, true, false, ◌+◌, ◌-◌, ◌<◌, ◌≤◌, ◌↔◌, All, Some, None, [], ◌∷◌, ◌++◌, length, sum_by, slice_get, IsSome, IsOk, IfOk, OnOk, OnErr, OnSome, IfSome, IfNone, option_copied};
 ghost use Rattle.std.specs.List.{remove};
 ghost use Rattle.std.specs.FinMap as finite;
 ghost use Rattle.lrp_slots.specs.Lists.{list_at, set_list, with_last, append_all};
-ghost use Rattle.lrp_slots.specs.declared.refusal.SlotFault.TheVariants.{TooManyCells};
 ghost use Rattle.lrp_model.specs.declared.tuples.Cell.{Cell as CellValue};
 
 use crate::chains::{Chain, Link, keep_rest, key_at, push, set_value, take_out, vacant_key};
 use crate::held::Held;
 use crate::iterators::{Cells, ChainValues, Lists};
-use crate::refusal::SlotFault;
 use lrp_model::{Cell, Copies, Memory};
 use slab::Slab;
 use std::alloc::Global;
@@ -134,40 +132,6 @@ impl<V: Drop> Slots<V> {
         }
         push(&mut self.links, None, value);
         Ok(true)
-    }
-
-    /// Appends a value to a cell's list, unless the cell is not held and there are as many cells as the cap.
-    ///
-    /// As long as there are fewer cells than the cap, the cell is looked up once.
-    pub fn append_within(&mut self, cell: &Cell, value: V, cap: usize) -> Result<(), SlotFault>
-        ensures ok { OnOk result (self.new.lists
-            ≡ finite.insert self.old.lists cell.now
-            (list_at self.old.lists cell.now ++ value ∷ [])) }
-        ensures err { OnErr result (self.new.lists ≡ self.old.lists) }
-        ensures too_many { (result ≡ Err TooManyCells)
-            ↔ ((finite.get self.old.lists cell.now ≡ None) × (cap ≤ finite.len self.old.lists)) }
-
-        // A spare slot serves each held cell.
-        ensures succeeds { 0 < self.old.spare → IsSome (finite.get self.old.lists cell.now)
-            → IsOk result }
-        ensures taken { 0 < self.old.spare → IsSome (finite.get self.old.lists cell.now)
-            → self.new.spare + 1 ≡ self.old.spare }
-        ensures lowered { self.old.spare ≤ self.new.spare + 1 }
-        ensures kept { OnErr result (self.old.spare ≤ self.new.spare) }
-    {
-        if self.is_one_too_many(cell, cap) {
-            return Err(SlotFault::TooManyCells);
-        }
-        self.append(cell, value)?;
-        Ok(())
-    }
-
-    // Whether a cell is not held, and there are cap cells or more.
-    fn is_one_too_many(&self, cell: &Cell, cap: usize) -> bool
-        ensures { IsTrue result ↔ ((finite.get self.now.lists cell.now ≡ None)
-            × (cap ≤ finite.len self.now.lists)) }
-    {
-        self.len() >= cap && self.count(cell) == 0
     }
 
     /// How many values a cell has, 0 where it is not held.

@@ -1,6 +1,7 @@
 -- The lemmas: stored bounds, stores, counts of cells, least tuples and tidy lists.
 pub mod Counted
 pub mod Grown
+pub mod Growth
 pub mod Held
 pub mod Listed
 pub mod Aligning

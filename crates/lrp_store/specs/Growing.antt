@@ -1,11 +1,11 @@
 -- What calls that add to a store do: they add a part of a set, or refuse because of a cell that is one too many.
-use Rattle.std.specs.Prelude.{◌≡◌, ◌≢◌, ℕ, ℤ, ◌≤◌, ◌⊎◌, List, None, take}
+use Rattle.std.specs.Prelude.{◌≡◌, ◌≢◌, ℕ, ℤ, ◌+◌, ◌≤◌, ◌⊎◌, List, None, length, take}
 use Rattle.std.specs.FinMap as finite
 use Rattle.lrp_model.specs.Cells.{Many}
 use Rattle.lrp_model.specs.declared.tuples.Cell.{Cell}
 use Rattle.lrp_model.specs.declared.tuples.Shape.{Shape}
 use Rattle.lrp_zone.specs.Zones.{ZoneView, IsMember, greatest_of}
-use Rattle.lrp_store.specs.Stores.{StoreView, IsStore, HasReach, InStore, IsInhabitedCell, whole_zone}
+use Rattle.lrp_store.specs.Stores.{StoreView, IsStore, HasReach, InStore, IsInhabitedCell, tables_at, whole_zone}
 
 -- new is a store that has what old has, and besides only tuples of the set; its zones reach no further than this or those of old, and it has not more than cap cells where old had not
 pub record IsGrown (set : List ℤ → List ℕ → Type 0) (cap high : ℕ) (old new : StoreView) : Type 0 where
@@ -37,6 +37,11 @@ pub record IsAdded (set : List ℤ → List ℕ → Type 0) (cap high : ℕ) (ol
 pub record IsRefused (set : List ℤ → List ℕ → Type 0) (cap high : ℕ) (old new : StoreView) : Type 0 where
   pub grown : IsGrown set cap high old new
   pub more : HasOneMore set cap new
+
+-- the cell has at most n zones more, and the lists of the other cells are as they were
+pub record GrowsByAtMost (n : ℕ) (cell : Cell) (old new : StoreView) : Type 0 where
+  pub few : length (tables_at new cell) ≤ length (tables_at old cell) + n
+  pub others : (other : Cell) → other ≢ cell → tables_at new other ≡ tables_at old other
 
 -- the times are in the zone, and the texts are these
 pub record IsTupleOf (z : ZoneView) (named : List ℕ) (times : List ℤ) (texts : List ℕ) : Type 0 where

@@ -9,7 +9,7 @@ ghost use Rattle.lrp_store.specs.Stored.{count_of};
 ghost use Rattle.std.specs.Prelude.{Contains};
 ghost use Rattle.lrp_zone.specs.Zones.{IsZone};
 ghost use Rattle.lrp_store.specs.Stores.{IsStore, IsCellOf, IsPadded, IsOneTooMany, BeginsWhole, ChangesTablesAlone, InStore, tables_at, zone_count, zone_of, zones_at};
-ghost use Rattle.lrp_store.specs.Growing.{IsCellAdded, IsCellRefused, IsWhole, IsZoneAdded, IsZoneRefused, tuples_in};
+ghost use Rattle.lrp_store.specs.Growing.{GrowsByAtMost, IsCellAdded, IsCellRefused, IsWhole, IsZoneAdded, IsZoneRefused, tuples_in};
 
 use crate::stored::StoredBounds;
 use lrp_model::{Cell, Copies, Memory, Shape};
@@ -212,6 +212,7 @@ impl Store {
             → IsZoneRefused zone.now cell.now cap self.old self.new }
         ensures exact { (result ≡ Err StoreFault.TooManyCells)
             ↔ IsOneTooMany self.old cell.now cap }
+        ensures one { OnOk result (GrowsByAtMost 1 cell.now self.old self.new) }
         ensures lowered { self.old.spare ≤ self.new.spare + 1 }
     {
         match self.place_of(cell, zone) {
@@ -247,6 +248,7 @@ impl Store {
             → IsCellRefused cell.now cap self.old self.new }
         ensures exact { (result ≡ Err StoreFault.TooManyCells)
             ↔ IsOneTooMany self.old cell.now cap }
+        ensures one { OnOk result (GrowsByAtMost 1 cell.now self.old self.new) }
     {
         if self.is_remembered(cell) {
             return Ok(());
@@ -270,6 +272,7 @@ impl Store {
         ensures held { result ≡ Ok false → IsSome (finite.get self.old.tables cell.now) }
         ensures left { result ≢ Ok true → self.new.tables ≡ self.old.tables }
         ensures rest { ChangesTablesAlone self.old self.new }
+        ensures one { OnOk result (GrowsByAtMost 1 cell.now self.old self.new) }
     {
         if self.slots.begin(cell, StoredBounds::free(self.alloc))? {
             follow(&mut self.whole, cell, self.slots.len());
@@ -286,6 +289,7 @@ impl Store {
         ensures ok { OnOk result (IsCellAdded cell.now cap self.old self.new) }
         ensures err { OnErr result (self.new.tables ≡ self.old.tables) }
         ensures rest { ChangesTablesAlone self.old self.new }
+        ensures one { OnOk result (GrowsByAtMost 1 cell.now self.old self.new) }
     {
         if self.is_whole(cell) {
             self.whole.put(cell, self.slots.len());

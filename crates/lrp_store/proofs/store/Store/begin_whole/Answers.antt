@@ -2,10 +2,11 @@
 use Rattle.std.proofs.Common.{◌≡◌, ◌<◌, None, Ok, replicate, take, arith, sym, ap, subst}
 use Rattle.std.specs.FinMap.{get, len}
 use Rattle.lrp_store.specs.Stores.{StoreView, IsCellOf, zone_of}
-use Rattle.lrp_store.specs.Growing.{IsAdded, IsTupleOf}
+use Rattle.lrp_store.specs.Growing.{GrowsByAtMost, IsAdded, IsTupleOf}
 use Rattle.lrp_store.proofs.Held.{same_tables}
 use Rattle.lrp_store.proofs.Added.{free_added}
 use Rattle.lrp_store.proofs.Remembered.{appended_remembered, begun_as, begun_first, one_remembered, same_remembered}
+use Rattle.lrp_store.proofs.Growth.{grows_begun, grows_none}
 use Rattle.lrp_store.proofs.store.Store.begin_whole.Goals as goal
 
 pub invariant_of-self : goal.invariant_of-self
@@ -38,3 +39,14 @@ invariant_of-self-else-branch c =
       valid = same_tables (record { shape = c.self.inside.shape; period = c.self.inside.period; tables = c.self.inside.slots.lists; spare = c.self.inside.slots.spare }) c.begin.new.self.lists c.begin.new.self.spare c.self.invariant.valid (c.in_ok-begin.ensures.left (λ e. cc (e, held)));
       whole = same_remembered c.self.inside.slots.lists c.begin.new.self.lists c.self.inside.whole (c.in_ok-begin.ensures.left (λ e. cc (e, held))) c.self.invariant.whole;
     }
+
+pub returns-then-branch-clause-one : goal.returns-then-branch-clause-one
+returns-then-branch-clause-one c =
+    subst (λ (v : StoreView). GrowsByAtMost 1 c.args.cell.now v (record { shape = c.self.inside.shape; period = c.self.inside.period; tables = c.begin.new.self.lists; spare = c.begin.new.self.spare })) c.self.view_is
+    (grows_begun c.args.cell.now (record { shape = c.self.inside.shape; period = c.self.inside.period; tables = c.self.inside.slots.lists; spare = c.self.inside.slots.spare }) (record { shape = c.self.inside.shape; period = c.self.inside.period; tables = c.begin.new.self.lists; spare = c.begin.new.self.spare }) c.free.result (c.in_ok-begin.ensures.put (ap (λ b. Ok b) c.if-branch.true)))
+
+pub returns-clause-one : goal.returns-clause-one
+returns-clause-one c =
+    let held = c.if-branch.false in
+    subst (λ (v : StoreView). GrowsByAtMost 1 c.args.cell.now v (record { shape = c.self.inside.shape; period = c.self.inside.period; tables = c.begin.new.self.lists; spare = c.begin.new.self.spare })) c.self.view_is
+    (grows_none 1 c.args.cell.now (record { shape = c.self.inside.shape; period = c.self.inside.period; tables = c.self.inside.slots.lists; spare = c.self.inside.slots.spare }) (record { shape = c.self.inside.shape; period = c.self.inside.period; tables = c.begin.new.self.lists; spare = c.begin.new.self.spare }) (c.in_ok-begin.ensures.left (λ e. cc (e, held))))
