@@ -1,5 +1,5 @@
 -- The zones of a store as cutters of a longer cell.
-use Rattle.std.proofs.Common.{◌≡◌, ℕ, ◌+◌, ◌-◌, ◌<◌, ◌≤◌, inl, inr, List, [], ◌∷◌, ◌++◌, length, map, take, Some, None, get_or, sym, ap, subst, ◌∙◌, arith}
+use Rattle.std.proofs.Common.{◌≡◌, ℕ, ◌+◌, ◌-◌, ◌<◌, ◌≤◌, inl, inr, List, [], ◌∷◌, ◌++◌, length, map, take, Some, None, get_or, sym, ap, subst, ◌∙◌, arith, length-append}
 use Rattle.std.specs.Prelude.{ℤ, pos, nat_abs, Contains, slice_get, ◌-ℤ◌, ◌+ℤ◌}
 use Rattle.std.proofs.lemmas.Int.{ints}
 use Rattle.std.proofs.lemmas.List.{length-map, length-take-le}
@@ -94,6 +94,7 @@ module _ (places : List ℕ) (k : ℕ) (rs : List ℤ) where
     to = λ xs h. absurd (in_nothing xs h);
     from = λ xs c r h. absurd (in_nothing (map (node xs) places) h);
     reach = omega arith;
+    few = omega arith;
   }
 
   module _ (zones cutters : List ZoneView) (cut : AreCutOf zones places k rs cutters) (z : ZoneView) (n : ℤ) (en : n ≡ pos k) where
@@ -117,6 +118,7 @@ module _ (places : List ℕ) (k : ℕ) (rs : List ℤ) where
         | inr b ↦ absurd (none.none xs c (subst (λ y. HasResidues y rs xs) (sym en) r) (this_has z (map (node xs) places) b))
       ];
       reach = let a : greatest_reach cutters ≤ greatest_reach zones + (k - 1) = cut.reach in let b = wider in omega arith;
+      few = let f : length cutters ≤ length zones = cut.few in let l : length (zones ++ z ∷ []) ≡ length zones + 1 = length-append zones (z ∷ []) in omega arith;
     }
 
     -- and one that gives one
@@ -134,6 +136,7 @@ module _ (places : List ℕ) (k : ℕ) (rs : List ℤ) where
       ];
       reach = reach_push cutters w _ (let a : greatest_reach cutters ≤ greatest_reach zones + (k - 1) = cut.reach in let b = wider in omega arith)
           (let a : reach_of w ≤ reach_of z + (w.period - 1) = c.reach in let e = same_period in let b = newest in omega arith);
+      few = let f : length cutters ≤ length zones = cut.few in let l : length (zones ++ z ∷ []) ≡ length zones + 1 = length-append zones (z ∷ []) in let m : length (cutters ++ w ∷ []) ≡ length cutters + 1 = length-append cutters (w ∷ []) in omega arith;
     }
       where
         same_period : w.period ≡ k
@@ -228,6 +231,7 @@ module _ (places : Places) (left : StoreView) (left_is : IsStore left) (cell : C
         record { cell = below; table = t.0; held = t.1; named = beneath.texts ∙ sym numbers_are; inside = subst (λ w. IsMember w (map (node xs) places.times)) (sym t.2) i.inside };
     from = λ xs c r h. cut.from xs (c ∙ sym front_count) r (found xs r h);
     reach = λ high r. let a : greatest_reach cutters ≤ greatest_reach (zones_at right below) + (left.period - 1) = cut.reach in let b : greatest_reach (zones_at right below) ≤ high = zones_reach right below high r in omega arith;
+    few = λ n at. let f : length cutters ≤ length (zones_at right below) = cut.few in let l : length (zones_at right below) ≡ length (tables_at right below) = length-map (tables_at right below) (zone_of right below) in let m : length (tables_at right below) ≤ n = at below in omega arith;
   }
     where
       found : (xs : List ℤ) → HasResidues (pos left.period) (take left.shape.times cell.residues) xs → InStore right (map (node xs) places.times) (map (number_at (take left.shape.texts cell.texts)) places.texts) → InSome (zones_at right below) (map (node xs) places.times)

@@ -6,7 +6,9 @@ pub mod ContentLaws
 pub mod CutterLaws
 pub mod DifferenceLaws
 pub mod EmptyCells
+pub mod Fewness
 pub mod FillingLaws
+pub mod Growth
 pub mod SparedLaws
 pub mod TakenLaws
 pub mod TakingLaws

@@ -171,6 +171,7 @@ module _ (t : Taking) (s : StoreView) (is : IsStore s) (taking : IsSubtraction t
     to = λ xs h. absurd (in_nothing xs h);
     from = λ xs count h b. absurd (content.nothing refl xs (take s.shape.texts c.texts) (of_front xs h) refl b);
     reach = λ high r. omega arith;
+    few = λ n at. omega arith;
   }
 
   -- the piece of these residues

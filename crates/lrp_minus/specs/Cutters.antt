@@ -1,14 +1,16 @@
 -- Tuples of a store that have none of another store beneath them, and what of a cell is cut away to leave these.
 use Rattle.std.specs.Prelude.{◌≡◌, ℕ, ℤ, ◌+◌, ◌*◌, ◌-◌, ◌^◌, ◌≤◌, pos, List, map, length, take, Contains}
+use Rattle.std.specs.FinMap as finite
 use Rattle.lrp_theory.specs.Divides.{Divides}
 use Rattle.lrp_theory.specs.Entries.{node}
 use Rattle.lrp_model.specs.declared.tuples.Cell.{Cell}
 use Rattle.lrp_zone.specs.Residues.{HasResidues}
 use Rattle.lrp_zone.specs.Zones.{ZoneView, IsMember, reach_of}
-use Rattle.lrp_store.specs.Growing.{IsAdded, IsRefused}
+use Rattle.lrp_store.specs.Growing.{GrowsByAtMost, IsAdded, IsRefused}
 use Rattle.lrp_store.specs.Settled.{InSome}
 use Rattle.lrp_store.specs.Stores.{StoreView, IsStore, IsCellOf, InCell, InStore, HasReach}
 use Rattle.lrp_minus.specs.Beneath.{ArePlacesFor, HasBeneath}
+use Rattle.lrp_minus.specs.Counts.{GrowsIn, HasAtMost, most_spared}
 use Rattle.lrp_cutting.specs.Differences.{greatest_reach}
 use Rattle.lrp_cutting.specs.Settling.{IsLike}
 use Rattle.lrp_minus.specs.declared.differences.Difference.{Difference}
@@ -91,6 +93,18 @@ IsSameAdded d set old new = (high : ℕ) → SidesHaveReach d.left.now d.right.n
 abbrev pub IsSameRefused : Difference → (List ℤ → List ℕ → Type 0) → StoreView → StoreView → Type 0
 IsSameRefused d set old new = (high : ℕ) → SidesHaveReach d.left.now d.right.now high → IsRefused set d.cap (high + 2 * d.left.now.period) old new
 
+-- in the cell at most so many zones are added for each of the left store's
+abbrev pub IsSameFew : Difference → Cell → StoreView → StoreView → Type 0
+IsSameFew d cell old new = (n : ℕ) → HasAtMost n d.right.now → GrowsByAtMost (most_spared d.left.now n cell) cell old new
+
+-- so it is where the period of the left store is that of the other
+abbrev pub IsCellFew : Difference → Cell → StoreView → StoreView → Type 0
+IsCellFew d cell old new = d.left.now.period ≡ old.period → IsSameFew d cell old new
+
+-- and so it is in all cells, where the period of the left store is that of the other
+abbrev pub IsDifferenceFew : Difference → StoreView → StoreView → Type 0
+IsDifferenceFew d old new = d.left.now.period ≡ old.period → (n : ℕ) → HasAtMost n d.right.now → GrowsIn (λ cell. Contains (finite.keys d.left.now.tables) cell) (most_spared d.left.now n) old new
+
 -- the difference can be added to out, a store of the left one's shape, in cells of its period
 pub record CanSubtractIn (d : Difference) (out : StoreView) : Type 0 where
   pub valid : IsStore out
@@ -123,6 +137,7 @@ pub record AreCutOf (zones : List ZoneView) (places : List ℕ) (k : ℕ) (rs : 
   pub to : (xs : List ℤ) → InSome cutters xs → InSome zones (map (node xs) places)
   pub from : (xs : List ℤ) → length xs ≡ length rs → HasResidues (pos k) rs xs → InSome zones (map (node xs) places) → InSome cutters xs
   pub reach : greatest_reach cutters ≤ greatest_reach zones + (k - 1)
+  pub few : length cutters ≤ length zones
 
 -- the cutters hold the tuples of the left store's cell that have one of the right store at the places
 pub record AreCutters (places : Places) (left : StoreView) (cell : Cell) (right : StoreView) (cutters : List ZoneView) : Type 0 where
@@ -131,3 +146,4 @@ pub record AreCutters (places : Places) (left : StoreView) (cell : Cell) (right 
   pub to : (xs : List ℤ) → InSome cutters xs → HasBeneath places right xs (take left.shape.texts cell.texts)
   pub from : (xs : List ℤ) → length xs ≡ left.shape.times → HasResidues (pos left.period) (take left.shape.times cell.residues) xs → HasBeneath places right xs (take left.shape.texts cell.texts) → InSome cutters xs
   pub reach : (high : ℕ) → HasReach right high → greatest_reach cutters ≤ high + (left.period - 1)
+  pub few : (n : ℕ) → HasAtMost n right → length cutters ≤ n

@@ -2,6 +2,7 @@
 ghost use Rattle.std.specs.Prelude.{IfOk};
 ghost use Rattle.lrp_store.specs.Stores.{IsStore};
 ghost use Rattle.lrp_tables.specs.Steps.{CanComplement, IsComplementResult};
+ghost use Rattle.lrp_minus.specs.Counts.{HasFewAbsences};
 
 use crate::absences::{Absences, fill_texts};
 use lrp_model::Copies;
@@ -16,6 +17,7 @@ pub fn complement(setting: &Setting<'_>, table: &Table) -> Result<Table, StepFau
     ensures complement { IsComplementResult setting.now.cap setting.now.domain.now table.now
         result }
     ensures valid { IfOk result (λ made. IsStore made.store) }
+    ensures few { IfOk result (λ made. HasFewAbsences table.now.store made.store) }
 {
     let alloc = setting.alloc;
     let vars = Vars {

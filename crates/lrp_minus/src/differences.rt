@@ -1,8 +1,9 @@
 // Differences of tables.
-ghost use Rattle.std.specs.Prelude.{◌≡◌, IfOk, OnOk, Err};
+ghost use Rattle.std.specs.Prelude.{◌≡◌, pos, IfOk, OnOk, Err};
 ghost use Rattle.lrp_store.specs.Stores.{IsStore};
 ghost use Rattle.lrp_tables.specs.Steps.{CanMinus, IsMinusResult};
-ghost use Rattle.lrp_minus.specs.Cutters.{CanSubtractIn, CanTakeIn, IsCellOfLeft, IsDifferenceAdded, IsDifferenceRefused, IsInDifference, IsInDifferenceAt, IsSameAdded, IsSameRefused};
+ghost use Rattle.lrp_minus.specs.Cutters.{CanSubtractIn, CanTakeIn, IsCellFew, IsCellOfLeft, IsDifferenceAdded, IsDifferenceFew, IsDifferenceRefused, IsInDifference, IsInDifferenceAt, IsSameAdded, IsSameFew, IsSameRefused};
+ghost use Rattle.lrp_minus.specs.Counts.{HasFewSpared};
 
 use crate::cutters::cutters_of;
 use crate::filling::add_left;
@@ -33,6 +34,8 @@ pub fn minus(
     requires { CanMinus period left.now right.now }
     ensures difference { IsMinusResult setting.now.cap period left.now right.now result }
     ensures valid { IfOk result (λ made. IsStore made.store) }
+    ensures few { period ≡ pos left.now.store.period
+        → IfOk result (λ made. HasFewSpared left.now.store right.now.store made.store) }
 {
     let alloc = setting.alloc;
     let vars = Vars {
@@ -62,6 +65,7 @@ fn add_difference(difference: &Difference<'_>, out: &mut Store) -> Result<(), St
         (IsInDifference difference.now) out.old out.new) }
     ensures refused { result ≡ Err StoreFault.TooManyCells → IsDifferenceRefused difference.now
         (IsInDifference difference.now) out.old out.new }
+    ensures few { OnOk result (IsDifferenceFew difference.now out.old out.new) }
 {
     for cell in difference.left.cells() {
         match add_cell(difference, &cell, out) {
@@ -80,6 +84,7 @@ fn add_cell(difference: &Difference<'_>, cell: &Cell, out: &mut Store) -> Result
         (IsInDifferenceAt difference.now cell.now) out.old out.new) }
     ensures refused { result ≡ Err StoreFault.TooManyCells → IsDifferenceRefused difference.now
         (IsInDifferenceAt difference.now cell.now) out.old out.new }
+    ensures few { OnOk result (IsCellFew difference.now cell.now out.old out.new) }
 {
     if difference.left.period() == out.period() {
         return add_same_cell(difference, cell, out);
@@ -105,6 +110,7 @@ fn add_same_cell(
         (IsInDifferenceAt difference.now cell.now) out.old out.new) }
     ensures refused { result ≡ Err StoreFault.TooManyCells → IsSameRefused difference.now
         (IsInDifferenceAt difference.now cell.now) out.old out.new }
+    ensures few { OnOk result (IsSameFew difference.now cell.now out.old out.new) }
 {
     let left = difference.left;
     let (right, places) = (difference.right, difference.places);

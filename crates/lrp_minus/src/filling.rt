@@ -1,9 +1,10 @@
 // What is left of zones, added to stores.
 ghost use Rattle.std.specs.Prelude.{◌≡◌, ◌+◌, ◌≤◌, ◌^◌, ◌∷◌, take, Err, OnOk};
-ghost use Rattle.lrp_store.specs.Growing.{IsAdded, IsRefused};
+ghost use Rattle.lrp_store.specs.Growing.{GrowsByAtMost, IsAdded, IsRefused};
 ghost use Rattle.lrp_store.specs.Stores.{IsStore};
 ghost use Rattle.lrp_cutting.specs.Differences.{AreOfCell, greatest_reach};
 ghost use Rattle.lrp_cutting.specs.Settling.{IsPlaceOf};
+ghost use Rattle.lrp_cutting.specs.Thresholds.{most_pieces};
 ghost use Rattle.lrp_minus.specs.Filling.{IsUncut};
 
 use lrp_cutting::Cutters;
@@ -31,6 +32,8 @@ pub(crate) fn add_left(
     ensures refused { result ≡ Err StoreFault.TooManyCells
         → IsRefused (IsUncut zone.now cutters.now (take store.old.shape.texts cell.now.texts)) cap
         (greatest_reach (zone.now ∷ cutters.now) + zone.now.period) store.old store.new }
+    ensures few { OnOk result (GrowsByAtMost (most_pieces zone.now cutters.now) cell.now store.old
+        store.new) }
 {
     if cutters.len() == 0 {
         return store.add_new(cell, zone, cap);

@@ -1,6 +1,7 @@
 -- Where the periods are the same, the cell stays one; else what is left of one zone more is added.
-use Rattle.std.proofs.Common.{◌≡◌, refl, ◌+◌, ◌*◌, ◌-◌, ◌^◌, Some, ◌∙◌, arith}
-use Rattle.std.specs.Prelude.{slice_get}
+use Rattle.std.proofs.Common.{◌≡◌, refl, ◌+◌, ◌*◌, ◌-◌, ◌^◌, Some, ◌∙◌, arith, sym, ap, of_z}
+use Rattle.std.specs.Prelude.{pos, slice_get}
+use Rattle.std.specs.Int.{w64}
 use Rattle.std.proofs.lemmas.List.{length-map}
 use Rattle.lrp_store.specs.Stores.{tables_at, zone_of, zones_at}
 use Rattle.lrp_cutting.proofs.Lists.{on_ok, read_begins, read_next, read_goes, read_ends}
@@ -83,3 +84,11 @@ returns-clause-ok c = λ high l r.
     let all = read_ends _ (zones_at c.args.difference.now.left.now c.args.cell.now) c.loop-zone.zone-iterator c.loop-zone.invariant c.in-None.ensures.steps.0 in
     let e = length-map (tables_at c.args.difference.now.left.now c.args.cell.now) (zone_of c.args.difference.now.left.now c.args.cell.now) in
     spared_all c.args.difference.now.places.now c.args.difference.now.left.now c.args.cell.now c.args.difference.now.right.now c.args.difference.now.cap (high + 2 * c.args.out.now.period) c.args.out.now c.loop-zone.out c.loop-zone.invariant.place (omega (arith, all, e)) (c.loop-zone.invariant.holds.2 high l r)
+
+pub returns-then-period-clause-few : goal.returns-then-period-clause-few
+returns-then-period-clause-few c = on_ok _ _ c.add_same_cell.result (λ f e. f) c.add_same_cell.ensures.few
+
+pub returns-clause-few : goal.returns-clause-few
+returns-clause-few c = λ e.
+    let same : c.period.result ≡ c.period-2.result = c.period.ensures ∙ ap pos e ∙ sym c.period-2.ensures in
+    absurd (c.if-period.false (ap (of_z w64) same))
