@@ -1,12 +1,13 @@
 -- Hulls of zones, and hulls that have what others have.
-use Rattle.std.proofs.Common.{◌≡◌, ℕ, ◌+◌, ◌<◌, ◌≤◌, List, [], ◌∷◌, ◌++◌, None, length, set, get_or, inl, inr, ap, sym, subst, ◌∙◌, arith}
-use Rattle.std.specs.Prelude.{ℤ, pos}
+use Rattle.std.proofs.Common.{◌≡◌, ℕ, ◌+◌, ◌<◌, ◌≤◌, List, [], ◌∷◌, ◌++◌, None, length, replicate, set, get_or, inl, inr, ap, sym, subst, ◌∙◌, arith}
+use Rattle.std.specs.Prelude.{ℤ, pos, ◌-ℤ◌}
+use Rattle.std.proofs.lemmas.Int.{ints}
 use Rattle.std.proofs.lemmas.Bool.{cases_eq}
 use Rattle.std.proofs.lemmas.List.{get_or-set_same, get_or-set_other, get_or_append_left, get_or-append-add, get_or_default, length-append, length-set}
 use Rattle.lrp_theory.specs.Entries.{node}
-use Rattle.lrp_zone.specs.Zones.{ZoneView, IsMember}
+use Rattle.lrp_zone.specs.Zones.{ZoneView, IsMember, columns_of}
 use Rattle.lrp_tables.specs.declared.pieces.Piece.{Piece}
-use Rattle.lrp_hulls.specs.Hulls.{AreHullsOf, AreWider, AreWiderTexts, IsHullOf, IsWiderHull, hull_at}
+use Rattle.lrp_hulls.specs.Hulls.{AreHullsOf, AreSpansOf, AreWider, AreWiderTexts, IsHullOf, IsWiderHull, hull_at}
 use Rattle.lrp_hulls.specs.Queries.{piece_at}
 use Rattle.lrp_hulls.specs.Spans.{IsInHullSpan as IsInSpan, IsInTextSpan, IsWiderSpan as IsWider, IsWiderText, span_at, text_span_at}
 use Rattle.lrp_hulls.specs.declared.hull.Hull.{Hull}
@@ -30,6 +31,13 @@ spans_more zone i spans span low are one = record {
   size = length-set spans i span ∙ are.size;
   each = set_more (λ j s. (xs : List ℤ) → IsMember zone xs → IsInSpan zone.period s (node xs (j + 1))) (record { low = None; high = None; first = pos 0; last = pos 0 }) spans i span (let s : length spans ≡ 8 = are.size in omega (arith, s, low)) are.each one;
 }
+
+pub less_nothing : (x : ℤ) → x -ℤ pos 0 ≡ x
+less_nothing x = omega (arith, ints)
+
+-- the span of a zone's only column, put before others
+pub spans_first : (zone : ZoneView) → columns_of zone ≡ 1 → (rest : ColumnSpan) (span : ColumnSpan) → ((xs : List ℤ) → IsMember zone xs → IsInSpan zone.period span (node xs 1)) → AreSpansOf zone (set (replicate 8 rest) 0 span)
+spans_first zone lone rest span one = record { each = λ i low below xs m. let e : i ≡ 0 = omega (arith, lone, below) in subst (λ j. IsInSpan zone.period (span_at (set (replicate 8 rest) 0 span) j) (node xs (j + 1))) (sym e) (one xs m) }
 
 -- the spans of the first i texts
 pub record AreTextsBefore (numbers : List ℕ) (i : ℕ) (spans : List TextSpan) : Type 0 where

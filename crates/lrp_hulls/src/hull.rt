@@ -7,7 +7,7 @@ ghost use Rattle.lrp_zone.specs.Zones.{IsMember, columns_of};
 ghost use Rattle.lrp_hulls.specs.Hulls.{AreSpansOf, AreTextSpansOf, AreWider, AreWiderTexts, IsHullOf, IsWiderHull};
 ghost use Rattle.lrp_hulls.specs.Spans.{IsInHullSpan as IsInSpan, IsInTextSpan, IsWiderText, span_at, text_span_at};
 
-use crate::range::{high_end, low_end};
+use crate::range::{high_end, low_end, stored_low_end};
 use crate::span::ColumnSpan;
 use lrp_matrix::Matrix;
 use lrp_tables::Piece;
@@ -93,6 +93,33 @@ pub(crate) fn text_span_of_column(spans: &[TextSpan; 8], i: usize) -> TextSpan
 
 // Where the values of the columns of a zone lie.
 fn spans_of(zone: &Zone) -> [ColumnSpan; 8]
+    ensures { AreSpansOf zone.now result }
+{
+    if zone.columns() == 1 {
+        lone_spans(zone)
+    } else {
+        closed_spans(zone)
+    }
+}
+
+// Where the values of a zone's only column lie. The bounds that the zone stores are the closed ones.
+fn lone_spans(zone: &Zone) -> [ColumnSpan; 8]
+    requires { columns_of zone.now ≡ 1 }
+    ensures { AreSpansOf zone.now result }
+{
+    let residue = zone.residue(1);
+    let mut spans = [whole(); 8];
+    spans[0] = ColumnSpan {
+        low: stored_low_end(zone.bound(0, 1)),
+        high: zone.bound(1, 0),
+        first: residue,
+        last: residue,
+    };
+    spans
+}
+
+// Where the values of the columns lie by the closed bounds of the zone.
+fn closed_spans(zone: &Zone) -> [ColumnSpan; 8]
     ensures { AreSpansOf zone.now result }
 {
     let least = zone.closed();

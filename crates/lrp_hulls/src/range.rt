@@ -78,6 +78,17 @@ pub(crate) fn low_end(bound: Option<i128>) -> Option<i64>
     Some(-above)
 }
 
+/// The same of a stored bound.
+pub(crate) fn stored_low_end(bound: Option<i64>) -> Option<i64>
+    ensures { (x : ℤ) → Within (pos 0 -ℤ x) bound → Above x result }
+{
+    let above = bound?;
+    if above == i64::MIN {
+        return None;
+    }
+    Some(-above)
+}
+
 /// The high end that a bound of a number minus zero gives it, where there is one of the word's size.
 pub(crate) fn high_end(bound: Option<i128>) -> Option<i64>
     ensures { (x : ℤ) → Within (x -ℤ pos 0) bound → Within x result }

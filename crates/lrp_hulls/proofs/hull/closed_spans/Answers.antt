@@ -2,7 +2,7 @@
 use Rattle.std.proofs.Common.{◌≡◌, ◌≤◌, arith}
 use Rattle.lrp_zone.specs.Zones.{columns_of}
 use Rattle.lrp_hulls.proofs.Hulled.{spans_more}
-use Rattle.lrp_hulls.proofs.hull.spans_of.Goals as goal
+use Rattle.lrp_hulls.proofs.hull.closed_spans.Goals as goal
 
 pub loop-i-preserved : goal.loop-i-preserved
 loop-i-preserved c =
