@@ -1,5 +1,6 @@
 -- The lemmas: cells and lists with one value fewer, and sets that are added part by part.
 pub mod Likeness
+pub mod Listed
 pub mod Compared
 pub mod Conditioned
 pub mod Cuts
@@ -12,6 +13,7 @@ pub mod Leaves
 pub mod Nearby
 pub mod NewZones
 pub mod NoColumns
+pub mod OwnColumns
 pub mod BothFound
 pub mod Parts
 pub mod ReadRows

@@ -1,6 +1,7 @@
 -- Rows of a relation as patterns.
-use Rattle.std.proofs.Common.{◌≡◌, ◌≢◌, ℕ, zero, suc, ◌+◌, ◌-◌, ◌*◌, ◌<◌, ◌≤◌, ◌^◌, inl, inr, Bool, true, false, List, [], ◌∷◌, ◌++◌, length, take, drop, map, Option, None, Some, refl, sym, ap, subst, ◌∙◌, arith, get_or, Contains}
+use Rattle.std.proofs.Common.{◌≡◌, ◌≢◌, ℕ, zero, suc, ◌+◌, ◌-◌, ◌*◌, ◌<◌, ◌≤◌, ◌^◌, inl, inr, Bool, true, false, List, [], ◌∷◌, ◌++◌, length, take, drop, map, Option, None, Some, refl, sym, ap, subst, ◌∙◌, arith, get_or, Contains, bytes_eq}
 use Rattle.std.specs.Prelude.{ℤ, pos, neg_ℤ, nat_abs, min, max, All, ◌+ℤ◌, ◌-ℤ◌, ◌≤ℤ◌, ◌<ℤ◌, ◌==◌, if◌then◌else◌, flat_map, slice_get, MatchOption}
+use Rattle.std.specs.Cmp.Lexicographic.{bytes_decides}
 use Rattle.std.specs.List.{AllByRecursion}
 use Rattle.std.proofs.lemmas.Int.{ints}
 use Rattle.std.proofs.Common.{to_z, of_z}
@@ -38,7 +39,7 @@ use Rattle.lrp_algebra.specs.declared.pattern.Pattern.{Pattern}
 use Rattle.lrp_algebra.specs.Comparisons.{side_value}
 use Rattle.lrp_algebra.specs.Conditions.{condition_reach, IsWithTest, HasNoTest, IsWithZone}
 use Rattle.lrp_algebra.specs.Patterns.{parts_of}
-use Rattle.lrp_algebra.specs.Rows.{IsOfValue, DividesPeriod, HasSmallPeriod, term_times, offsets_reach, bounds_reach, IsShifted, MeetsEach, IsZoneOfBounds, HasNoBounded, IsWithBounds, HasNoBounds, IsWithValue, HasNoValue, IsWithValues, HasNoValues, IsOfRow, HasNoRow}
+use Rattle.lrp_algebra.specs.Rows.{IsOfValue, DividesPeriod, HasSmallPeriod, term_times, offsets_reach, bounds_reach, IsShifted, MeetsEach, IsZoneOfBounds, HasNoBounded, IsWithBounds, HasNoBounds, IsWithValue, HasNoValue, IsWithValues, HasNoValues, IsNeverOf, AreNeverOf, IsOfRow, HasNoRow}
 use Rattle.lrp_algebra.proofs.Compared.{one_divides}
 use Rattle.lrp_algebra.proofs.Conditioned.{zone_to, zone_from, all_places, all_values}
 use Rattle.lrp_algebra.proofs.Found.{all_one, reach_more}
@@ -182,6 +183,33 @@ take_map env (suc n) (t ∷ terms) = ap (λ l. term_value env t ∷ l) (take_map
 
 pub none_of_values : (domain : List Text) (times texts : List Identifier) (values : List Value) (terms : List Term) (n : ℕ) → HasNoValues domain times texts (take n values) (take n terms) → HasNoValues domain times texts values terms
 none_of_values domain times texts values terms n fails = record { none = λ env ns a h. fails.none env ns a (subst (IsOf (take n values)) (take_map env n terms) (values_front n values (map (term_value env) terms) h)) }
+
+-- ---- values that fail for each assignment
+
+-- another text is never what the term stands for
+pub other_text : (value : Value) (term : Term) (here asked : Text) → value ≡ Const here → term ≡ data_term (data_const asked) → bytes_eq here asked ≡ false → IsNeverOf value term
+other_text value term here asked ev et differ = record { none = λ env h. (let same : bytes_eq here asked ≡ true = (bytes_decides here asked).1 (sym (subst (λ u. IsOfValue (Const here) (term_value env u)) et (subst (λ v. IsOfValue v (term_value env term)) ev h))) in cc) }
+
+first_and_rest : (v : Value) (values : List Value) (d : Datum) (tuple : List Datum) → IsOf (v ∷ values) (d ∷ tuple) → IsOfValue v d × IsOf values tuple
+first_and_rest (Point at) values (time x) tuple h = h
+first_and_rest (Const c) values (text t) tuple h = h
+first_and_rest (Point at) values (text t) tuple h = absurd h
+first_and_rest (Const c) values (time x) tuple h = absurd h
+
+-- what all terms stand for is of the values, so what each stands for is
+value_at : (env : Assignment) (values : List Value) (terms : List Term) (i : ℕ) (value : Value) (term : Term) → i < length values → i < length terms → value ≡ get_or values i value → term ≡ get_or terms i term → IsOf values (map (term_value env) terms) → IsOfValue value (term_value env term)
+value_at env [] terms i value term low high ev et h = absurd (omega (arith, low))
+value_at env (v ∷ values) [] i value term low high ev et h = absurd (omega (arith, high))
+value_at env (v ∷ values) (t ∷ terms) zero value term low high ev et h =
+    subst (λ w. IsOfValue w (term_value env term)) (sym ev) (subst (λ u. IsOfValue v (term_value env u)) (sym et) (first_and_rest v values (term_value env t) (map (term_value env) terms) h).0)
+value_at env (v ∷ values) (t ∷ terms) (suc i) value term low high ev et h = value_at env values terms i value term (omega (arith, low)) (omega (arith, high)) ev et (first_and_rest v values (term_value env t) (map (term_value env) terms) h).1
+
+-- where one value fails, all of them do
+pub never_by : (values : List Value) (terms : List Term) (i : ℕ) (value : Value) (term : Term) → slice_get values i ≡ Some value → slice_get terms i ≡ Some term → IsNeverOf value term → AreNeverOf values terms
+never_by values terms i value term ev et never = record {
+  none = λ env h. never.none env (value_at env values terms i value term (slice_get_within values i value ev) (slice_get_within terms i term et)
+      (sym (get_or_from_slice_get values i value value ev)) (sym (get_or_from_slice_get terms i term term et)) h);
+}
 
 -- ---- the sides of bounds
 
@@ -433,6 +461,9 @@ module _ (domain : List Text) (times texts : List Identifier) (terms : List Term
   pub row_found : (found : Option Pattern) → MatchOption found (HasNoBounds times terms row.bounds) (IsWithBounds times terms row.bounds mid) → MatchOption found (HasNoRow domain times texts terms row) (IsOfRow domain times texts terms row)
   row_found None h = row_no h
   row_found (Some new) h = row_of new h
+
+pub row_never : (domain : List Text) (times texts : List Identifier) (terms : List Term) (row : Row) → AreNeverOf row.values terms → HasNoRow domain times texts terms row
+row_never domain times texts terms row never = record { none = λ env ns a h. never.none env h.values }
 
 pub row_none : (domain : List Text) (times texts : List Identifier) (terms : List Term) (row : Row) → HasNoValues domain times texts row.values terms → HasNoRow domain times texts terms row
 row_none domain times texts terms row fails = record { none = λ env ns a h. fails.none env ns a h.values }

@@ -1,10 +1,12 @@
 -- What the bounds of a comparison stand for.
-use Rattle.std.specs.Prelude.{◌≡◌, ℕ, ℤ, ◌+◌, ◌≤◌, ◌+ℤ◌, ◌-ℤ◌, ◌≤ℤ◌, List, length, nat_abs, All, ◌⊎◌}
+use Rattle.std.specs.Prelude.{◌≡◌, ℕ, ℤ, ◌+◌, ◌≤◌, ◌+ℤ◌, ◌-ℤ◌, ◌≤ℤ◌, List, length, map, take, nat_abs, All, ◌⊎◌}
 use Rattle.lrp_theory.specs.Entries.{node}
 use Rattle.lrp_model.specs.Satisfaction.{Compares}
 use Rattle.lrp_model.specs.declared.relations.Bound.{Bound}
 use Rattle.lrp_model.specs.declared.formulas.Op.{Op}
 use Rattle.lrp_zone.specs.Zones.{ZoneView, IsMember, columns_of, reach_of}
+use Rattle.lrp_zone.specs.Spread.{ArePlaces}
+use Rattle.lrp_algebra.specs.declared.comparisons.OwnSides.{OwnSides}
 use Rattle.lrp_algebra.specs.declared.comparisons.ShiftedColumn.{ShiftedColumn}
 
 -- the value of a side
@@ -30,3 +32,15 @@ pub record IsCompared (left : ShiftedColumn) (op : Op) (right : ShiftedColumn) (
 -- no tuple of so many times has sides that compare
 pub record HasNoCompared (left : ShiftedColumn) (op : Op) (right : ShiftedColumn) (columns : ℕ) : Type 0 where
   pub none : (xs : List ℤ) → length xs ≡ columns → Compares op (side_value left xs) (side_value right xs) → ⊥
+
+-- own are the sides over the columns alone that they have, of which each has its place among so many times
+pub record IsOverOwn (times : ℕ) (left right : ShiftedColumn) (own : OwnSides) : Type 0 where
+  pub few : own.columns ≤ 8
+  pub count : length (take own.columns own.places) ≡ own.columns
+  pub places : ArePlaces (take own.columns own.places) times
+  pub left_high : own.left.column ≤ own.columns
+  pub right_high : own.right.column ≤ own.columns
+  pub left_plus : own.left.plus ≡ left.plus
+  pub right_plus : own.right.plus ≡ right.plus
+  pub left_value : (xs : List ℤ) → side_value own.left (map (node xs) (take own.columns own.places)) ≡ side_value left xs
+  pub right_value : (xs : List ℤ) → side_value own.right (map (node xs) (take own.columns own.places)) ≡ side_value right xs

@@ -6,6 +6,7 @@ pub mod Patterns
 pub mod Rows
 pub mod Tables
 pub mod Gathered
+pub mod Meetings
 -- What functions inside say to one another.
 pub mod Columns
 pub mod Comparisons

@@ -106,6 +106,16 @@ pub record IsWithValues (domain : List Text) (times texts : List Identifier) (va
 pub record HasNoValues (domain : List Text) (times texts : List Identifier) (values : List Value) (terms : List Term) : Type 0 where
   pub none : (env : Assignment) (ns : List ℕ) → AreTexts domain ns (map env.texts texts) → IsOf values (map (term_value env) terms) → ⊥
 
+-- ---- values that fail for each assignment
+
+-- whatever is assigned, what the term stands for is not of the value
+pub record IsNeverOf (value : Value) (term : Term) : Type 0 where
+  pub none : (env : Assignment) → IsOfValue value (term_value env term) → ⊥
+
+-- whatever is assigned, what the terms stand for is not of the values
+pub record AreNeverOf (values : List Value) (terms : List Term) : Type 0 where
+  pub none : (env : Assignment) → IsOf values (map (term_value env) terms) → ⊥
+
 -- ---- rows
 
 -- the pattern asks that the values of the terms are a member of the row

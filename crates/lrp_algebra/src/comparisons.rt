@@ -1,10 +1,10 @@
 // The zones of comparisons and of points.
-ghost use Rattle.std.specs.Prelude.{◌≡◌, ◌+◌, ◌<◌, ◌≤◌, ◌^◌, ◌↔◌, ◌+ℤ◌, ◌-ℤ◌, ◌≤ℤ◌, ◌<ℤ◌, ℤ, List, pos, nat_abs, neg_ℤ, length, IfSome, IfNone};
+ghost use Rattle.std.specs.Prelude.{◌≡◌, ◌+◌, ◌<◌, ◌≤◌, ◌^◌, ◌↔◌, ◌+ℤ◌, ◌-ℤ◌, ◌≤ℤ◌, ◌<ℤ◌, ◌⊎◌, ◌≢◌, true, false, ℕ, ℤ, List, pos, nat_abs, neg_ℤ, length, IfSome, IfNone};
 ghost use Rattle.lrp_theory.specs.Divides.{Divides, IsPointMember};
 ghost use Rattle.lrp_theory.specs.Entries.{node};
 ghost use Rattle.lrp_model.specs.Satisfaction.{Compares};
 ghost use Rattle.lrp_zone.specs.Zones.{IsResidue};
-ghost use Rattle.lrp_algebra.specs.Comparisons.{AreBounds, IsCompared, HasNoCompared};
+ghost use Rattle.lrp_algebra.specs.Comparisons.{AreBounds, IsCompared, HasNoCompared, IsOverOwn};
 
 use lrp_model::{Bound, Op};
 use lrp_zone::Zone;
@@ -14,6 +14,105 @@ use lrp_zone::Zone;
 pub struct ShiftedColumn {
     pub column: usize,
     pub plus: i64,
+}
+
+/// The sides of a comparison over the columns that they have alone, how many these are, and where they stand.
+#[derive(Clone, Copy)]
+pub struct OwnSides {
+    pub left: ShiftedColumn,
+    pub right: ShiftedColumn,
+    pub columns: usize,
+    pub places: [usize; 8],
+}
+
+/// The sides over their own columns, so that a comparison over many columns is a zone of two at most.
+pub fn own_sides(left: &ShiftedColumn, right: &ShiftedColumn) -> OwnSides
+    ensures { (times : ℕ) → left.now.column ≤ times → right.now.column ≤ times
+        → IsOverOwn times left.now right.now result }
+{
+    if left.column == 0 {
+        right_alone(left, right)
+    } else if adds_column(left, right) {
+        both_columns(left, right)
+    } else {
+        left_alone(left, right)
+    }
+}
+
+// Whether the right side has a column, and another one than the left side.
+fn adds_column(left: &ShiftedColumn, right: &ShiftedColumn) -> bool
+    ensures apart { result ≡ true → right.now.column ≢ left.now.column }
+    ensures positive { result ≡ true → 0 < right.now.column }
+    ensures same { result ≡ false → (right.now.column ≡ 0)
+        ⊎ (right.now.column ≡ left.now.column) }
+{
+    if right.column == 0 {
+        return false;
+    }
+    right.column != left.column
+}
+
+// The sides of two columns.
+fn both_columns(left: &ShiftedColumn, right: &ShiftedColumn) -> OwnSides
+    requires left { 0 < left.now.column }
+    requires right { 0 < right.now.column }
+    requires apart { right.now.column ≢ left.now.column }
+    ensures { (times : ℕ) → left.now.column ≤ times → right.now.column ≤ times
+        → IsOverOwn times left.now right.now result }
+{
+    OwnSides {
+        left: moved_to(1, left),
+        right: moved_to(2, right),
+        columns: 2,
+        places: [left.column, right.column, 0, 0, 0, 0, 0, 0],
+    }
+}
+
+// The sides where the left one is a number.
+fn right_alone(left: &ShiftedColumn, right: &ShiftedColumn) -> OwnSides
+    requires { left.now.column ≡ 0 }
+    ensures { (times : ℕ) → right.now.column ≤ times
+        → IsOverOwn times left.now right.now result }
+{
+    let columns = own_column(right.column);
+    OwnSides {
+        left: moved_to(0, left),
+        right: moved_to(columns, right),
+        columns,
+        places: [right.column, 0, 0, 0, 0, 0, 0, 0],
+    }
+}
+
+// The sides where the right one is a number, or has the column of the left one.
+fn left_alone(left: &ShiftedColumn, right: &ShiftedColumn) -> OwnSides
+    requires left { 0 < left.now.column }
+    requires right { (right.now.column ≡ 0) ⊎ (right.now.column ≡ left.now.column) }
+    ensures { (times : ℕ) → left.now.column ≤ times → IsOverOwn times left.now right.now result }
+{
+    let column = own_column(right.column);
+    OwnSides {
+        left: moved_to(1, left),
+        right: moved_to(column, right),
+        columns: 1,
+        places: [left.column, 0, 0, 0, 0, 0, 0, 0],
+    }
+}
+
+// The only column, where the side has one, and else zero.
+fn own_column(column: usize) -> usize
+    ensures { ((column ≡ 0) × (result ≡ 0)) ⊎ ((0 < column) × (result ≡ 1)) }
+{
+    if column == 0 { 0 } else { 1 }
+}
+
+// The side with another column in the place of its own.
+fn moved_to(column: usize, side: &ShiftedColumn) -> ShiftedColumn
+    ensures { result ≡ record { column = column; plus = side.now.plus } }
+{
+    ShiftedColumn {
+        column,
+        plus: side.plus,
+    }
 }
 
 /// The tuples of so many times whose sides compare, or `None` where there are none.

@@ -7,7 +7,7 @@ ghost use Rattle.lrp_tables.specs.Columns.{names_of_time};
 ghost use Rattle.lrp_tables.specs.Tables.{AreNamesAmong};
 ghost use Rattle.lrp_algebra.specs.Conditions.{IsWithTest, HasNoTest};
 
-use crate::comparisons::{compared, shifted};
+use crate::comparisons::{compared, own_sides, shifted};
 use crate::pattern::Pattern;
 use crate::sides::side_of;
 use lrp_model::{List, Memory, Name, Op, RowPoint, TimeTerm};
@@ -31,14 +31,11 @@ pub fn with_comparison(
         (Compare left.now op right.now) pattern)
         (IsWithTest domain times.now texts (Compare left.now op right.now) pattern)) }
 {
-    let columns = times.len();
     let first = side_of(left, times);
     let second = side_of(right, times);
-    match compared(&first, op, &second, columns) {
-        Some(zone) => {
-            let places = counted();
-            Ok(Some(pattern.with_zone(&zone, &places[..columns])?))
-        }
+    let own = own_sides(&first, &second);
+    match compared(&own.left, op, &own.right, own.columns) {
+        Some(zone) => Ok(Some(pattern.with_zone(&zone, &own.places[..own.columns])?)),
         None => Ok(None),
     }
 }

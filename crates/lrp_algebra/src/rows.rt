@@ -1,20 +1,72 @@
 // The rows of a relation as patterns.
-ghost use Rattle.std.specs.Prelude.{◌≡◌, ◌≤◌, length, flat_map, IfOk, MatchOption};
+ghost use Rattle.std.specs.Prelude.{◌≡◌, ◌≤◌, length, flat_map, false, IfOk, MatchOption};
 ghost use Rattle.std.specs.List.{AllByRecursion};
 ghost use Rattle.lrp_tables.specs.Columns.{texts_of_term, times_of_term};
 ghost use Rattle.lrp_tables.specs.Tables.{AreNamesAmong};
-ghost use Rattle.lrp_algebra.specs.Rows.{CanBeRead, HasSmallPeriod, IsWithValue, HasNoValue, IsWithValues, HasNoValues, IsOfRow, HasNoRow};
+ghost use Rattle.lrp_algebra.specs.Rows.{CanBeRead, HasSmallPeriod, IsNeverOf, AreNeverOf, IsWithValue, HasNoValue, IsWithValues, HasNoValues, IsOfRow, HasNoRow};
 
 use crate::conditions::with_member;
 use crate::equalities::with_constant;
 use crate::pattern::Pattern;
 use crate::row_bounds::with_bounds;
-use lrp_model::{Domain, List, Memory, Row, Term, Value};
+use lrp_model::{DataTerm, Domain, List, Memory, Row, Term, Value};
 use lrp_tables::Vars;
 use std::alloc::Global;
 
 /// The pattern of the tuples for which the values of the terms are a member of the row, or `None` where there are none.
 pub fn row_pattern(
+    alloc: Global,
+    row: &Row,
+    terms: &List<Term>,
+    vars: &Vars,
+    domain: &Domain,
+) -> Result<Option<Pattern>, Memory>
+    requires few_times { length vars.now.times ≤ 8 }
+    requires few_texts { length vars.now.texts ≤ 8 }
+    requires times { AreNamesAmong (flat_map times_of_term terms.now) vars.now.times }
+    requires texts { AreNamesAmong (flat_map texts_of_term terms.now) vars.now.texts }
+    requires row { CanBeRead terms.now row.now }
+    ensures { IfOk result (λ found. MatchOption found
+        (HasNoRow domain.now vars.now.times vars.now.texts terms.now row.now)
+        (IsOfRow domain.now vars.now.times vars.now.texts terms.now row.now)) }
+{
+    if !may_have(&row.values, terms) {
+        return Ok(None);
+    }
+    pattern_of_row(alloc, row, terms, vars, domain)
+}
+
+// Whether the values may be what the terms stand for: no text among the terms has another one in its place.
+fn may_have(values: &List<Value>, terms: &List<Term>) -> bool
+    requires { length values.now ≡ length terms.now }
+    ensures { result ≡ false → AreNeverOf values.now terms.now }
+{
+    for i in 0..terms.len() {
+        if !may_be(values.at(i), terms.at(i)) {
+            return false;
+        }
+    }
+    true
+}
+
+// Whether the value may be what the term stands for: another text is not.
+fn may_be(value: &Value, term: &Term) -> bool
+    ensures { result ≡ false → IsNeverOf value.now term.now }
+{
+    match value {
+        Value::Point { .. } => true,
+        Value::Const { text } => match term {
+            Term::Time { .. } => true,
+            Term::Data { term } => match term {
+                DataTerm::Var { .. } => true,
+                DataTerm::Const { text: asked } => text == asked,
+            },
+        },
+    }
+}
+
+// The same, of any row.
+fn pattern_of_row(
     alloc: Global,
     row: &Row,
     terms: &List<Term>,
