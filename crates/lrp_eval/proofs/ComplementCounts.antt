@@ -30,7 +30,7 @@ use Rattle.lrp_tables.proofs.Mapped.{Known, many_known, many_map}
 use Rattle.lrp_eval.specs.Together.{HasComplement, IsSmallComplement, ways_at, ways_for}
 use Rattle.lrp_eval.specs.declared.together.Sides.{Sides}
 use Rattle.lrp_store.proofs.ZoneCounts.{key_is}
-use Rattle.lrp_eval.proofs.WayLaws.{below, few_numbers, first_same, second_same}
+use Rattle.lrp_periods.proofs.WayLaws.{below, few_numbers, first_same, second_same}
 
 -- ---- the number of choices
 

@@ -23,8 +23,6 @@ pub mod UnionLaws
 pub mod DropLaws
 pub mod SelectLaws
 pub mod MinusLaws
-pub mod WayLaws
-pub mod ReachLaws
 pub mod ShownLaws
 pub mod NarrowLaws
 pub mod ComplementCounts

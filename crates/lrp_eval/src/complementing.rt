@@ -2,11 +2,11 @@
 ghost use Rattle.std.specs.Prelude.{◌≡◌, IfOk, IfSome, IsTrue, [], nat_abs};
 ghost use Rattle.lrp_eval.specs.Together.{HasComplement, CanNarrow, IsSmallComplement, IsUnbrokenTable, ways_for};
 
-use crate::bounding::product_within;
 use crate::together::Sides;
 use lrp_algebra::{drop_time, join};
 use lrp_minus::{complement, minus};
 use lrp_model::{List, Name};
+use lrp_periods::product_within;
 use lrp_tables::{Setting, StepFault, Table, place_of};
 use lrp_zone::Zone;
 

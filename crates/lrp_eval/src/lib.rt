@@ -2,7 +2,6 @@
 #![tactic(auto)]
 
 mod answering;
-mod bounding;
 mod complementing;
 mod evaluation;
 mod following;

@@ -19,7 +19,7 @@ use Rattle.lrp_algebra.specs.Tables.{IsTextDropped, IsTimeDropped}
 use Rattle.lrp_algebra.proofs.Steps.{farther}
 use Rattle.lrp_dropping.specs.Without.{IsTimeCompleted}
 use Rattle.lrp_periods.specs.Combining.{AreAllParts, CanSelectPart, IsMadeOfSome, IsSomePart}
-use Rattle.lrp_periods.specs.Operations.{AreOperand, CanExtendInParts, CanSelectInParts}
+use Rattle.lrp_periods.specs.Operations.{AreOperand, CanSelectInParts}
 use Rattle.lrp_periods.specs.Parts.{ArePartsAdded, AreParts, ArePartsOf, HasSome, IsPeriodPart, IsPartOfSet, IsSmallPeriod, part_times, part_texts}
 use Rattle.lrp_periods.specs.Periods.{IsCommonPeriod, IsOwnPeriod}
 use Rattle.lrp_periods.specs.Sets.{IsExtensionOf, IsSelectionOf, IsTextCompleted}
@@ -135,24 +135,3 @@ module _ {domain : List Text} {period : ℤ} {of : List Table} {test : Test} (ca
   all_selected a = added_as
       (λ env h. record { has = record { part = h.part; listed = h.listed; has = h.made.has }; passes = h.made.passes })
       (λ env h. record { part = h.has.part; listed = h.has.listed; made = record { has = h.has.has; passes = h.passes } }) a
-
--- ---- extensions
-
-module _ {domain : List Text} {period : ℤ} {columns : List Column} {of : List Table} (can : CanExtendInParts domain period columns of) where
-  abbrev pub extend_each : Table → Set
-  extend_each part = IsExtensionOf domain (head_texts columns) (Has part domain)
-
-  pub extended_part : {part made : Table} → Contains of part → IsTableOf domain (head_times columns) (head_texts columns) part.store.period (IsExtended domain columns part) made → IsStore made.store → HasReach made.store (2 ^ 59)
-      → IsPartOfSet domain (head_times columns) (head_texts columns) period (extend_each part) made
-  extended_part {part} {made} k table valid reach =
-      let own = part_own (can.parts_are.each part k) in
-      part_as (λ env h. record { known = h.known; has = h.has }) (λ env h. record { known = h.known; has = h.has }) (part_of_table {k = pos part.store.period} table valid reach own.low own.divides)
-
-  pub widened_part : {part extended made : Table} → Contains of part → IsTableOf domain (head_times columns) (head_texts columns) part.store.period (IsExtended domain columns part) extended → made ≡ extended → IsStore made.store → HasReach made.store (2 ^ 59)
-      → IsPartOfSet domain (head_times columns) (head_texts columns) period (extend_each part) made
-  widened_part {part} {extended} {made} k table same valid reach = extended_part k (subst (IsTableOf domain (head_times columns) (head_texts columns) part.store.period (IsExtended domain columns part)) (sym same) table) valid reach
-
-  pub all_extended : {times texts : List Identifier} {new : List Table} → ArePartsAdded domain times texts period (IsMadeOfSome extend_each of) [] new → ArePartsAdded domain times texts period (IsExtensionOf domain (head_texts columns) (HasSome domain of)) [] new
-  all_extended a = added_as
-      (λ env h. record { known = h.made.known; has = record { part = h.part; listed = h.listed; has = h.made.has } })
-      (λ env h. record { part = h.has.part; listed = h.has.listed; made = record { known = h.known; has = h.has.has } }) a

@@ -214,27 +214,6 @@ joined_new {domain} {period} {k} {old} {new} {made} {part} {both} {joined} {plac
     (subst (IsTableOf domain (joint at.part.vars.times made.vars.times) (joint at.part.vars.texts made.vars.texts) (nat_abs k) (IsUnited domain at.part made)) (sym same)
     (subst (λ t. IsTableOf domain (joint t.vars.times made.vars.times) (joint t.vars.texts made.vars.texts) (nat_abs k) (IsUnited domain t made) both) (sym (some_is at.at e)) table)) valid reach) g
 
--- a copy of a part is a part
-pub copied_part : {domain : List Text} {period : ℤ} {table copy : Table} → CanBePart domain period table → copy.vars ≡ table.vars → copy.store ≡ record table.store { spare = copy.store.spare } → IsPartOfSet domain table.vars.times table.vars.texts period (Has table domain) copy
-copied_part {domain} {period} {table} {copy} can vars store = record {
-  part = record {
-    valid = copy_valid table.store copy.store can.part_is.valid store;
-    times_are = ap (λ v. v.times) vars;
-    texts_are = ap (λ v. v.texts) vars;
-    divides = subst (λ n. Divides (pos n) period) (sym (ap (λ s. s.period) store)) can.part_is.divides;
-    numbered = subst (AreNumbered domain) (sym store) (λ cell i some low. can.part_is.numbered cell i some low);
-    reach = subst (λ s. HasReach s (2 ^ 59)) (sym store) (spare_reach table.store copy.store.spare (2 ^ 59) can.part_is.reach);
-  };
-  sound = λ env h. back env (subst (λ s. InTable domain copy.vars.times copy.vars.texts s env) store h);
-  whole = λ env h. subst (λ s. InTable domain copy.vars.times copy.vars.texts s env) (sym store) (on env h);
-}
-  where
-    back : (env : Assignment) → InTable domain copy.vars.times copy.vars.texts (record table.store { spare = copy.store.spare }) env → Has table domain env
-    back env h = subst (λ v. InTable domain v.times v.texts table.store env) vars (h.0, h.1, same_spare table.store copy.store.spare _ h.0 h.2)
-
-    on : (env : Assignment) → Has table domain env → InTable domain copy.vars.times copy.vars.texts (record table.store { spare = copy.store.spare }) env
-    on env h = subst (λ v. InTable domain v.times v.texts (record table.store { spare = copy.store.spare }) env) (sym vars) (h.0, h.1, spare_same table.store copy.store.spare _ h.0 h.2)
-
 pub found_place : (parts : List Table) (table : Table) (place : ℕ) (part : Table) {r t : ℤ} → place < length parts → part ≡ get_or parts place part → IsStore part.store → IsStore table.store → r ≡ pos part.store.period → t ≡ pos table.store.period
     → to_z w64 (of_z w64 r) ≡ to_z w64 (of_z w64 t) → IsPlaceWith parts (pos table.store.period) place
 found_place parts table place part {r} {t} low at is own e f same = record {

@@ -1,32 +1,15 @@
 -- The reach of a store, cell by cell.
-use Rattle.std.proofs.Common.{◌≡◌, ◌⊎◌, inl, inr, ⊎_elim, ◌<◌, ◌≤◌, ◌+◌, ℕ, zero, suc, List, [], ◌∷◌, length, max, Option, Some, None, Contains, get_or, sym, ap, subst, ◌∙◌, arith}
-use Rattle.std.specs.Prelude.{ℤ, slice_get}
+use Rattle.std.proofs.Common.{◌≡◌, ◌⊎◌, inl, inr, ⊎_elim, ◌<◌, ◌≤◌, ◌+◌, ℕ, List, [], ◌∷◌, length, Some, Contains, sym, ap, subst, ◌∙◌, arith}
+use Rattle.std.specs.Prelude.{slice_get}
 use Rattle.std.specs.FinMap as finite
-use Rattle.std.proofs.lemmas.Int.{ints}
 use Rattle.std.proofs.lemmas.Option.{slice_get-get_or}
-use Rattle.lrp_theory.specs.Entries.{AtMost}
 use Rattle.lrp_model.specs.declared.tuples.Cell.{Cell}
 use Rattle.lrp_model.proofs.Decided.{cons_cases, contains_none}
-use Rattle.lrp_zone.specs.Zones.{ZoneView, magnitude_of, greatest_of, reach_of}
+use Rattle.lrp_zone.specs.Zones.{ZoneView, reach_of}
 use Rattle.lrp_store.specs.Stores.{StoreView, HasReach, tables_at, zone_of, zones_at}
 use Rattle.lrp_cutting.proofs.Lists.{below_or, in_map}
 use Rattle.lrp_periods.specs.Bounding.{HasReachIn}
 use Rattle.lrp_store.proofs.ZoneCounts.{key_is}
-
--- ---- one zone
-
-small_magnitude : (h : ℕ) (e : Option ℤ) → AtMost h e → magnitude_of e ≤ h
-small_magnitude h None s = omega arith
-small_magnitude h (Some a) s = omega (arith, ints)
-
-low_max : (m n h : ℕ) → m ≤ h → n ≤ h → max m n ≤ h
-low_max m n h a b = omega arith
-
--- where the first n places have small bounds, and there are no more, the reach is small
-pub low_reach : (h n : ℕ) (cells : List (Option ℤ)) → length cells ≤ n → ((p : ℕ) → p < n → AtMost h (get_or cells p None)) → greatest_of cells ≤ h
-low_reach h n [] whole small = omega arith
-low_reach h zero (e ∷ es) whole small = absurd (omega arith)
-low_reach h (suc n) (e ∷ es) whole small = low_max (magnitude_of e) (greatest_of es) h (small_magnitude h e (small zero (omega arith))) (low_reach h n es (omega arith) (λ p l. small (suc p) (omega arith)))
 
 -- ---- the zones of a cell
 

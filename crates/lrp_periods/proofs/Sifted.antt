@@ -1,6 +1,6 @@
 -- What a sieve leaves is what no part has.
-use Rattle.std.proofs.Common.{◌≡◌, ◌≢◌, ℕ, ◌<◌, ◌≤◌, ◌^◌, List, [], ◌∷◌, ◌++◌, length, map, Contains, refl, sym, ap, subst, ◌∙◌, arith}
-use Rattle.std.specs.Prelude.{ℤ, pos, nat_abs, ◌≤ℤ◌, AllPairs, IfOk, Result}
+use Rattle.std.proofs.Common.{◌≡◌, ◌≢◌, ℕ, ◌<◌, ◌≤◌, ◌^◌, List, [], ◌∷◌, length, map, Contains, refl, sym, ap, subst, ◌∙◌, arith}
+use Rattle.std.specs.Prelude.{ℤ, pos, nat_abs, ◌≤ℤ◌, AllPairs}
 use Rattle.std.proofs.lemmas.Int.{ints}
 use Rattle.lrp_theory.specs.Divides.{Divides}
 use Rattle.lrp_theory.proofs.Members.{pairs_none, pairs_one}
@@ -13,14 +13,13 @@ use Rattle.lrp_store.specs.Tables.{AreTexts}
 use Rattle.lrp_tables.specs.declared.table.Table.{Table}
 use Rattle.lrp_tables.specs.Tables.{Has, HasTexts, IsTableOf}
 use Rattle.lrp_tables.proofs.CellsNamed.{AreTuplesOf}
-use Rattle.lrp_algebra.proofs.Steps.{empty_store, positive, step_table}
+use Rattle.lrp_algebra.proofs.Steps.{empty_store, farther, positive, step_reach, step_table}
 use Rattle.lrp_periods.specs.Operations.{AreOperand}
 use Rattle.lrp_periods.specs.Parts.{HasSome, IsPartOfSet, part_texts, part_times}
 use Rattle.lrp_periods.specs.Sets.{IsComplementOf}
 use Rattle.lrp_periods.specs.Sieves.{AreCoversOf, CanSift, IsLeftOpen, IsLineStore}
-use Rattle.lrp_periods.specs.declared.parts.PartsFault.{PartsFault}
 use Rattle.lrp_periods.specs.declared.sieves.Cover.{Cover}
-use Rattle.lrp_periods.proofs.PartLaws.{checked_part}
+use Rattle.lrp_periods.proofs.PartLaws.{part_of_table}
 
 single : {X : Type 0} (xs : List X) → length xs ≡ 1 → (x : X) × (xs ≡ x ∷ [])
 single [] e = absurd (omega (arith, e))
@@ -106,12 +105,18 @@ module _ {domain : List Text} {period : ℤ} {parts : List Table} (can : AreOper
       pub sifted_table : (made : Table) → made.vars.times ≡ part_times parts → made.vars.texts ≡ part_texts parts → made.store ≡ out → IsTableOf domain (part_times parts) (part_texts parts) k (IsComplementOf domain (part_texts parts) (HasSome domain parts)) made
       sifted_table = step_table domain ascends (part_times parts) (part_texts parts) times_differ texts_differ few_times few_texts k low (IsLeftOpen covers) set are_tuples cap start out fresh 0 added
 
+      pub sifted_reach : HasReach out (2 ^ 59)
+      sifted_reach = farther out 0 (2 ^ 59) (omega arith) (step_reach domain ascends (part_times parts) (part_texts parts) times_differ texts_differ few_times few_texts k low (IsLeftOpen covers) set are_tuples cap start out fresh 0 added)
+
     -- and its part
     module _ (ascends : Ascends domain) (cap : ℕ) (start out : StoreView) (fresh : start ≡ empty_store (part_times parts) (part_texts parts) (nat_abs period)) (added : IsAdded (IsLeftOpen covers) cap 0 start out) where
-      pub sifted_part : (made : Table) (r : Result Table PartsFault) → IfOk r (λ m. m ≡ made) → made.vars.times ≡ part_times parts → made.vars.texts ≡ part_texts parts → made.store ≡ out → IfOk r (λ m. IsStore m.store) → IfOk r (λ m. HasReach m.store (2 ^ 59))
-          → IfOk r (IsPartOfSet domain (part_times parts) (part_texts parts) period (IsComplementOf domain (part_texts parts) (HasSome domain parts)))
-      sifted_part made r same et ex es valid reach =
-          checked_part {k = period} r (sifted_table ascends (nat_abs period) cap (positive period can.period_is.low) start out fresh added made et ex es) can.period_is.low (Divides-self period) same valid reach
+      pub sifted_part : (made : Table) → made.vars.times ≡ part_times parts → made.vars.texts ≡ part_texts parts → made.store ≡ out → IsPartOfSet domain (part_times parts) (part_texts parts) period (IsComplementOf domain (part_texts parts) (HasSome domain parts)) made
+      sifted_part made et ex es =
+          let low : 0 < nat_abs period = positive period can.period_is.low in
+          part_of_table (sifted_table ascends (nat_abs period) cap low start out fresh added made et ex es)
+          (subst IsStore (sym es) added.grown.valid)
+          (subst (λ s. HasReach s (2 ^ 59)) (sym es) (sifted_reach ascends (nat_abs period) cap low start out fresh added))
+          can.period_is.low (Divides-self period)
 
   -- ---- the sieve of a period
 

@@ -6,15 +6,12 @@ use Rattle.lrp_model.specs.declared.formulas.Test.{Test}
 use Rattle.lrp_model.specs.declared.relations.Column.{Column}
 use Rattle.lrp_tables.specs.declared.table.Table.{Table}
 use Rattle.lrp_periods.specs.Combining.{CanTakeAll}
-use Rattle.lrp_periods.specs.Operations.{AreOperand, CanCombineInParts, CanExtendInParts, CanMinusInParts, CanSelectInParts}
+use Rattle.lrp_periods.specs.Operations.{AreOperand, CanCombineInParts, CanMinusInParts, CanSelectInParts}
 use Rattle.lrp_periods.specs.Parts.{IsSmallPeriod}
 use Rattle.lrp_periods.proofs.PeriodLaws.{in_word}
 
 pub operand_word : {domain : List Text} {period : ℤ} {parts : List Table} → AreOperand domain period parts → AreOperand domain (to_z w64 (of_z w64 period)) parts
 operand_word {domain} {period} {parts} can = in_word can.period_is (λ p. AreOperand domain p parts) can
-
-pub extend_word : {domain : List Text} {period : ℤ} {columns : List Column} {parts : List Table} → CanExtendInParts domain period columns parts → CanExtendInParts domain (to_z w64 (of_z w64 period)) columns parts
-extend_word {domain} {period} {columns} {parts} can = in_word can.period_is (λ p. CanExtendInParts domain p columns parts) can
 
 pub select_word : {domain : List Text} {period : ℤ} {parts : List Table} {test : Test} → CanSelectInParts domain period parts test → CanSelectInParts domain (to_z w64 (of_z w64 period)) parts test
 select_word {domain} {period} {parts} {test} can = in_word can.period_is (λ p. CanSelectInParts domain p parts test) can

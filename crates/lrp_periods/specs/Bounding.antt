@@ -2,7 +2,8 @@
 use Rattle.std.specs.Prelude.{ℕ, ℤ, pos, ◌≤◌, List, Option, Contains}
 use Rattle.lrp_model.specs.Texts.{Ascends, Text}
 use Rattle.lrp_model.specs.declared.tuples.Cell.{Cell}
-use Rattle.lrp_zone.specs.Zones.{reach_of}
+use Rattle.lrp_theory.specs.Entries.{AtMost, entry}
+use Rattle.lrp_zone.specs.Zones.{ZoneView, columns_of, reach_of}
 use Rattle.lrp_store.specs.Stores.{StoreView, tables_at, zone_of}
 use Rattle.lrp_store.specs.Tables.{AreNumbered}
 use Rattle.lrp_tables.specs.declared.table.Table.{Table}
@@ -13,6 +14,10 @@ use Rattle.lrp_periods.specs.Parts.{AreParts, HasSome, part_times, part_texts}
 -- each zone of the cell has at most this reach
 abbrev pub HasReachIn : StoreView → Cell → ℕ → Type 0
 HasReachIn s cell reach = (table : List (Option ℤ)) → Contains (tables_at s cell) table → reach_of (zone_of s cell table) ≤ reach
+
+-- each bound of the column beside another one has at most this magnitude
+abbrev pub IsRowWithin : ZoneView → ℕ → ℕ → Type 0
+IsRowWithin z column reach = (other : ℕ) → other ≤ columns_of z → AtMost reach (entry z.bounds column other)
 
 -- the table's assignments inhabit no more than cap cells of the period, by each domain whose texts its numbers are
 abbrev pub TableHasFewCells : ℕ → ℕ → Table → Type 0

@@ -6,7 +6,7 @@ ghost use Rattle.lrp_zone.specs.Zones.{IsZone, columns_of, reach_of};
 ghost use Rattle.lrp_store.specs.Stores.{HasReach, IsStore};
 ghost use Rattle.lrp_tables.specs.declared.table.Table.{Table as TableOf};
 ghost use Rattle.lrp_periods.specs.Windows.{AreWays, IsWaysLeft, IsWindowBetween};
-ghost use Rattle.lrp_periods.specs.Bounding.{HasReachIn, HaveFewCells, TableHasFewCells};
+ghost use Rattle.lrp_periods.specs.Bounding.{HasReachIn, HaveFewCells, IsRowWithin, TableHasFewCells};
 ghost use Rattle.lrp_periods.specs.Parts.{part_texts, part_times};
 
 use lrp_model::Cell;
@@ -257,9 +257,23 @@ fn has_reach_in(store: &Store, cell: &Cell, reach: u64) -> bool
 fn is_within(zone: &Zone, reach: u64) -> bool
     ensures { IsTrue result → reach_of zone.now ≤ reach }
 {
-    let bounds = zone.bounds();
-    for place in 0..81 {
-        if !is_small(bounds.get(place), reach) {
+    let columns = zone.columns();
+    for turn in 0..columns + 1 {
+        if !is_row_within(zone, turn, reach) {
+            return false;
+        }
+    }
+    true
+}
+
+// Whether none of those of one column beside the others is.
+fn is_row_within(zone: &Zone, column: usize, reach: u64) -> bool
+    requires { column ≤ columns_of zone.now }
+    ensures { IsTrue result → IsRowWithin zone.now column reach }
+{
+    let columns = zone.columns();
+    for other in 0..columns + 1 {
+        if !is_small(zone.bound(column, other), reach) {
             return false;
         }
     }

@@ -5,7 +5,6 @@ mod bounding;
 mod complements;
 mod differences;
 mod drops;
-mod extensions;
 mod joins;
 mod parts;
 mod periods;
@@ -19,9 +18,8 @@ pub use bounding::{cells_at_most, cells_of_table, has_reach, is_line, product_wi
 pub use complements::complement_in_parts;
 pub use differences::minus_in_parts;
 pub use drops::{drop_data_in_parts, drop_time_in_parts};
-pub use extensions::extend_in_parts;
 pub use joins::join_in_parts;
-pub use parts::{PartsFault, as_parts};
+pub use parts::PartsFault;
 pub use scans::scan_in_parts;
 pub use selections::select_in_parts;
 pub use unions::union_in_parts;

@@ -3,8 +3,7 @@ ghost use Rattle.std.specs.Prelude.{◌≡◌, ◌<◌, ◌^◌, ◌++◌, ◌�
 ghost use Rattle.lrp_store.specs.Stores.{HasReach, IsStore};
 ghost use Rattle.lrp_tables.specs.Tables.{Has};
 ghost use Rattle.lrp_periods.specs.Combining.{CanAddPart, IsPlaceWith};
-ghost use Rattle.lrp_periods.specs.Operations.{CanBePart};
-ghost use Rattle.lrp_periods.specs.Parts.{ArePartsAdded, ArePartsOf};
+ghost use Rattle.lrp_periods.specs.Parts.{ArePartsAdded};
 
 use crate::bounding::has_reach;
 use crate::periods::is_same;
@@ -52,22 +51,6 @@ impl From<Memory> for PartsFault {
     fn from(_: Memory) -> PartsFault {
         PartsFault::Memory
     }
-}
-
-/// A table as its one part.
-pub fn as_parts(
-    setting: &Setting<'_>,
-    table: &Table,
-    period: i64,
-) -> Result<List<Table>, PartsFault>
-    requires { CanBePart setting.now.domain.now period table.now }
-    ensures { IfOk result (ArePartsOf setting.now.domain.now table.now.vars.times
-        table.now.vars.texts period (Has table.now setting.now.domain.now)) }
-{
-    let mut parts = List::new(setting.alloc);
-    let copy = table.copy(setting.alloc)?;
-    parts.push(copy)?;
-    Ok(parts)
 }
 
 /// The table, where no bound of it is too far.

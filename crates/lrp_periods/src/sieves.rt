@@ -9,7 +9,7 @@ ghost use Rattle.lrp_periods.specs.Sets.{IsComplementOf};
 ghost use Rattle.lrp_periods.specs.declared.sieves.Cover.{Cover as CoverOf};
 ghost use Rattle.lrp_periods.specs.Sieves.{AreCoversOf, CanSift, HasWholeCells, IsCoveredNumber, IsCoverOf, IsLeftOpen, IsLineStore, IsOpen, IsShut, line_cell};
 
-use crate::parts::{PartsFault, small};
+use crate::parts::PartsFault;
 use lrp_algebra::store_over;
 use lrp_model::{Cell, Copies, List, Memory};
 use lrp_store::{Store, StoreFault};
@@ -63,16 +63,23 @@ pub(crate) fn sifted(
 {
     setting.domain.len();
     let covers = covers_of(setting.alloc, parts)?;
-    if left_open(covers.as_slice(), period as u64) > setting.cap {
+    if leaves_many(covers.as_slice(), period as u64, setting.cap) {
         return Err(PartsFault::GivenUp);
     }
     let vars = parts[0].vars.copy(setting.alloc)?;
     let mut store = store_over(setting.alloc, &vars, period);
     match fill(covers.as_slice(), period as u64, setting.cap, &mut store) {
-        Ok(()) => small(Table { vars, store }),
+        Ok(()) => Ok(Table { vars, store }),
         Err(StoreFault::TooManyCells) => Err(PartsFault::GivenUp),
         Err(StoreFault::Memory) => Err(PartsFault::Memory),
     }
+}
+
+// Whether the covers leave too many residues open, or there are too many to count them.
+fn leaves_many(covers: &[Cover], own: u64, cap: u32) -> bool
+    requires { (cover : CoverOf) → Contains covers.now cover → 0 < length cover.residues }
+{
+    own > u64::from(cap) && (own / 2 > u64::from(cap) || left_open(covers, own) > cap)
 }
 
 // How many residues no cover has, at most the greatest number.

@@ -1,8 +1,7 @@
--- The first places have small bounds.
-use Rattle.std.proofs.Common.{ℕ, ◌<◌, None}
-use Rattle.std.specs.Prelude.{get_or}
-use Rattle.lrp_theory.specs.Entries.{AtMost}
+-- The first columns have small bounds.
+use Rattle.std.proofs.Common.{ℕ, ◌<◌}
+use Rattle.lrp_periods.specs.Bounding.{IsRowWithin}
 use Rattle.lrp_periods.proofs.bounding.is_within.Given as goal
 
-abbrev pub invariant-loop-place : goal.invariant-loop-place
-invariant-loop-place l = (p : ℕ) → p < l.place → AtMost l.reach (get_or l.zone.bounds p None)
+abbrev pub invariant-loop-turn : goal.invariant-loop-turn
+invariant-loop-turn l = (p : ℕ) → p < l.turn → IsRowWithin l.zone p l.reach

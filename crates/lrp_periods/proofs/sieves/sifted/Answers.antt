@@ -19,8 +19,8 @@ covers_of-requires-clause-lines c = λ part k. line_store c.requires.operand c.r
 pub covers_of-requires-clause-whole : goal.covers_of-requires-clause-whole
 covers_of-requires-clause-whole c = c.requires.whole
 
-pub left_open-requires : goal.left_open-requires
-left_open-requires c = λ cover k. some_residues c.requires.operand c.requires.times c.requires.texts c.in_ok-covers.ensures cover (subst (λ (cs : List Cover). Contains cs cover) c.as_slice.ensures k)
+pub leaves_many-requires : goal.leaves_many-requires
+leaves_many-requires c = λ cover k. some_residues c.requires.operand c.requires.times c.requires.texts c.in_ok-covers.ensures cover (subst (λ (cs : List Cover). Contains cs cover) c.as_slice.ensures k)
 
 pub fill-requires-clause-sift : goal.fill-requires-clause-sift
 fill-requires-clause-sift c =
@@ -38,4 +38,4 @@ returns-in-Ok c =
     let x : c.in_ok-vars.vars.texts ≡ part_texts c.args.parts.now = ap (λ (v : Vars). v.texts) c.in_ok-vars.ensures ∙ ap (λ (q : Table). q.vars.texts) (sym c.index-parts-0.is) ∙ first.texts_are in
     let fresh = fresh_by c.store_over-store.result c.in_ok-vars.vars.times (part_times c.args.parts.now) c.in_ok-vars.vars.texts (part_texts c.args.parts.now) (nat_abs (to_z w64 (of_z w64 c.args.period))) (nat_abs c.args.period) c.store_over-store.ensures.made t x (ap nat_abs (whole_word c.requires.operand.period_is)) in
     let added : IsAdded (IsLeftOpen c.in_ok-covers.covers) c.args.setting.now.cap 0 c.store_over-store.result c.fill.new.out = subst (λ (cs : List Cover). IsAdded (IsLeftOpen cs) c.args.setting.now.cap 0 c.store_over-store.result c.fill.new.out) c.as_slice-2.ensures c.in-Ok.ensures in
-    sifted_part c.requires.operand c.requires.times c.requires.texts c.in_ok-covers.covers c.in_ok-covers.ensures c.len.ensures.ascending c.args.setting.now.cap c.store_over-store.result c.fill.new.out fresh added _ c.small.result c.small.ensures.same t x refl c.small.ensures.valid c.small.ensures.reach
+    sifted_part c.requires.operand c.requires.times c.requires.texts c.in_ok-covers.covers c.in_ok-covers.ensures c.len.ensures.ascending c.args.setting.now.cap c.store_over-store.result c.fill.new.out fresh added _ t x refl

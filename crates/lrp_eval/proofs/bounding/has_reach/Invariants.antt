@@ -1,6 +1,0 @@
--- The cells so far have small bounds.
-use Rattle.lrp_eval.proofs.ReachLaws.{AreWithin}
-use Rattle.lrp_eval.proofs.bounding.has_reach.Given as goal
-
-abbrev pub invariant-loop-cell : goal.invariant-loop-cell
-invariant-loop-cell l = AreWithin l.store l.reach l.cell-iterator
