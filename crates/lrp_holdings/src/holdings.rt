@@ -1,5 +1,5 @@
 // Values that are held by numbered owners: each is let go with the first of its owners.
-ghost use Rattle.std.specs.Prelude.{◌≡◌, ◌<◌, ◌^◌, ℕ, IsSome, IfOk, IfSome, IfNone, OnOk, OnErr, [], None, length, map, option_copied};
+ghost use Rattle.std.specs.Prelude.{◌≡◌, ◌<◌, ◌^◌, ℕ, IsSome, IfOk, IfSome, IfNone, OnOk, OnErr, [], None, length, map, option_copied, slice_get};
 ghost use Rattle.std.specs.Option.{option_map};
 ghost use Rattle.lrp_holdings.specs.Chains.{loose_owner};
 ghost use Rattle.lrp_holdings.specs.Holdings.{IsHeldToo, IsReleased, held_at, owners_at};
@@ -106,6 +106,16 @@ impl<V: Ranked + Drop> Holdings<V> {
         }
     }
 
+    /// The owner at a place among those of the value in a slot, if there are as many.
+    pub fn owner(&self, slot: usize, place: usize) -> Option<usize>
+        ensures { result ≡ slice_get (owners_at self.now slot) place }
+    {
+        match self.slots.get(slot) {
+            Some(holding) => number_at(&holding.owners, place),
+            None => None,
+        }
+    }
+
     /// Holds a value for these owners. Where memory is refused nothing more is held; it is for more than 2^32 values, or owners
     /// of one.
     pub fn hold(&mut self, numbers: &[usize], value: V) -> Result<(), Memory>
@@ -163,4 +173,14 @@ fn numbers_of(alloc: Global, owners: &SmallVec<Owner, 2>) -> Result<Vec<usize>, 
         numbers.push(owner.number as usize)?;
     }
     Ok(numbers)
+}
+
+// The number at a place among those of owners, if there are as many.
+fn number_at(owners: &SmallVec<Owner, 2>, place: usize) -> Option<usize>
+    ensures { result ≡ slice_get (map (λ o. o.number) owners.now.items) place }
+{
+    match owners.as_slice().get(place) {
+        Some(owner) => Some(owner.number as usize),
+        None => None,
+    }
 }

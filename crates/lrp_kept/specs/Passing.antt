@@ -1,8 +1,11 @@
 -- Values of terms, as far as spans tell them.
-use Rattle.std.specs.Prelude.{◌≡◌, ◌≤ℤ◌, ℕ, ℤ, List, Some, slice_get}
-use Rattle.lrp_model.specs.Satisfaction.{Assignment}
+use Rattle.std.specs.Prelude.{◌≡◌, ◌+ℤ◌, ◌≤ℤ◌, ℕ, ℤ, List, Some, slice_get}
+use Rattle.lrp_model.specs.Satisfaction.{Assignment, Compares}
 use Rattle.lrp_model.specs.Texts.{Identifier}
 use Rattle.lrp_kept.specs.Spans.{IsAtLeast, IsAtMost}
+use Rattle.lrp_kept.specs.declared.passing.PlacedTerm.{PlacedTerm}
+use Rattle.lrp_kept.specs.declared.passing.PlacedTerm.TheVariants.{At, Int}
+use Rattle.lrp_kept.specs.declared.passing.PlacedTest.{PlacedTest}
 use Rattle.lrp_kept.specs.declared.passing.Range.{Range}
 
 -- the integers are the values of the variables, by their places
@@ -13,3 +16,12 @@ AreTimesIn env times xs = (i : ℕ) (v : Identifier) → slice_get times i ≡ S
 pub record IsWithinRange (r : Range) (x : ℤ) : Type 0 where
   pub least : IsAtLeast r.least x
   pub most : IsAtMost r.most x
+
+-- the value of a term whose variable stands at a place
+abbrev pub placed_value : PlacedTerm → (ℕ → ℤ) → ℤ
+placed_value (At place plus) xs = xs place +ℤ plus
+placed_value (Int value) xs = value
+
+-- the times pass the comparison
+abbrev pub PassesPlaced : PlacedTest → (ℕ → ℤ) → Type 0
+PassesPlaced p xs = Compares p.op (placed_value p.left xs) (placed_value p.right xs)

@@ -7,11 +7,13 @@ ghost use Rattle.lrp_kept.specs.EqualRows.{AreEqualPoints, AreEqualRows, AreEqua
 use lrp_model::{Bound, Row, RowPoint, Value};
 
 /// Whether the rows have equal texts, equal points with offsets taken modulo their periods, and equal lists of bounds.
+///
+/// Bounds come first, since instants have no other number.
 pub fn are_equal(left: &Row, right: &Row) -> bool
     ensures { IsTrue result ↔ AreEqualRows left.now right.now }
 {
-    are_equal_values(left.values.as_slice(), right.values.as_slice())
-        && are_equal_bounds(left.bounds.as_slice(), right.bounds.as_slice())
+    are_equal_bounds(left.bounds.as_slice(), right.bounds.as_slice())
+        && are_equal_values(left.values.as_slice(), right.values.as_slice())
 }
 
 // Whether they are equal, one by one.

@@ -22,4 +22,5 @@ pub use kept::is_kept;
 pub use laws::kept_queries_are_choices;
 pub use limits::{is_read, scaled_reach, tested_period, with_bounds, with_periods};
 pub use outlines::Outline;
+pub use passing::PlacedTest;
 pub use rows::{HeldRelation, HeldRow, HeldRows, Sketch};

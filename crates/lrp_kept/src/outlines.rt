@@ -45,8 +45,8 @@ impl Outline {
         }
     }
 
-    // Nothing is known.
-    fn open() -> Outline
+    /// Nothing is known.
+    pub fn open() -> Outline
         ensures full { IsFull result }
         ensures open { (xs : ℕ → ℤ) (ns : List ℕ) → IsInOutline result xs ns }
     {

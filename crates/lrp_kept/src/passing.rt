@@ -1,8 +1,8 @@
 // Tests that nothing passes of which the times are in spans.
-ghost use Rattle.std.specs.Prelude.{◌≡◌, true, ℕ, ℤ, List as ListOf, ◌+ℤ◌, ◌≤ℤ◌, ◌<ℤ◌};
+ghost use Rattle.std.specs.Prelude.{◌≡◌, true, IfSome, ℕ, ℤ, List as ListOf, ◌+ℤ◌, ◌≤ℤ◌, ◌<ℤ◌};
 ghost use Rattle.lrp_model.specs.Satisfaction.{Assignment, Compares, Passes, time_value};
 ghost use Rattle.lrp_kept.specs.Outlines.{IsFull, IsInOutline};
-ghost use Rattle.lrp_kept.specs.Passing.{AreTimesIn, IsWithinRange};
+ghost use Rattle.lrp_kept.specs.Passing.{AreTimesIn, PassesPlaced, IsWithinRange, placed_value};
 ghost use Rattle.lrp_kept.specs.Spans.{AreInSpans, IsAtLeast, IsAtMost, IsInSpan};
 
 use crate::outlines::Outline;
@@ -131,46 +131,100 @@ impl Outline {
             times: in_both(&self.times, &other.times),
         }
     }
+}
 
-    /// Whether no tuple of the outline passes a test of these times.
-    pub fn fails(&self, test: &Test, times: &List<Name>) -> bool
-        requires { IsFull self.now }
-        ensures { result ≡ true → (env : Assignment) (xs : ℕ → ℤ) → AreTimesIn env times.now xs
-            → AreInSpans self.now.times xs → Passes env test.now → ⊥ }
+// A term of times, by the place of its variable.
+#[derive(Clone, Copy)]
+enum PlacedTerm {
+    At { place: usize, plus: i64 },
+    Int { value: i64 },
+}
+
+/// A comparison of times, by the places of its variables.
+#[derive(Clone, Copy)]
+pub struct PlacedTest {
+    left: PlacedTerm,
+    op: Op,
+    right: PlacedTerm,
+}
+
+impl PlacedTest {
+    /// The comparison that a test of these times is, if it is one.
+    pub fn of(test: &Test, times: &List<Name>) -> Option<PlacedTest>
+        ensures { IfSome result (λ placed. (env : Assignment) (xs : ℕ → ℤ)
+            → AreTimesIn env times.now xs → Passes env test.now → PassesPlaced placed xs) }
     {
         match test {
-            Test::Compare { left, op, right } => {
-                never_compare(self.range(left, times), *op, self.range(right, times))
-            }
-            Test::Member { .. } => false,
-            Test::Equal { .. } => false,
+            Test::Compare { left, op, right } => compared(left, *op, right, times),
+            Test::Member { .. } => None,
+            Test::Equal { .. } => None,
         }
     }
 
-    // What a term of these times can be.
-    fn range(&self, term: &TimeTerm, times: &List<Name>) -> Range
-        requires { IsFull self.now }
-        ensures { (env : Assignment) (xs : ℕ → ℤ) → AreTimesIn env times.now xs
-            → AreInSpans self.now.times xs → IsWithinRange result (time_value env term.now) }
+    /// Whether no times that are in both outlines pass it.
+    pub fn fails(&self, own: &Outline, other: &Outline) -> bool
+        requires own { IsFull own.now }
+        requires other { IsFull other.now }
+        ensures { result ≡ true → (xs : ℕ → ℤ) → AreInSpans own.now.times xs
+            → AreInSpans other.now.times xs → PassesPlaced self.now xs → ⊥ }
     {
-        match term {
-            TimeTerm::Var { name, plus } => match place_of(times, name) {
-                Some(place) => self.range_at(place, *plus),
-                None => open(),
-            },
-            TimeTerm::Int { value } => one(*value),
-        }
+        never_compare(
+            range_in(self.left, own, other),
+            self.op,
+            range_in(self.right, own, other),
+        )
     }
+}
 
-    // What the time at a place can be, with as much added.
-    fn range_at(&self, place: usize, plus: i64) -> Range
-        requires { IsFull self.now }
-        ensures { (xs : ℕ → ℤ) → AreInSpans self.now.times xs → IsWithinRange result (xs place +ℤ plus) }
-    {
-        if place < 8 {
-            shifted(&self.times[place], plus)
-        } else {
-            open()
-        }
+// The comparison of two terms.
+fn compared(left: &TimeTerm, op: Op, right: &TimeTerm, times: &List<Name>) -> Option<PlacedTest>
+    ensures { IfSome result (λ placed. (env : Assignment) (xs : ℕ → ℤ)
+        → AreTimesIn env times.now xs
+        → Compares op (time_value env left.now) (time_value env right.now)
+        → PassesPlaced placed xs) }
+{
+    let left = placed(left, times)?;
+    let right = placed(right, times)?;
+    Some(PlacedTest { left, op, right })
+}
+
+// A term whose variable, if it has one, is among the times.
+fn placed(term: &TimeTerm, times: &List<Name>) -> Option<PlacedTerm>
+    ensures { IfSome result (λ placed. (env : Assignment) (xs : ℕ → ℤ)
+        → AreTimesIn env times.now xs → placed_value placed xs ≡ time_value env term.now) }
+{
+    match term {
+        TimeTerm::Var { name, plus } => match place_of(times, name) {
+            Some(place) => Some(PlacedTerm::At { place, plus: *plus }),
+            None => None,
+        },
+        TimeTerm::Int { value } => Some(PlacedTerm::Int { value: *value }),
+    }
+}
+
+// What a term can be where the times are in both outlines.
+fn range_in(term: PlacedTerm, own: &Outline, other: &Outline) -> Range
+    requires own { IsFull own.now }
+    requires other { IsFull other.now }
+    ensures { (xs : ℕ → ℤ) → AreInSpans own.now.times xs → AreInSpans other.now.times xs
+        → IsWithinRange result (placed_value term xs) }
+{
+    match term {
+        PlacedTerm::At { place, plus } => range_at(place, plus, own, other),
+        PlacedTerm::Int { value } => one(value),
+    }
+}
+
+// What the time at a place can be, with as much added.
+fn range_at(place: usize, plus: i64, own: &Outline, other: &Outline) -> Range
+    requires own { IsFull own.now }
+    requires other { IsFull other.now }
+    ensures { (xs : ℕ → ℤ) → AreInSpans own.now.times xs → AreInSpans other.now.times xs
+        → IsWithinRange result (xs place +ℤ plus) }
+{
+    if place < 8 {
+        shifted(&own.times[place].with(&other.times[place]), plus)
+    } else {
+        open()
     }
 }

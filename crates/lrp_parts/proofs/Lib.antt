@@ -23,3 +23,4 @@ pub mod Reading
 pub mod Firsts
 pub mod Candidates
 pub mod Indexing
+pub mod Fronting

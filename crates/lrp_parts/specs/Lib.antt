@@ -7,3 +7,4 @@ pub mod Firsts
 pub mod Patterns
 pub mod Conjunctions
 pub mod Indexes
+pub mod Fronts

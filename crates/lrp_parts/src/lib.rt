@@ -4,6 +4,7 @@
 mod bound;
 mod conjunctions;
 mod derivation;
+mod fronts;
 mod heads;
 mod indexes;
 mod parts;
