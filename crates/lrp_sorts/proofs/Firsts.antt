@@ -16,7 +16,7 @@ abbrev first_in : {A : Type 0} → (A → Bool) → List A → Option ℕ
 first_in p [] = None
 first_in p (x ∷ xs) = cond (p x) (Some 0) (option_map suc (first_in p xs))
 
--- a place that is within so many
+-- a place that is within this many
 abbrev within : ℕ → ℕ → Option ℕ
 within n i = cond (nat_lt i n) (Some i) None
 
@@ -80,7 +80,7 @@ position_new ns k new n =
     ap (λ b. cond b (Some (length ns)) (position (bytes_eq n) ns)) (nat_list_eq_equiv.symm k n)
     ∙ fresh (position (bytes_eq n) ns) (bytes_eq n k) (length ns) (λ e. ap (λ m. is_some (position (bytes_eq m) ns)) ((bytes_decides n k).0 e) ∙ new) ∙ sym (position_more (bytes_eq n) ns k)
 
--- among the first so many
+-- among this many of the first
 abbrev pub among : ℕ → Option ℕ → Option ℕ
 among n None = None
 among n (Some i) = cond (nat_lt i n) (Some i) None
@@ -103,7 +103,7 @@ in_take p (x ∷ xs) (suc n) = ap (λ o. cond (p x) (Some 0) (option_map suc o))
     by true = grind arith
     by false = one_among n (first_in p xs)
 
--- the place among the first so many is that of all, if it is within them
+-- the place among this many of the first is that of all, if it is within them
 pub position_take : {A : Type 0} (p : A → Bool) (xs : List A) (n : ℕ) → position p (take n xs) ≡ among n (position p xs)
 position_take p xs n = position_is p (take n xs) ∙ in_take p xs n ∙ ap (among n) (sym (position_is p xs))
 
@@ -151,7 +151,7 @@ is_found {A = A} name (x ∷ xs) n =
     each true o = refl
     each false o = refl
 
--- the names of the first so many
+-- the names of this many of the first
 pub names_taken : {A : Type 0} (name : A → List ℕ) (xs : List A) (k : ℕ) (n : List ℕ) → position (bytes_eq n) (map name (take k xs)) ≡ among k (position (bytes_eq n) (map name xs))
 names_taken name xs k n = ap (position (bytes_eq n)) (sym (take-map name k xs)) ∙ position_take (bytes_eq n) (map name xs) k
 

@@ -94,7 +94,7 @@ module _ (passes : Sort → Bool) (bs : Binders) (q : ℕ) where
       let same : count passes bs kept ≡ length kept = k.once in
       not_above (count passes bs names) (omega (arith, short, less, same))
 
-  -- so many are kept as it takes to tell whether they are more than 8
+  -- as many are kept as it takes to tell whether they are more than 8
   pub wide_kept : (names kept : List Identifier) → AreKeptNames passes bs q names kept → nat_lt 8 (length kept) ≡ nat_lt 8 (count passes bs names)
   wide_kept names kept k = sym (wide_at names kept (nat_lt 8 (length kept)) refl k)
 

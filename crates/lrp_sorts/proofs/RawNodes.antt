@@ -53,7 +53,7 @@ free_then around (Err x) a b e h = h
 pub counted_then : (around : Around) (a b : List Identifier) (t u : Tally) → a ≡ b → u ≡ t → IsTallied around a t → IsTallied around b u
 counted_then around a b t u e d h = subst (λ ns. IsTallied around ns u) e (subst (λ v. IsTallied around a v) (sym d) h)
 
--- a tally within so many quantifiers, which are those of the scope
+-- a tally within this many quantifiers, which are those of the scope
 pub tally_at : (around : Around) (q : ℕ) (names : List Identifier) (t : Tally) → q ≡ length around.quantifiers → IsTally (binders around) q names t → IsTallied around names t
 tally_at around q names t e h = subst (λ n. IsTally (binders around) n names t) e h
 

@@ -20,7 +20,7 @@ AreNamesNumbered m names = (n : Identifier) → get_by (bytes_eq n) m ≡ positi
 abbrev pub rowless : Identifier → List RawColumn → Relation
 rowless n columns = record { name = n; columns = map column_of columns; rows = [] }
 
--- the number of the definition that a name means among so many of the first: none where a relation of the database has the name, and of two definitions of one name the first
+-- the number of the definition that a name means among this many of the first: none where a relation of the database has the name, and of two definitions of one name the first
 abbrev pub definition_number : Defined → ℕ → Identifier → Option ℕ
 definition_number d before n =
     cond (is_named_in (map (λ r. r.name) d.relations) n) None (position (bytes_eq n) (map (λ r. r.name) (take before d.definitions)))

@@ -14,7 +14,7 @@ abbrev pub passing : (Sort → Bool) → Option Sort → Bool
 passing passes None = false
 passing passes (Some s) = passes s
 
--- names of a list, each once, whose binder's sort passes: all of them, unless they are more than 8 and so many quantifiers
+-- names of a list, each once, whose binder's sort passes: all of them, unless they are more than 8 and this many quantifiers
 pub record AreKeptNames (passes : Sort → Bool) (bs : Binders) (quantifiers : ℕ) (names kept : List Identifier) : Type 0 where
   pub once : count passes bs kept ≡ length kept
   pub among : (n : Identifier) → is_named_in kept n ≡ true → (is_named_in names n && passing passes (binder_sort bs n)) ≡ true

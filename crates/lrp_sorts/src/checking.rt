@@ -19,24 +19,24 @@ use crate::head::{OpenedHead, head_width, open};
 use crate::resolving::{Binders, plain_columns, resolve};
 use crate::walk::inspect;
 use lrp_database::Database;
-use lrp_model::{Head, Memory, Query, QueryFault, QueryRead, RawQuery};
+use lrp_model::{Head, Memory, Query, QueryFault, QueryRead, RawColumn, RawFormula, RawQuery};
 use std::alloc::Global;
 
 /// The first sort fault of a query over a database, beside the definitions that its catalog sees.
 pub fn sort_fault(
     alloc: Global,
-    raw: &RawQuery,
     catalog: &Catalog<'_>,
+    head: &[RawColumn],
+    body: &RawFormula,
 ) -> Result<Option<QueryFault>, Memory>
-    ensures { IfOk result (λ fault. fault
-        ≡ earliest query_standing (query_faults catalog.now (raw_question_of raw.now))) }
+    ensures { IfOk result (λ fault. fault ≡ earliest query_standing (query_faults catalog.now
+        (record { head = head.now; body = raw_form_of body.now }))) }
 {
-    let columns = raw.head.as_slice();
-    let OpenedHead { fault, mut scope } = open(alloc, catalog, columns)?;
-    let inside = inspect(alloc, catalog, &mut scope, &raw.body)?;
-    let body = with_width(raw.body.place, inside);
-    let head = sooner_of(fault, head_width(columns));
-    Ok(sooner_of(head, body.fault))
+    let OpenedHead { fault, mut scope } = open(alloc, catalog, head)?;
+    let inside = inspect(alloc, catalog, &mut scope, body)?;
+    let found = with_width(body.place, inside);
+    let before = sooner_of(fault, head_width(head));
+    Ok(sooner_of(before, found.fault))
 }
 
 // The same over the database alone.
@@ -45,7 +45,7 @@ fn fault_over(alloc: Global, raw: &RawQuery, db: &Database) -> Result<Option<Que
         ≡ earliest query_standing (query_faults db.now (raw_question_of raw.now))) }
 {
     let catalog = Catalog::new(alloc, db)?;
-    sort_fault(alloc, raw, &catalog)
+    sort_fault(alloc, &catalog, raw.head.as_slice(), &raw.body)
 }
 
 // The query whose sorts are those of this one, which is well-sorted.

@@ -67,7 +67,7 @@ impl<'a> Definitions<'a> {
         self.all.len()
     }
 
-    /// The number of the definition that a name means among so many of the first. A relation's name is no definition's, and of
+    /// The number of the definition that a name means among this many of the first. A relation's name is no definition's, and of
     /// two definitions of one name it is the first one.
     pub fn number(&self, name: &Name, before: usize) -> Option<usize>
         ensures number { result ≡ definition_number self.now before name.now }

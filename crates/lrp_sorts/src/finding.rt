@@ -56,7 +56,7 @@ fn term_name(term: &RawTerm) -> Option<&Name>
     }
 }
 
-// What two formulas show together, within so many quantifiers.
+// What two formulas show together, within this many quantifiers.
 pub fn both<'a>(
     quantifiers: usize,
     left: Finding<'a>,

@@ -53,7 +53,7 @@ struct Before {
 }
 
 impl Before {
-    // Whether so many as may be stand before a column of this sort.
+    // Whether as many as may be stand before a column of this sort.
     fn is_full(self, sort: &Sort) -> bool
         ensures { result ≡ (if is_time sort.now then self.times == 8 else self.texts == 8) }
     {

@@ -28,7 +28,7 @@ among_first (x ∷ xs) n zero lt = absurd (omega (arith, lt))
 among_first (x ∷ xs) zero (suc before) lt = refl
 among_first (x ∷ xs) (suc n) (suc before) lt = among_first xs n before (omega (arith, lt))
 
-none_left : (o : Option Relation) → without_relation o None ≡ None
+pub none_left : (o : Option Relation) → without_relation o None ≡ None
 none_left None = refl
 none_left (Some r) = refl
 

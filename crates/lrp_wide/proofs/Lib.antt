@@ -9,6 +9,7 @@ pub mod MeasureTerms
 pub mod MeasureOperators
 pub mod MeasureNodes
 pub mod MeantNames
+pub mod NarrowTexts
 pub mod MeasureKnown
 pub mod MeasureTree
 pub mod SortFiles

@@ -87,14 +87,14 @@ module _ (db : List Relation) (ks : List Known) where
   -- ---- atoms
 
   -- one of a relation, or of a name that has no meaning
-  pub in_atom : (leaf made : Size) (terms : Terms) (p : Place) (n : Identifier) (ts : List RawTerm) → meant_by db ks n ≡ None → AreTermsCounted terms (columns_in (relation_named db n)) ts
-      → IsSize leaf 1 1 → Grows leaf terms.stars made → IsSizeIn db ks made (raw_atom p n ts)
-  in_atom leaf made terms p n ts none found one u = λ number names s k b.
+  pub in_atom : (leaf made : Size) (stars : ℕ) (p : Place) (n : Identifier) (ts : List RawTerm) → meant_by db ks n ≡ None → stars ≡ star_total (columns_in (relation_named db n)) ts
+      → IsSize leaf 1 1 → Grows leaf stars made → IsSizeIn db ks made (raw_atom p n ts)
+  in_atom leaf made stars p n ts none found one u = λ number names s k b.
       let cs = columns_in (relation_named db n) in
       let us = map (renamed names) ts in
-      let same : terms.stars ≡ star_total cs us = found.stars ∙ sym (stars_kept names cs ts k) in
+      let same : stars ≡ star_total cs us = found ∙ sym (stars_kept names cs ts k) in
       subst (λ d. IsSizeOf made (inlined_atom s (s.place p) (s.number p) n cs us d)) (sym none)
-      (sized made (1 + terms.stars) _ (1 + terms.stars) _ (ap (λ m. 1 + m) same ∙ sym (starred_formulas s (s.place p) (s.number p) n cs us)) (ap (λ m. 1 + m) same ∙ sym (starred_depth s (s.place p) (s.number p) n cs us)) (u 1 1 one))
+      (sized made (1 + stars) _ (1 + stars) _ (ap (λ m. 1 + m) same ∙ sym (starred_formulas s (s.place p) (s.number p) n cs us)) (ap (λ m. 1 + m) same ∙ sym (starred_depth s (s.place p) (s.number p) n cs us)) (u 1 1 one))
 
   -- one of a definition
   pub in_use : (inner made : Size) (terms : Terms) (p : Place) (n : Identifier) (ts : List RawTerm) (d : Known) → meant_by db ks n ≡ Some d → AreTermsCounted terms d.columns ts → IsKnownSize d inner

@@ -49,7 +49,7 @@ end_before [] p = true
 end_before (a ∷ []) p = is_before a.place p
 end_before (a ∷ (b ∷ atoms)) p = end_before (b ∷ atoms) p
 
--- so many of the first stand before a place, and none after them does
+-- this many of the first stand before a place, and none after them does
 pub record IsFirstBehind (atoms : List CountedAtom) (p : Place) (n : ℕ) : Type 0 where
   pub bound : n ≤ length atoms
   pub before : AllWithin (λ a. is_before a.place p ≡ true) atoms 0 n

@@ -11,3 +11,4 @@ pub mod Counts
 pub mod Settings
 pub mod Sizes
 pub mod Inside
+pub mod Narrow

@@ -4,9 +4,11 @@ ghost use Rattle.lrp_model.specs.RawQueries.{raw_compare, raw_form_of, raw_kind,
 ghost use Rattle.lrp_model.specs.Rows.{columns_in, relation_named};
 ghost use Rattle.lrp_model.specs.declared.tokens.Place.{Place as PlaceOf};
 ghost use Rattle.lrp_wide.specs.Inlining.{inlined_atom, set_term, star_columns, star_terms};
+ghost use Rattle.lrp_wide.specs.Narrow.{AreStarredBy};
 ghost use Rattle.lrp_wide.specs.Settings.{setting_of};
 
 use crate::names::{NameText, is_star};
+use crate::narrow::has_no_star;
 use crate::numbering::plus;
 use crate::uses::{UseSetting, added, some_each, variable};
 use lrp_model::{
@@ -79,14 +81,25 @@ pub fn starred_atom(
         ≡ inlined_atom (setting_of setting.now) met.entry.place met.entry.number met.entry.name.now
         (columns_in (relation_named catalog.now met.entry.name.now)) met.entry.terms.now None) }
 {
-    let columns = match catalog.relation(met.name) {
-        Some(relation) => relation.columns.as_slice(),
-        None => &[],
-    };
+    let columns = starred_columns(catalog, met);
     let Starred { terms, binders } = starred_terms(alloc, text, setting, met, columns)?;
     let relation = met.name.copy(alloc)?;
     let atom = boxed(alloc, met.place, RawKind::Atom { relation, terms })?;
     some_each(alloc, met.place, binders, atom)
+}
+
+// The columns of an atom that has a `*`; of another one they make no difference, and it isn't looked up.
+fn starred_columns<'a>(catalog: &'a Catalog<'_>, met: Met<'_>) -> &'a [Column]
+    ensures { AreStarredBy met.entry.terms.now
+        (columns_in (relation_named catalog.now met.entry.name.now)) result.now }
+{
+    if has_no_star(met.terms) {
+        return &[];
+    }
+    match catalog.relation(met.name) {
+        Some(relation) => relation.columns.as_slice(),
+        None => &[],
+    }
 }
 
 // Terms after the last column stay as they are.

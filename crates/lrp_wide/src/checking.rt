@@ -14,6 +14,7 @@ ghost use Rattle.lrp_wide.specs.declared.checking.WideRead.{WideRead as WideRead
 
 use crate::inlining::{Written, expand, starred};
 use crate::measures::{Size, measure};
+use crate::narrow::is_narrow;
 use crate::numbering::number_file;
 use crate::plain::plain;
 use lrp_database::Database;
@@ -180,6 +181,9 @@ fn text_fault(
     ensures { IfOk result (λ fault. fault ≡ earliest query_standing (query_faults catalog.now
         (starred_plain catalog.now (record { head = head.now; body = raw_form_of body.now })))) }
 {
+    if is_narrow(body) {
+        return sort_fault(alloc, catalog, head.as_slice(), body);
+    }
     let starred = starred(alloc, catalog, head, body)?;
-    sort_fault(alloc, &starred, catalog)
+    sort_fault(alloc, catalog, starred.head.as_slice(), &starred.body)
 }

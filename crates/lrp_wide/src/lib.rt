@@ -7,6 +7,7 @@ mod inlining;
 mod laws;
 mod measures;
 mod names;
+mod narrow;
 mod numbering;
 mod passing;
 mod plain;

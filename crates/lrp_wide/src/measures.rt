@@ -6,12 +6,13 @@ ghost use Rattle.lrp_model.specs.Texts.{Identifier};
 ghost use Rattle.lrp_model.specs.declared.raw.RawTerm.{RawTerm as RawTermOf};
 ghost use Rattle.lrp_model.specs.declared.tokens.Place.{Place as PlaceOf};
 ghost use Rattle.lrp_tense.specs.Expanding.{form_of_pair, form_of_range};
-ghost use Rattle.lrp_wide.specs.Inlining.{Known, UseSetting as SettingOf, expanded_file, use_form};
+ghost use Rattle.lrp_wide.specs.Inlining.{Known, UseSetting as SettingOf, expanded_file, star_total, use_form};
 ghost use Rattle.lrp_wide.specs.Counts.{AreRowless};
 ghost use Rattle.lrp_wide.specs.Stars.{NamesNoStar};
 ghost use Rattle.lrp_wide.specs.Sizes.{AreTermsCounted, AreMeasured, IsKnownSize, IsSizeIn, IsSizeInEach, IsSizeOf, is_compared};
 
 use crate::names::is_star;
+use crate::narrow::has_no_star;
 use lrp_model::{
     Column, Memory, Name, Paired, Ranged, RawFile, RawFormula, RawKind, RawTerm, RawTermKind,
 };
@@ -60,7 +61,7 @@ impl Size {
         }
     }
 
-    // Under so many formulas more, each of which takes the next.
+    // Under this many formulas more, each of which takes the next.
     fn under(self, formulas: u64) -> Size
         ensures { (f d : ℕ) → IsSize self f d → IsSize result (f + formulas) (d + formulas) }
     {
@@ -212,11 +213,23 @@ fn atom_size(definitions: &Definitions<'_>, known: &[Size], name: &Name, terms: 
         let found = terms_of(definitions.at(number).columns.as_slice(), terms);
         return use_size(found, known[number]);
     }
-    Size::leaf().under(terms_of(columns_of(definitions, name), terms).stars)
+    Size::leaf().under(stars_of(definitions, name, terms))
 }
 
-/// The columns of the relation that has a name; a name that has none is told apart.
-pub fn columns_of<'a>(definitions: &'a Definitions<'_>, name: &Name) -> &'a [Column]
+/// How many terms of an atom of a relation are `*`.
+pub fn stars_of(definitions: &Definitions<'_>, name: &Name, terms: &[RawTerm]) -> u64
+    ensures { result
+        ≡ star_total (columns_in (relation_named definitions.now.relations name.now)) terms.now }
+{
+    // Only where there are some is the relation looked up.
+    if has_no_star(terms) {
+        return 0;
+    }
+    terms_of(columns_of(definitions, name), terms).stars
+}
+
+// The columns of the relation that has a name; a name that has none is told apart.
+fn columns_of<'a>(definitions: &'a Definitions<'_>, name: &Name) -> &'a [Column]
     ensures { result.now ≡ columns_in (relation_named definitions.now.relations name.now) }
 {
     match definitions.database().relation(name) {

@@ -6,7 +6,7 @@ ghost use Rattle.lrp_wide.specs.Inlining.{Known, atom_numbers as numbers_of_atom
 ghost use Rattle.lrp_wide.specs.Counts.{AreAscending, AreRelationsNumbered, AreRowless, IsFirstBehind, counted_of, end_before, file_numbers};
 ghost use Rattle.lrp_tense.specs.Expanding.{is_before as is_before_of};
 
-use crate::measures::terms_of;
+use crate::measures::{stars_of, terms_of};
 use lrp_model::{Memory, Name, Place, RawFile, RawFormula, RawKind, RawTerm};
 use lrp_sorts::Definitions;
 use std::alloc::Global;
@@ -128,6 +128,9 @@ impl Numbers {
     pub fn before(&self, place: Place) -> u64
         ensures { result ≡ numbers_before self.now place }
     {
+        if self.total == 0 {
+            return 0;
+        }
         let atoms = self.atoms.as_slice();
         if !self.is_ascending {
             return sum_before(atoms, place);
@@ -278,9 +281,5 @@ fn atom_numbers(
         let stars = terms_of(definitions.at(number).columns.as_slice(), terms).stars;
         return plus(plus(1, stars)?, known[number].total());
     }
-    let columns = match definitions.database().relation(name) {
-        Some(relation) => relation.columns.as_slice(),
-        None => &[],
-    };
-    Ok(terms_of(columns, terms).stars)
+    Ok(stars_of(definitions, name, terms))
 }

@@ -8,6 +8,6 @@ use Rattle.lrp_sorts.proofs.checking.sort_fault.Goals as goal
 pub returns : goal.returns
 returns c =
     let scope = c.in_ok-fault.field-0.scope in
-    survey_faults c.args.catalog.now c.args.catalog.now c.args.raw.now _ scope c.in_ok-fault.field-0.fault _ c.head_width.result _ c.with_width-body.result.fault c.in_ok-inside.inside.fault
-    refl c.as_slice-columns.ensures c.in_ok-fault.ensures.scope c.in_ok-fault.ensures.fault c.head_width.ensures c.sooner_of-head.ensures
-    c.in_ok-inside.ensures.fault (c.with_width-body.ensures.fault (binders scope) (length scope.quantifiers) (free_names (raw_form_of c.args.raw.now.body)) c.in_ok-inside.ensures.free) c.sooner_of.ensures
+    survey_faults c.args.catalog.now c.args.catalog.now c.args.head.now c.args.body.now _ scope c.in_ok-fault.field-0.fault _ c.head_width.result _ c.with_width-found.result.fault c.in_ok-inside.inside.fault
+    refl refl c.in_ok-fault.ensures.scope c.in_ok-fault.ensures.fault c.head_width.ensures c.sooner_of-before.ensures
+    c.in_ok-inside.ensures.fault (c.with_width-found.ensures.fault (binders scope) (length scope.quantifiers) (free_names (raw_form_of c.args.body.now)) c.in_ok-inside.ensures.free) c.sooner_of.ensures

@@ -1,6 +1,5 @@
 use Rattle.std.proofs.Common.{◌≡◌, ◌<◌, length, get_or, Some, None, subst, sym, ◌∙◌, arith}
 use Rattle.std.proofs.lemmas.Option.{get_or_from_slice_get, slice_get-get_or}
-use Rattle.lrp_model.specs.Rows.{columns_in, relation_named}
 use Rattle.lrp_sorts.specs.Definitions.{definition_number}
 use Rattle.lrp_wide.specs.Sizes.{AreTermsCounted}
 use Rattle.lrp_wide.specs.declared.measures.Size.{Size}
@@ -33,7 +32,5 @@ returns c = λ ks m place.
     let sizes = c.args.known.now in
     let n = c.args.name.now in
     let none : definition_number d (length sizes) n ≡ None = sym c.number.ensures.number ∙ c.in_default.is in
-    let counted : AreTermsCounted c.terms_of.result (columns_in (relation_named d.relations n)) c.args.terms.now =
-    subst (λ cs. AreTermsCounted c.terms_of.result cs c.args.terms.now) c.columns_of.ensures c.terms_of.ensures in
-    in_atom d.relations ks c.leaf.result c.under.result c.terms_of.result place n c.args.terms.now
-    (number_nowhere d ks (length sizes) n (names_measured ks d.definitions sizes m) none) counted c.leaf.ensures c.under.ensures
+    in_atom d.relations ks c.leaf.result c.under.result c.stars_of.result place n c.args.terms.now
+    (number_nowhere d ks (length sizes) n (names_measured ks d.definitions sizes m) none) c.stars_of.ensures c.leaf.ensures c.under.ensures

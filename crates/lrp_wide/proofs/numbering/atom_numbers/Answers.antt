@@ -4,7 +4,6 @@ use Rattle.lrp_wide.specs.Inlining.{atom_numbers, meant_by, star_total}
 use Rattle.lrp_wide.proofs.MeantNames.{number_nowhere, number_there}
 use Rattle.lrp_wide.proofs.NumberKnown.{at_below, got, numbered-at, numbered-length, numbered-names, use-numbers}
 use Rattle.lrp_wide.proofs.Results.{if_ok_then}
-use Rattle.lrp_wide.proofs.numbering.atom_numbers.Goals.{in-Some-relation, in-None}
 use Rattle.lrp_wide.proofs.numbering.atom_numbers.Goals as goal
 
 pub returns-in-Some : goal.returns-in-Some
@@ -26,10 +25,5 @@ pub returns : goal.returns
 returns c = λ ks h.
     let d = c.args.definitions.now in
     let name = c.args.name.now in
-    let columns : c.match-relation.columns.now ≡ columns_in (relation_named d.relations name) =
-    elim c.match-relation.branch [
-      | in-Some-relation w ↦ ap (λ x. x.now) w.columns-is ∙ w.as_slice-columns.ensures ∙ ap columns_in (w.in-Some-relation.ensures.named ∙ ap (λ db. relation_named db name) c.database.ensures)
-      | in-None w ↦ ap (λ x. x.now) w.columns-is ∙ ap columns_in (w.in-None.ensures.named ∙ ap (λ db. relation_named db name) c.database.ensures)
-    ] in
     let none : meant_by d.relations ks name ≡ None = number_nowhere d ks (length c.args.known.now) name (numbered-names ks d.definitions c.args.known.now h) (sym c.in_default.ensures.number) in
-    c.terms_of.ensures.stars ∙ ap (λ cs. star_total cs c.args.terms.now) columns ∙ ap (atom_numbers (columns_in (relation_named d.relations name)) c.args.terms.now) (sym none)
+    c.stars_of.ensures ∙ ap (atom_numbers (columns_in (relation_named d.relations name)) c.args.terms.now) (sym none)

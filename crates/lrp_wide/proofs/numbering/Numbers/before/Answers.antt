@@ -6,6 +6,15 @@ use Rattle.lrp_wide.specs.declared.numbering.Counted.{Counted}
 use Rattle.lrp_wide.proofs.NumberOrder.{at-end, at-read, at_index, before-few, before-first, total-is}
 use Rattle.lrp_wide.proofs.numbering.Numbers.before.Goals as goal
 
+pub returns-then-self-eq0 : goal.returns-then-self-eq0
+returns-then-self-eq0 c =
+    let atoms = c.self.inside.atoms.items in
+    let all = total-is 0 atoms c.self.inside.total c.self.invariant.sums in
+    let few = before-few (counted_of atoms) c.args.place in
+    let none : c.self.inside.total ≡ 0 = c.if-self-eq0.true in
+    let is : 0 ≡ numbers_before (counted_of atoms) c.args.place = omega (arith, all, few, none) in
+    is ∙ ap (λ l. numbers_before l c.args.place) c.self.view_is
+
 pub returns-then-not-self : goal.returns-then-not-self
 returns-then-not-self c =
     let atoms = c.self.inside.atoms.items in
