@@ -1,5 +1,0 @@
-use Rattle.lrp_list.proofs.Paging.{page_is}
-use Rattle.lrp_list.proofs.laws.listings_are_pages.Goals as goal
-
-pub returns : goal.returns
-returns c = page_is
