@@ -1,6 +1,7 @@
 -- The question that a command asks, and what is due for it.
 use Rattle.std.proofs.Common.{◌≡◌, List, [], ◌∷◌, Some, sym, subst}
 use Rattle.std.specs.List.{AllByRecursion}
+use Rattle.lrp_io.specs.Starts.{Start, StartsOnly}
 use Rattle.lrp_model.specs.Texts.{Identifier}
 use Rattle.lrp_outputs.specs.Outcomes.{Outcome}
 use Rattle.lrp_words.specs.Commands.{task_of}
@@ -66,3 +67,21 @@ asked_files (Sample seed size) asked e none = cc
 pub lengths_told : (seen : ShelfSeen) (outcome : Outcome) (names : List Identifier) → TellsLength seen outcome → AllByRecursion (λ name. IsOverrun seen name → IsLengthOrMemory outcome) names
 lengths_told seen outcome [] h = tt
 lengths_told seen outcome (name ∷ names) h = (h name, lengths_told seen outcome names h)
+
+-- ---- starts
+
+abbrev StartsAsked : List Start → List Start → Asked → Type 0
+StartsAsked old new asked = StartsOnly old new (asked.files.database.now ∷ asked.files.query.now ∷ [])
+
+-- the files of the question are those of the command
+pub starts_asked : (command : Command) (asked : Asked) (old new : List Start) → Some asked ≡ asked_of command → StartsAsked old new asked → StartsOnly old new (files_of (task_of command))
+starts_asked (Ask files cap canon name) asked old new e h = same_asked (StartsAsked old new) asked _ e h
+starts_asked (Decide files cap dates) asked old new e h = same_asked (StartsAsked old new) asked _ e h
+starts_asked (Page files from to limit after json cap) asked old new e h = same_asked (StartsAsked old new) asked _ e h
+starts_asked (Count files from to cap) asked old new e h = same_asked (StartsAsked old new) asked _ e h
+starts_asked (Ranges files from to limit json cap) asked old new e h = same_asked (StartsAsked old new) asked _ e h
+starts_asked (Explain files) asked old new e h = same_asked (StartsAsked old new) asked _ e h
+starts_asked (Check db civil) asked old new e h = cc
+starts_asked (Lint files) asked old new e h = cc
+starts_asked (Watch db query edits cap planning auto) asked old new e h = cc
+starts_asked (Sample seed size) asked old new e h = cc

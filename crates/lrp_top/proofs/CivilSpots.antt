@@ -4,13 +4,13 @@ use Rattle.std.specs.Prelude.{ℤ, ◌≤ℤ◌}
 use Rattle.std.specs.List.{AllByRecursion}
 use Rattle.std.proofs.lemmas.Int.{ints}
 use Rattle.lrp_calendar.specs.Moments.{IsCivilMinute}
-use Rattle.lrp_list.specs.Listing.{AreEnds, window_of}
+use Rattle.lrp_answers.specs.Listing.{AreEnds, window_of}
 use Rattle.lrp_model.specs.Rows.{times_of}
 use Rattle.lrp_model.specs.declared.tuples.Spot.{Spot}
 use Rattle.lrp_answers.specs.declared.answer.Answer.{Answer}
 use Rattle.lrp_words.specs.Ranges.{IsEnd}
 use Rattle.lrp_outputs.specs.Known.{HasCivilTimes, HaveCivilTimes}
-use Rattle.lrp_list.specs.Standing.{IsStanding}
+use Rattle.lrp_answers.specs.Standing.{IsStanding}
 use Rattle.lrp_outputs.specs.Spots.{answer_tuple}
 
 -- the ends of a window

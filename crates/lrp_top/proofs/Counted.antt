@@ -22,7 +22,7 @@ use Rattle.lrp_count.proofs.RangeLaws.{moved_ranges}
 use Rattle.lrp_count.proofs.Sizes.{same_sized}
 use Rattle.lrp_outputs.specs.RangeLines.{HasEndsAs, IsDatedWhere, count_line, ranges_bytes}
 use Rattle.lrp_words.specs.Ranges.{IsEnd}
-use Rattle.lrp_list.specs.Listing.{AreEnds}
+use Rattle.lrp_answers.specs.Listing.{AreEnds}
 use Rattle.lrp_top.specs.Telling.{TellsNumber, TellsRanges}
 use Rattle.lrp_top.proofs.CivilSpots.{are_ends}
 use Rattle.lrp_top.proofs.Listed.{word}

@@ -3,8 +3,8 @@ use Rattle.std.proofs.Common.{◌≡◌, ◌≤◌, ℕ, false, List, [], length
 use Rattle.std.specs.Prelude.{IfSome}
 use Rattle.lrp_answers.specs.declared.answer.Answer.{Answer}
 use Rattle.lrp_civil.specs.declared.values.CivilText.{CivilText}
-use Rattle.lrp_list.specs.Pauses.{IsPausedOf}
-use Rattle.lrp_list.specs.declared.paused.Paused.{Paused}
+use Rattle.lrp_answers.specs.Pauses.{IsPausedOf}
+use Rattle.lrp_answers.specs.declared.paused.Paused.{Paused}
 use Rattle.lrp_model.specs.Formulas.{question_of}
 use Rattle.lrp_model.specs.Limits.{most_bytes}
 use Rattle.lrp_model.specs.Texts.{Identifier}

@@ -1,5 +1,7 @@
 -- A look over a database and a query: what is read first, and what is due of it.
-use Rattle.std.proofs.Common.{◌≡◌, ◌≤◌, ℕ, Bool, true, false, List, Option, Some, None, Result, Ok, Err, refl, sym, ap, subst, ◌∙◌}
+use Rattle.std.proofs.Common.{◌≡◌, ◌≤◌, ℕ, Bool, true, false, List, [], ◌∷◌, Option, Some, None, Result, Ok, Err, refl, sym, ap, subst, ◌∙◌}
+use Rattle.lrp_io.proofs.StartsLemmas.{first_and_only, only_first}
+use Rattle.lrp_io.specs.Starts.{Start, StartsOne, StartsOnly}
 use Rattle.lrp_io.specs.declared.shelf.File.{File}
 use Rattle.lrp_lint.specs.Listed.{AreFindings}
 use Rattle.lrp_lint.specs.Reports.{report_text}
@@ -12,7 +14,7 @@ use Rattle.lrp_model.specs.declared.relations.Relation.{Relation}
 use Rattle.lrp_outputs.specs.Outcomes.{Outcome}
 use Rattle.lrp_outputs.specs.declared.refusal.Refusal.{Refusal}
 use Rattle.lrp_words.specs.Commands.{FilesLinted}
-use Rattle.lrp_top.specs.Due.{IsDatabaseRead, IsLinted, IsLintedBy, IsLintedOver, IsNamedRead, IsOutput, IsPlacedReadOf, IsQueryRead}
+use Rattle.lrp_top.specs.Due.{IsDatabaseRead, IsLinted, IsLintedBy, IsLintedOver, IsNamedRead, IsOutput, IsPlacedReadOf, IsQueryRead, query_named}
 use Rattle.lrp_top.specs.Languages.{usual_by, usual_language}
 use Rattle.lrp_top.specs.Questions.{IsSaidBy}
 use Rattle.lrp_top.specs.Seen.{ShelfSeen, AreBytesOf}
@@ -69,3 +71,10 @@ lint_since of seen files before d db query outcome same named read h e l =
 -- and one without a query
 pub lint_alone : (of : FilesLinted) (seen : ShelfSeen) (d : Source (List Relation)) (outcome : Outcome) → of.query ≡ None → IsDatabaseRead (usual_by of.civil) seen of.database (Ok d) → IsOutput (TellsFindings d.says None) outcome → IsLinted of seen outcome
 lint_alone of seen d outcome none read told = record { first = Ok d; is = read; next = subst (λ q. IsLintedOver of.tense d.says seen q outcome) (sym none) (record { first = Ok None; is = refl; next = told }) }
+
+-- ---- starts
+
+-- the query's file was started after the database's
+pub lint_starts : (before middle after : List Start) (database name : Identifier) (query : Option Identifier) → query ≡ Some name → StartsOne before middle database → StartsOne middle after name → StartsOnly before after (database ∷ query_named query)
+lint_starts before middle after database name query named one other =
+    first_and_only before middle after database (query_named query) one (subst (λ q. StartsOnly middle after (query_named q)) (sym named) (only_first middle after name [] other))

@@ -21,12 +21,12 @@ use Rattle.lrp_answers.specs.declared.answer.Answer.{Answer}
 use Rattle.lrp_model.specs.Steps.{Steps}
 use Rattle.lrp_eval.specs.Answered.{IsAnswerOf}
 use Rattle.lrp_store.specs.Tables.{InAnswer}
-use Rattle.lrp_list.specs.Giving.{GivesTuples}
+use Rattle.lrp_answers.specs.Giving.{GivesTuples}
 use Rattle.lrp_answer_text.specs.Lines.{is_json}
-use Rattle.lrp_list.specs.Listing.{AreEnds, HasShapeOf, IsLeft, ListerView, WindowView, window_tuple, window_of}
+use Rattle.lrp_answers.specs.Listing.{AreEnds, HasShapeOf, IsLeft, ListerView, WindowView, window_tuple, window_of}
 use Rattle.lrp_token.specs.Reading.{HasCounts}
 use Rattle.lrp_outputs.specs.Known.{HasTimes, IsKnownSpot}
-use Rattle.lrp_list.specs.Standing.{IsStanding}
+use Rattle.lrp_answers.specs.Standing.{IsStanding}
 use Rattle.lrp_outputs.specs.Spots.{answer_tuple}
 use Rattle.lrp_outputs.specs.Outputs.{page_text}
 use Rattle.lrp_top.specs.Resuming.{shape_of}

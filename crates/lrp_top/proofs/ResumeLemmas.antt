@@ -3,7 +3,7 @@ use Rattle.std.proofs.Common.{◌≡◌, List, Option, None, Some, Result, Ok, o
 use Rattle.std.specs.Borrow.{Bor}
 use Rattle.std.specs.Option.{option_copied}
 use Rattle.std.specs.Prelude.{IfSome}
-use Rattle.lrp_list.specs.Listing.{listed_tuple}
+use Rattle.lrp_answers.specs.Listing.{listed_tuple}
 use Rattle.lrp_model.specs.Rows.{Tuple}
 use Rattle.lrp_model.specs.declared.relations.Column.{Column}
 use Rattle.lrp_model.specs.declared.tuples.Tuple.{Tuple as ToldTuple}

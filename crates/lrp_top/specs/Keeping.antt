@@ -12,7 +12,7 @@ use Rattle.lrp_model.specs.declared.plans.Plan.{Plan}
 use Rattle.lrp_model.specs.declared.plans.Planning.{Planning}
 use Rattle.lrp_model.specs.declared.relations.Relation.{Relation}
 use Rattle.lrp_plan_laws.specs.GuardedPlans.{plan_by}
-use Rattle.lrp_list.specs.Pauses.{IsPausedOf}
+use Rattle.lrp_answers.specs.Pauses.{IsPausedOf}
 use Rattle.lrp_outputs.specs.Outcomes.{Outcome}
 use Rattle.lrp_outputs.specs.declared.refusal.Refusal.{Refusal}
 use Rattle.lrp_outputs.specs.declared.status.Status.{Status}

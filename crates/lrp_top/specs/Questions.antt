@@ -40,9 +40,9 @@ use Rattle.lrp_outputs.specs.Outcomes.{Outcome}
 use Rattle.lrp_outputs.specs.Spots.{answer_tuple}
 use Rattle.lrp_store.specs.Tables.{InAnswer}
 use Rattle.lrp_answers.specs.declared.answer.Answer.{Answer}
-use Rattle.lrp_list.specs.Listing.{window_tuple}
-use Rattle.lrp_list.specs.Pauses.{paused_window}
-use Rattle.lrp_list.specs.declared.paused.Paused.{Paused}
+use Rattle.lrp_answers.specs.Listing.{window_tuple}
+use Rattle.lrp_answers.specs.Pauses.{paused_window}
+use Rattle.lrp_answers.specs.declared.paused.Paused.{Paused}
 use Rattle.lrp_top.specs.Seen.{ShelfSeen}
 use Rattle.lrp_top.specs.Sources.{Source}
 use Rattle.lrp_top.specs.declared.asking.Asked.{Asked}

@@ -1,6 +1,7 @@
 // The decision: what the words ask for, before the first byte is written.
-ghost use Rattle.std.specs.Prelude.{◌≡◌, [], None};
+ghost use Rattle.std.specs.Prelude.{◌≡◌, [], ◌∷◌, None};
 ghost use Rattle.std.specs.List.{AllByRecursion};
+ghost use Rattle.lrp_io.specs.Starts.{StartsOnly};
 ghost use Rattle.lrp_top.specs.Languages.{usual_by};
 ghost use Rattle.lrp_top.specs.Due.{IsDue, IsDueOf, IsDatabaseRead, IsOutput, IsLengthOrMemory, files_named, files_of};
 ghost use Rattle.lrp_top.specs.Lengths.{TellsLength};
@@ -30,6 +31,8 @@ use std::alloc::Global;
 pub fn due<F: Shelf>(alloc: Global, words: &[String], shelf: &mut F) -> Result<Output, Refusal>
     ensures due { IsDue words.now (⟦<F as Watched>⟧.seen shelf.old shelf.new) (told result) }
     ensures unread { files_named words.now ≡ [] → shelf.new ≡ shelf.old }
+    ensures starts { StartsOnly (F.starts shelf.old) (F.starts shelf.new)
+        (files_named words.now) }
 {
     match read_words(words) {
         Ok(command) => carry_out(alloc, command, shelf),
@@ -50,6 +53,8 @@ fn carry_out<F: Shelf>(
         (⟦<F as Watched>⟧.seen shelf.old shelf.new) name → IsLengthOrMemory (told result))
         (files_of (task_of command.entry)) }
     ensures unread { files_of (task_of command.entry) ≡ [] → shelf.new ≡ shelf.old }
+    ensures starts { StartsOnly (F.starts shelf.old) (F.starts shelf.new)
+        (files_of (task_of command.entry)) }
 {
     match asked_by(command) {
         Some(asked) => answer_to(alloc, &asked, shelf),
@@ -71,6 +76,8 @@ fn carry_out_other<F: Shelf>(
         (⟦<F as Watched>⟧.seen shelf.old shelf.new) name → IsLengthOrMemory (told result))
         (files_of (task_of command.entry)) }
     ensures unread { files_of (task_of command.entry) ≡ [] → shelf.new ≡ shelf.old }
+    ensures starts { StartsOnly (F.starts shelf.old) (F.starts shelf.new)
+        (files_of (task_of command.entry)) }
 {
     match command {
         Command::Check { db, civil } => check(alloc, db, civil, shelf),
@@ -110,6 +117,7 @@ fn check<F: Shelf>(
     ensures due { Then (IsDatabaseRead (usual_by civil) (⟦<F as Watched>⟧.seen shelf.old shelf.new)
         database.now) (λ d. IsOutput (TellsRelations d.says)) (told result) }
     ensures long { TellsLength (⟦<F as Watched>⟧.seen shelf.old shelf.new) (told result) }
+    ensures starts { StartsOnly (F.starts shelf.old) (F.starts shelf.new) (database.now ∷ []) }
 {
     match usual_database(alloc, database, civil, shelf) {
         Ok(file) => {
@@ -127,6 +135,8 @@ fn answer_to<F: Shelf>(alloc: Global, asked: &Asked<'_>, shelf: &mut F) -> Resul
         (⟦<F as Watched>⟧.seen shelf.old shelf.new)
         (IsServed asked.now.files.planning asked.now.purpose) (told result) }
     ensures long { TellsLength (⟦<F as Watched>⟧.seen shelf.old shelf.new) (told result) }
+    ensures starts { StartsOnly (F.starts shelf.old) (F.starts shelf.new)
+        (asked.now.files.database.now ∷ asked.now.files.query.now ∷ []) }
 {
     let need = asked.purpose.need();
     match question_of(alloc, &asked.files, need, shelf) {

@@ -2,6 +2,7 @@
 ghost use Rattle.std.specs.Prelude.{◌≡◌, ◌≤◌, IfOk, List as ListOf, ℕ};
 ghost use Rattle.std.specs.List.{AllByRecursion};
 ghost use Rattle.lrp_edits.specs.EditMeaning.{IsEditOf};
+ghost use Rattle.lrp_io.specs.Starts.{StartsOne};
 ghost use Rattle.lrp_top.specs.Due.{IsDatabaseRead, IsQueryRead};
 ghost use Rattle.lrp_top.specs.Languages.{civil_by, language_by, usual_by};
 ghost use Rattle.lrp_top.specs.Lengths.{TellsLength};
@@ -102,6 +103,7 @@ pub fn database_of<F: Shelf>(
     ensures long { TellsLength (⟦<F as Watched>⟧.seen shelf.old shelf.new) result }
     ensures files { F.files shelf.new ≡ F.files shelf.old }
     ensures later { (other : ListOf ℕ) → F.faults shelf.old other ≤ F.faults shelf.new other }
+    ensures starts { StartsOne (F.starts shelf.old) (F.starts shelf.new) name.now }
 {
     match load(alloc, shelf, name) {
         Ok(bytes) => database_in(alloc, bytes, civil),
@@ -125,6 +127,7 @@ pub fn query_of<F: Shelf>(
     ensures fit { IfOk result (λ file. IsFit database.now file) }
     ensures files { F.files shelf.new ≡ F.files shelf.old }
     ensures later { (other : ListOf ℕ) → F.faults shelf.old other ≤ F.faults shelf.new other }
+    ensures starts { StartsOne (F.starts shelf.old) (F.starts shelf.new) name.now }
 {
     match load(alloc, shelf, name) {
         Ok(bytes) => query_in(alloc, database, bytes, language),
@@ -145,6 +148,7 @@ pub fn database_asked<F: Shelf>(
     ensures long { TellsLength (⟦<F as Watched>⟧.seen shelf.old shelf.new) result }
     ensures files { F.files shelf.new ≡ F.files shelf.old }
     ensures later { (other : ListOf ℕ) → F.faults shelf.old other ≤ F.faults shelf.new other }
+    ensures starts { StartsOne (F.starts shelf.old) (F.starts shelf.new) files.now.database.now }
 {
     database_of(alloc, files.database, civil_of(files), shelf)
 }
@@ -162,6 +166,7 @@ pub fn query_asked<F: Shelf>(
     ensures fit { IfOk result (λ file. IsFit database.now file) }
     ensures files { F.files shelf.new ≡ F.files shelf.old }
     ensures later { (other : ListOf ℕ) → F.faults shelf.old other ≤ F.faults shelf.new other }
+    ensures starts { StartsOne (F.starts shelf.old) (F.starts shelf.new) files.now.query.now }
 {
     query_of(alloc, database, files.query, language_of(files), shelf)
 }
@@ -178,6 +183,7 @@ pub fn usual_database<F: Shelf>(
     ensures long { TellsLength (⟦<F as Watched>⟧.seen shelf.old shelf.new) result }
     ensures files { F.files shelf.new ≡ F.files shelf.old }
     ensures later { (other : ListOf ℕ) → F.faults shelf.old other ≤ F.faults shelf.new other }
+    ensures starts { StartsOne (F.starts shelf.old) (F.starts shelf.new) name.now }
 {
     database_of(alloc, name, usual_civil(civil), shelf)
 }
@@ -193,6 +199,7 @@ pub fn edits_of<F: Shelf>(
         result }
     ensures long { TellsLength (⟦<F as Watched>⟧.seen shelf.old shelf.new) result }
     ensures lawful { IfOk result (AllByRecursion (IsEditOf database.now)) }
+    ensures starts { StartsOne (F.starts shelf.old) (F.starts shelf.new) name.now }
 {
     match load(alloc, shelf, name) {
         Ok(bytes) => edits_in(alloc, database, bytes.as_slice()),

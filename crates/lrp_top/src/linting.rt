@@ -1,11 +1,12 @@
 // What is silently wrong in a database and, where one is named, in a query over it.
-ghost use Rattle.std.specs.Prelude.{◌≤◌, List as ListOf, Some, ℕ, length};
+ghost use Rattle.std.specs.Prelude.{◌∷◌, ◌≤◌, List as ListOf, Some, ℕ, length};
+ghost use Rattle.lrp_io.specs.Starts.{StartsOne, StartsOnly};
 ghost use Rattle.lrp_model.specs.Limits.{most_bytes};
 ghost use Rattle.lrp_outputs.specs.Outputs.{told};
-ghost use Rattle.lrp_top.specs.Due.{IsLinted, IsLintedBy, IsLintedOver, IsPlacedReadOf};
+ghost use Rattle.lrp_top.specs.Due.{IsLinted, IsLintedBy, IsLintedOver, IsPlacedReadOf, query_named};
 ghost use Rattle.lrp_top.specs.Lengths.{TellsLength};
 ghost use Rattle.lrp_top.specs.Seen.{ShelfSeen};
-ghost use Rattle.lrp_words.specs.Commands.{linted_files};
+ghost use Rattle.lrp_words.specs.Commands.{after_text, linted_files};
 
 use crate::files::usual_database;
 use crate::reading::raw_of;
@@ -26,6 +27,8 @@ pub fn lint<F: Shelf>(
     ensures due { IsLinted (linted_files files.now) (⟦<F as Watched>⟧.seen shelf.old shelf.new)
         (told result) }
     ensures long { TellsLength (⟦<F as Watched>⟧.seen shelf.old shelf.new) (told result) }
+    ensures starts { StartsOnly (F.starts shelf.old) (F.starts shelf.new)
+        (files.now.database.now ∷ query_named (after_text files.now.query)) }
 {
     let file = usual_database(alloc, files.database, files.civil, shelf)?;
     let database = file.into_relations();
@@ -49,6 +52,7 @@ fn lint_over<F: Shelf>(
     ensures due { IsLintedOver tense database (⟦<F as Watched>⟧.seen shelf.old shelf.new)
         (Some name.now) (told result) }
     ensures long { TellsLength (⟦<F as Watched>⟧.seen shelf.old shelf.new) (told result) }
+    ensures starts { StartsOne (F.starts shelf.old) (F.starts shelf.new) name.now }
 {
     match load(alloc, shelf, name) {
         Ok(bytes) => lint_text(alloc, database, bytes.as_slice(), tense),

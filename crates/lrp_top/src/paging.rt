@@ -1,6 +1,6 @@
 // Questions of a database that is kept: the words that ask one, and pages whose answers are kept for the next one.
 ghost use Rattle.std.specs.Prelude.{◌≡◌, ◌≤◌, Err, IfErr, IfOk, IfSome, None as Nothing, Ok, length, option_map};
-ghost use Rattle.lrp_list.specs.Listing.{HasShapeOf, listed_tuple};
+ghost use Rattle.lrp_answers.specs.Listing.{HasShapeOf, listed_tuple};
 ghost use Rattle.lrp_model.specs.Formulas.{question_of};
 ghost use Rattle.lrp_model.specs.Limits.{most_bytes};
 ghost use Rattle.lrp_outputs.specs.Outputs.{page_text};

@@ -1,5 +1,6 @@
 // Questions: a database, a well-sorted query over it and its plan, or the first refusal.
-ghost use Rattle.std.specs.Prelude.{◌≡◌, ◌↔◌, ◌≤ℤ◌, Err, IfNone, IfOk, IfSome, IsTrue, pos};
+ghost use Rattle.std.specs.Prelude.{◌≡◌, [], ◌∷◌, ◌↔◌, ◌≤ℤ◌, Err, IfNone, IfOk, IfSome, IsTrue, pos};
+ghost use Rattle.lrp_io.specs.Starts.{StartsOnly};
 ghost use Rattle.lrp_outputs.specs.declared.refusal.Refusal.TheVariants.{Head};
 ghost use Rattle.std.specs.List.{AllByRecursion};
 ghost use Rattle.lrp_model.specs.Formulas.{form_of, question_of as queried};
@@ -79,6 +80,8 @@ pub fn question_of<F: Shelf>(
     ensures long { TellsLength (⟦<F as Watched>⟧.seen shelf.old shelf.new) result }
     ensures ready { IfOk result (λ question. IsReady question) }
     ensures head { IfOk result (λ question. IsHeadFor need question.query.query.head.columns) }
+    ensures starts { StartsOnly (F.starts shelf.old) (F.starts shelf.new)
+        (files.now.database.now ∷ files.now.query.now ∷ []) }
 {
     let database = database_asked(alloc, files, shelf)?;
     let query = query_asked(alloc, &database.relations, files, shelf)?;

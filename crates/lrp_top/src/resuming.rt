@@ -1,6 +1,6 @@
 // Where a page begins: after the tuple of a token, where there is one.
 ghost use Rattle.std.specs.Prelude.{◌≡◌, ◌≤◌, IfOk, IfSome};
-ghost use Rattle.lrp_list.specs.Listing.{HasShapeOf};
+ghost use Rattle.lrp_answers.specs.Listing.{HasShapeOf};
 ghost use Rattle.lrp_model.specs.Sorts.{time_count, text_count};
 ghost use Rattle.lrp_words.specs.Commands.{after_text};
 ghost use Rattle.lrp_top.specs.Questions.{resumed_as};

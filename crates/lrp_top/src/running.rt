@@ -1,5 +1,6 @@
 // A run: one decision, and then one writer.
 ghost use Rattle.std.specs.Prelude.{◌≡◌, []};
+ghost use Rattle.lrp_io.specs.Starts.{StartsOnly};
 ghost use Rattle.lrp_top.specs.Due.{IsRun, files_named};
 ghost use Rattle.lrp_top.specs.Ends.{Ends};
 ghost use Rattle.lrp_outputs.specs.Outcomes.{status_of};
@@ -21,6 +22,9 @@ pub fn run<F: Shelf, S: Sink>(alloc: Global, words: &[String], shelf: &mut F, ou
 
     // Where the words name no file, none is read.
     ensures unread { files_named words.now ≡ [] → shelf.new ≡ shelf.old }
+
+    // No file is started but those that the words name, in their order, each once at most.
+    ensures starts { StartsOnly (F.starts shelf.old) (F.starts shelf.new) (files_named words.now) }
 {
     let outcome = due(alloc, words, shelf);
     tell(out, &outcome)

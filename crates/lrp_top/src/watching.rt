@@ -1,5 +1,6 @@
 // A watch: its three files, each with its refusals, and then the least answers while the edits are made.
-ghost use Rattle.std.specs.Prelude.{◌≡◌, ◌||◌, IfOk, false, true};
+ghost use Rattle.std.specs.Prelude.{◌≡◌, [], ◌∷◌, ◌||◌, IfOk, false, true};
+ghost use Rattle.lrp_io.specs.Starts.{StartsOnly};
 ghost use Rattle.lrp_kept.specs.KeptForm.{is_kept as is_kept_form};
 ghost use Rattle.lrp_model.specs.Formulas.{question_of};
 ghost use Rattle.lrp_top.specs.Due.{IsWatchedFor};
@@ -49,6 +50,8 @@ pub fn watch<F: Shelf>(
     ensures due { IsWatchedFor (⟦<F as Watched>⟧.seen shelf.old shelf.new) files.now.database.now
         files.now.query.now files.now.edits.now how.cap how.planning how.auto (told result) }
     ensures long { TellsLength (⟦<F as Watched>⟧.seen shelf.old shelf.new) (told result) }
+    ensures starts { StartsOnly (F.starts shelf.old) (F.starts shelf.new)
+        (files.now.database.now ∷ files.now.query.now ∷ files.now.edits.now ∷ []) }
 {
     let database = database_of(alloc, files.database, None, shelf)?;
     let query = query_of(

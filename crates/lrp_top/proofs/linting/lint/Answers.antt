@@ -7,8 +7,9 @@ use Rattle.lrp_words.specs.Commands.{after_text, linted_files}
 use Rattle.lrp_top.specs.Languages.{usual_by}
 use Rattle.lrp_top.specs.Questions.{database_source}
 use Rattle.lrp_top.specs.Telling.{TellsFindings}
-use Rattle.lrp_top.proofs.LintLemmas.{lint_alone, lint_since, report_told}
+use Rattle.lrp_top.proofs.LintLemmas.{lint_alone, lint_since, lint_starts, report_told}
 use Rattle.lrp_top.proofs.QuestionLemmas.{read_before}
+use Rattle.lrp_io.proofs.StartsLemmas.{only_first}
 use Rattle.lrp_top.proofs.linting.lint.Goals as goal
 
 pub returns-in-Some-clause-due : goal.returns-in-Some-clause-due
@@ -34,3 +35,15 @@ returns-in_ok-report-in-None-clause-due g c =
 
 pub returns-in_ok-report-in-None-clause-long : goal.returns-in_ok-report-in-None-clause-long
 returns-in_ok-report-in-None-clause-long g c = λ name over. absurd (c.in_ok-file.ensures.long name over)
+
+pub returns-in_err-file-clause-starts : goal.returns-in_err-file-clause-starts
+returns-in_err-file-clause-starts g c = only_first _ _ _ _ c.in_err-file.ensures.starts
+
+pub returns-in-Some-clause-starts : goal.returns-in-Some-clause-starts
+returns-in-Some-clause-starts g c = lint_starts _ _ _ _ _ _ (ap after_text c.in-Some.is) c.in_ok-file.ensures.starts c.lint_over.ensures.starts
+
+pub returns-in_err-report-in-None-clause-starts : goal.returns-in_err-report-in-None-clause-starts
+returns-in_err-report-in-None-clause-starts g c = only_first _ _ _ _ c.in_ok-file.ensures.starts
+
+pub returns-in_ok-report-in-None-clause-starts : goal.returns-in_ok-report-in-None-clause-starts
+returns-in_ok-report-in-None-clause-starts g c = only_first _ _ _ _ c.in_ok-file.ensures.starts

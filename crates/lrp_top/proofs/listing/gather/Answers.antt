@@ -1,9 +1,9 @@
 -- What was given is the page, and it can be written.
 use Rattle.std.proofs.Common.{◌≡◌, subst, ◌∙◌}
 use Rattle.std.specs.List.{AllByRecursion}
-use Rattle.lrp_list.specs.Listing.{WindowView, window_of}
-use Rattle.lrp_list.specs.Standing.{IsStanding}
-use Rattle.lrp_list.proofs.Pauses.{some_paused}
+use Rattle.lrp_answers.specs.Listing.{WindowView, window_of}
+use Rattle.lrp_answers.specs.Standing.{IsStanding}
+use Rattle.lrp_answers.proofs.Pauses.{some_paused}
 use Rattle.lrp_top.proofs.CivilSpots.{are_ends, page_dates}
 use Rattle.lrp_top.proofs.Listed.{known_all, page_given}
 use Rattle.lrp_top.proofs.listing.gather.Goals as goal

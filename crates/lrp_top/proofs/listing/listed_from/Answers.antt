@@ -1,6 +1,6 @@
 -- A paused listing goes on from where it stands, and a new one begins there.
 use Rattle.std.proofs.Common.{◌∙◌, ap₂, sym}
-use Rattle.lrp_list.specs.Listing.{window_of}
+use Rattle.lrp_answers.specs.Listing.{window_of}
 use Rattle.lrp_top.proofs.CivilSpots.{are_ends}
 use Rattle.lrp_top.proofs.Listed.{new_window}
 use Rattle.lrp_top.proofs.listing.listed_from.Goals as goal

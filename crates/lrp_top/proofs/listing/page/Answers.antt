@@ -1,7 +1,7 @@
 -- Where the page begins, and what is due after that.
 use Rattle.std.proofs.Common.{◌≡◌, ◌≤◌, Err, Ok, List, Option, refl, sym, ap₂, subst, ◌∙◌}
 use Rattle.std.specs.Prelude.{ℕ, IfSome}
-use Rattle.lrp_list.specs.Listing.{HasShapeOf}
+use Rattle.lrp_answers.specs.Listing.{HasShapeOf}
 use Rattle.lrp_model.specs.Formulas.{question_of}
 use Rattle.lrp_model.specs.Rows.{Tuple}
 use Rattle.lrp_model.specs.Sorts.{time_count, text_count}

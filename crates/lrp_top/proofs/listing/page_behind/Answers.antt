@@ -1,6 +1,6 @@
 -- No step has too many cells, and then the page is told.
 use Rattle.std.proofs.Common.{Ok, option_map}
-use Rattle.lrp_list.specs.Listing.{listed_tuple}
+use Rattle.lrp_answers.specs.Listing.{listed_tuple}
 use Rattle.lrp_model.specs.Formulas.{question_of}
 use Rattle.lrp_model.specs.Rows.{Tuple}
 use Rattle.lrp_model.specs.declared.relations.Column.{Column}

@@ -1,8 +1,8 @@
 -- The paused listing is one of the window, and stands at the tuple.
 use Rattle.std.proofs.Common.{◌∙◌, ap, Some}
 use Rattle.std.specs.Prelude.{option_map}
-use Rattle.lrp_list.specs.Listing.{listed_tuple}
-use Rattle.lrp_list.specs.Pauses.{IsPausedOf}
+use Rattle.lrp_answers.specs.Listing.{listed_tuple}
+use Rattle.lrp_answers.specs.Pauses.{IsPausedOf}
 use Rattle.lrp_top.proofs.CivilSpots.{are_ends}
 use Rattle.lrp_top.proofs.Listed.{word}
 use Rattle.lrp_top.proofs.PagingLemmas.{some_is}

@@ -1,7 +1,7 @@
 -- Where the page begins, and what is due after that.
 use Rattle.std.proofs.Common.{◌≤◌, Ok, Err, List, Option, refl, sym, subst}
 use Rattle.std.specs.Prelude.{IfSome, ℕ}
-use Rattle.lrp_list.specs.Listing.{HasShapeOf}
+use Rattle.lrp_answers.specs.Listing.{HasShapeOf}
 use Rattle.lrp_model.specs.Formulas.{question_of}
 use Rattle.lrp_model.specs.Sorts.{time_count, text_count}
 use Rattle.lrp_model.specs.declared.relations.Column.{Column}

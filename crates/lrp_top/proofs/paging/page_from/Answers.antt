@@ -1,6 +1,6 @@
 -- The page is told, and its answers are kept.
 use Rattle.std.proofs.Common.{Ok, Err, List, Option, option_map, refl}
-use Rattle.lrp_list.specs.Listing.{listed_tuple}
+use Rattle.lrp_answers.specs.Listing.{listed_tuple}
 use Rattle.lrp_model.specs.Formulas.{question_of}
 use Rattle.lrp_model.specs.Rows.{Tuple}
 use Rattle.lrp_model.specs.declared.relations.Column.{Column}

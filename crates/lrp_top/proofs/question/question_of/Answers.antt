@@ -6,6 +6,7 @@ use Rattle.lrp_words.specs.Commands.{asked_files}
 use Rattle.lrp_top.specs.Languages.{civil_by, language_by}
 use Rattle.lrp_top.proofs.QuestionLemmas.{asked_since, plan_refused, planned_as, query_refused, question_read, read_before}
 use Rattle.lrp_top.specs.Questions.{IsMadeOf, database_source, query_source}
+use Rattle.lrp_io.proofs.StartsLemmas.{first_and_only, only_first}
 use Rattle.lrp_top.proofs.question.question_of.Goals as goal
 
 pub returns-in_err-query-clause-question : goal.returns-in_err-query-clause-question
@@ -49,3 +50,15 @@ returns-clause-ready g c =
       writable = c.in_ok-plan.ensures.writable;
       head = fit.head;
     }
+
+pub returns-in_err-database-clause-starts : goal.returns-in_err-database-clause-starts
+returns-in_err-database-clause-starts g c = only_first _ _ _ _ c.in_err-database.ensures.starts
+
+pub returns-in_err-query-clause-starts : goal.returns-in_err-query-clause-starts
+returns-in_err-query-clause-starts g c = first_and_only _ _ _ _ _ c.in_ok-database.ensures.starts (only_first _ _ _ _ c.in_err-query.ensures.starts)
+
+pub returns-in_err-plan-clause-starts : goal.returns-in_err-plan-clause-starts
+returns-in_err-plan-clause-starts g c = first_and_only _ _ _ _ _ c.in_ok-database.ensures.starts (only_first _ _ _ _ c.in_ok-query.ensures.starts)
+
+pub returns-clause-starts : goal.returns-clause-starts
+returns-clause-starts g c = first_and_only _ _ _ _ _ c.in_ok-database.ensures.starts (only_first _ _ _ _ c.in_ok-query.ensures.starts)

@@ -11,6 +11,7 @@ use Rattle.lrp_top.specs.declared.language.QueryLanguage.TheVariants.{FirstOrder
 use Rattle.lrp_top.specs.Questions.{database_source, query_source}
 use Rattle.lrp_top.proofs.QuestionLemmas.{asked_since, read_before}
 use Rattle.lrp_top.proofs.WatchLemmas.{asked_before, can_be_decided, edits_since, refused_edits, refused_form, refused_query, watched}
+use Rattle.lrp_io.proofs.StartsLemmas.{first_and_only, only_first}
 use Rattle.lrp_top.proofs.watching.watch.Goals as goal
 
 pub returns-in_err-query-clause-due : goal.returns-in_err-query-clause-due
@@ -63,3 +64,18 @@ returns-clause-long g c = λ name over. absurd (c.in_ok-edits.ensures.long name 
 
 pub leasts-requires : goal.leasts-requires
 leasts-requires g c = can_be_decided c.in_ok-database.database.relations _ _ c.in_ok-query.query _ c.in_ok-query.ensures.asked c.in_ok-query.ensures.fit (subst (AllByRecursion (IsEditOf c.in_ok-database.database.relations)) (sym c.as_slice.ensures) c.in_ok-edits.ensures.lawful)
+
+pub returns-in_err-database-clause-starts : goal.returns-in_err-database-clause-starts
+returns-in_err-database-clause-starts g c = only_first _ _ _ _ c.in_err-database.ensures.starts
+
+pub returns-in_err-query-clause-starts : goal.returns-in_err-query-clause-starts
+returns-in_err-query-clause-starts g c = first_and_only _ _ _ _ _ c.in_ok-database.ensures.starts (only_first _ _ _ _ c.in_err-query.ensures.starts)
+
+pub returns-in_err-looked_at-clause-starts : goal.returns-in_err-looked_at-clause-starts
+returns-in_err-looked_at-clause-starts g c = first_and_only _ _ _ _ _ c.in_ok-database.ensures.starts (only_first _ _ _ _ c.in_ok-query.ensures.starts)
+
+pub returns-in_err-edits-clause-starts : goal.returns-in_err-edits-clause-starts
+returns-in_err-edits-clause-starts g c = first_and_only _ _ _ _ _ c.in_ok-database.ensures.starts (first_and_only _ _ _ _ _ c.in_ok-query.ensures.starts (only_first _ _ _ _ c.in_err-edits.ensures.starts))
+
+pub returns-clause-starts : goal.returns-clause-starts
+returns-clause-starts g c = first_and_only _ _ _ _ _ c.in_ok-database.ensures.starts (first_and_only _ _ _ _ _ c.in_ok-query.ensures.starts (only_first _ _ _ _ c.in_ok-edits.ensures.starts))
