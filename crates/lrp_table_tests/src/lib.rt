@@ -1,9 +1,13 @@
-//! Tests of matrices, zones, stores, listers and copies, at the limits and on worked values, through what their crates make
-//! public: a proved test costs a second proof of its crate, and this one has nothing else.
+//! Tests of matrices, zones, cuts, stores, listers and copies, at the limits and on worked values, through what their crates
+//! make public: a proved test costs a second proof of its crate, and this one has nothing else.
 #![tactic(auto)]
 
 #[cfg(test)]
 mod copies;
+#[cfg(test)]
+mod cuts;
+#[cfg(test)]
+mod limits;
 #[cfg(test)]
 mod lists;
 #[cfg(test)]

@@ -2,7 +2,7 @@
 ghost use Rattle.std.specs.Prelude.{◌≡◌, ◌<◌};
 
 use crate::parts::answer;
-use lrp_list::{Lister, Steps};
+use lrp_answers::{Lister, Steps};
 use lrp_model::Spot;
 use std::marker::Brand;
 use std::sync::ledger::{Blank, Ledger};

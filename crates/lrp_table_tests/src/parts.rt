@@ -19,7 +19,9 @@ use std::process::Abort;
 const SMALL: u64 = 9_007_199_254_740_992;
 
 /// Column `left` minus column `right` is at most `most`.
-pub const fn bound(left: u8, right: u8, most: i64) -> Bound {
+pub const fn bound(left: u8, right: u8, most: i64) -> Bound
+    ensures { result ≡ record { left = left; right = right; most = most } }
+{
     Bound { left, right, most }
 }
 

@@ -81,6 +81,16 @@ fn a_slot_serves_every_cell(rt: HostRuntime) {
     check_end(&rt, &store, 1, 1, 43);
 }
 
+#[test]
+fn a_zone_within_another_one_is_dropped(rt: HostRuntime) {
+    let mut store = tens(rt.alloc());
+    add_each(&rt, &mut store, 0, &[13, 33, 23, 33]);
+    add_each(&rt, &mut store, 1, &[13]);
+    store.tidy(&cell(0, 3));
+    assert!(rt; store.count(&cell(0, 3)) == 1 && store.count(&cell(1, 3)) == 1);
+    check_end(&rt, &store, 0, 0, 33);
+}
+
 // The multiples of 6 as cells of period 18.
 fn aligned(sixths: &Store, cap: u32) -> Result<Store, StoreFault>
     requires period { sixths.now.period ≡ 6 }

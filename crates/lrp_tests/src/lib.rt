@@ -8,3 +8,9 @@ mod copies;
 mod parts;
 #[cfg(test)]
 mod points;
+#[cfg(test)]
+mod sure;
+#[cfg(test)]
+mod texts;
+#[cfg(test)]
+mod tokens;

@@ -1,0 +1,4 @@
+-- Lemmas of the tests.
+
+mod IntegerLemmas
+mod LimitLemmas

@@ -1,0 +1,3 @@
+-- What the tests' own functions say.
+
+pub mod Integers
