@@ -103,8 +103,10 @@ def run(words: Sequence[str], files: Mapping[str, bytes]) -> Output:
 
 
 class Room(local):
-    """Where a text is written, of which each thread and each process has its own; pages of it that nothing wrote to take
-    no memory."""
+    """Where a text is written, of which each thread and each process has its own.
+
+    Pages of it that nothing wrote to take no memory.
+    """
 
     def __init__(self) -> None:
         self.make(ROOM)
