@@ -81,7 +81,7 @@ def whole_page(answers):
 
 
 def token(database, text, answer):
-    """The token behind the line of an answer without texts."""
+    """The token after the line of an answer without texts."""
     half = lambda bytes_of: hashlib.sha256(bytes_of.encode()).digest()
     return "T2/%s/%s/" % (hashlib.sha256(half(database) + half(text)).hexdigest(), ",".join(map(str, answer)))
 
@@ -402,7 +402,7 @@ EIGHT = tuple("abcdefgh")
 
 
 def eight_rows(size, width):
-    """Bounds that rise from column to column, and let the last one be no more than a number behind the first."""
+    """Bounds that rise from column to column, and let the last one be no more than a number after the first."""
     rising = ["%s >= %s" % (after, before) for before, after in zip(EIGHT, EIGHT[1:])]
     return [
         "(%s) where %s"
@@ -948,7 +948,7 @@ def page_case(after):
     return Case(words, database, text, units=1000, output=page(database, text, found, 1000))
 
 
-@family("page", "two", (1, 10**15), "a page of 1,000 behind a token of the instant N")
+@family("page", "two", (1, 10**15), "a page of 1,000 after a token of the instant N")
 def far_page(size):
     return page_case(size)
 

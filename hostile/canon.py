@@ -2,7 +2,7 @@
 
 The times of an answer, for some texts, are a set of integers that repeats at both ends. Whether an integer is in it
 is decided by its meaning. Beyond the distance that the body sees, what is in the set hangs on the remainder by the
-query's period alone, on either side; so some periods behind that distance show how it goes on.
+query's period alone, on either side; so some periods after that distance show how it goes on.
 """
 
 import math

@@ -41,7 +41,7 @@ def every_case():
 class Judge:
     """What the second opinion says of one case, in the order in which refusals are given. None: it says nothing.
 
-    It says nothing of samples, of the wide language, which has its own second opinion, of pages behind tokens, of files that a script of the example makes, and of edits of many rows.
+    It says nothing of samples, of the wide language, which has its own second opinion, of pages after tokens, of files that a script of the example makes, and of edits of many rows.
     """
 
     def __init__(self, folder, words, budget):

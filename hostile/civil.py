@@ -80,7 +80,7 @@ def token_bounds(data):
 
 
 def plain_text(data):
-    """The text with each civil value as its plain one, and blanks behind it, so that every place stays."""
+    """The text with each civil value as its plain one, and blanks after it, so that every place stays."""
     try:
         names, ends = token_bounds(data)
     except Fault:

@@ -21,8 +21,8 @@ class Table:
         self.program = program
 
     def bus(self, words, wanted, status=0, after=None):
-        behind = [] if after is None else ["after=" + after]
-        self.program.expect(wanted, status, *words.split(" "), *behind, database=BUS, query=DEPARTURES)
+        paging = [] if after is None else ["after=" + after]
+        self.program.expect(wanted, status, *words.split(" "), *paging, database=BUS, query=DEPARTURES)
 
     def token(self, after, wanted, status=0):
         self.bus("list from=0 to=130", wanted, status, after)

@@ -54,7 +54,7 @@ class Token(NamedTuple):
 
 
 class Stop(Exception):
-    """The first token that no text of the grammar has behind the tokens before it."""
+    """The first token that no text of the grammar has after the tokens before it."""
 
 
 class Lexer:
@@ -209,7 +209,7 @@ class Lexer:
         return number.text
 
     def named_offset(self):
-        """The offset behind a name, where one stands."""
+        """The offset after a name, where one stands."""
         if self.sees("symbol", "+", "-"):
             sign = 1 if self.symbol("+", "-").text == "+" else -1
             return sign * self.take("number").text
@@ -430,7 +430,7 @@ def parse_query(data, is_tense=False):
         if depth == 65:
             lexer.fault("Deep", place)
         if depth > 65:
-            raise Stop  # what stands deeper is behind the fault that is reported
+            raise Stop  # what stands deeper is after the fault that is reported
         if lexer.sees("word", "not"):
             lexer.take("word")
             return Formula("not", place, [formula(depth + 1)])

@@ -109,7 +109,7 @@ def window(case):
 
 
 def listing(program, case):
-    """One whole window, its pages one after another, its JSON, and a page behind a tuple that need not be an answer."""
+    """One whole window, its pages one after another, its JSON, and a page after a tuple that need not be an answer."""
     start, end = window(case)
     meaning = case.meaning()
     answers = [meaning.tuple_of(env) for env in meaning.answers(start, end)]
@@ -118,7 +118,7 @@ def listing(program, case):
     if answers:
         limit = case.chance.randint(1, len(answers))
         skipped = case.chance.randrange(len(answers))
-        behind = token(*split(answers[skipped]), case.chance.choice((None, digest(case.database, case.query))))
+        after = token(*split(answers[skipped]), case.chance.choice((None, digest(case.database, case.query))))
         left = answers[skipped + 1 :]
         for form in ("plain", "json"):
             program.expect(
@@ -127,7 +127,7 @@ def listing(program, case):
                 "list",
                 *ends,
                 "limit=%d" % limit,
-                "after=" + behind,
+                "after=" + after,
                 "form=" + form,
                 **case.files,
             )

@@ -111,7 +111,7 @@ def piped_files(program, whole):
 
 
 def long_files(program):
-    """The greatest length and one more, as blanks, as a comment, and behind a whole text."""
+    """The greatest length and one more, as blanks, as a comment, and after a whole text."""
     for filler in (b" ", b"\n", b"#"):
         for front, output in ((b"", b""), (BUS, b"relation bus(t: time) {\n  (5+60n);\n}\n")):
             text = front + filler * (LONGEST - len(front))

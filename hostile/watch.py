@@ -1,5 +1,5 @@
 """Kept answers under edits, by a second opinion: which queries are kept, what is refused at which edit, and the least answer
-behind each edit, computed anew by its meaning.
+after each edit, computed anew by its meaning.
 
 A query is kept where its core form is a disjunct or an `or` of disjuncts: `exists` before an atom, or before an `and` of
 atoms and tests, in which each variable occurs in an atom. The rows that its atoms stand for are a choice; the parts of

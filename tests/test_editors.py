@@ -73,7 +73,7 @@ Token = tuple[int, int, int, str]
 
 
 def tokens_of(text: str) -> list[Token]:
-    """The tokens of a text, and what is no token: line, first byte, byte behind the last, class."""
+    """The tokens of a text, and what is no token: line, first byte, byte after the last, class."""
     found = []
     for line, content in enumerate(text.split("\n")):
         for match in TOKENS.finditer(content):

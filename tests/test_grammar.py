@@ -37,7 +37,7 @@ WORDS = {
 
 
 def taken(front: str, grammar: Grammar, folder: Path) -> set[str]:
-    """Which of the samples the program takes behind the front of a text: its fault stands behind the sample."""
+    """Which of the samples the program takes after the front of a text: its fault stands after the sample."""
     found = set()
     (folder / "a.lrp").write_text(DATABASE)
     (folder / "b.lrq").write_text("{ | s() }")

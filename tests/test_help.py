@@ -15,7 +15,7 @@ PAGES = sorted((TOP / "share/help").glob("*.txt"))
 
 
 def examples_of(text: str) -> list[tuple[str, str]]:
-    """The commands of a page, each a line behind '  $ ', with the lines under it up to an empty one."""
+    """The commands of a page, each a line after '  $ ', with the lines under it up to an empty one."""
     found = re.findall(r"^  \$ (.*)\n((?:  .*\n)*)", text, re.MULTILINE)
     return [(line, re.sub(r"^  ", "", out, flags=re.MULTILINE)) for line, out in found]
 

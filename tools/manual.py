@@ -62,7 +62,7 @@ def page_of_markdown(text: str) -> list[str]:
             out += [".Bl -bullet -compact", *(line for item in items for line in [".It", *paragraph(item)]), ".El"]
         elif not part.startswith("# "):
             out += [".Pp", *paragraph(part)]
-    # A paragraph's break has no meaning behind a heading.
+    # A paragraph's break has no meaning after a heading.
     return [line for before, line in zip(["", *out], out) if not (line == ".Pp" and before.startswith((".Sh", ".Ss")))]
 
 

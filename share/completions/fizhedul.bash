@@ -22,7 +22,7 @@ _fizhedul_keys() {
     echo "$keys"
 }
 
-# What may be imported or exported; behind that, files.
+# What may be imported or exported; after that, files.
 _fizhedul_kinds_or_files() {
     local kinds=csv
     [ "$1" = export ] || kinds='gtfs ics csv'
@@ -95,7 +95,7 @@ _fizhedul() {
         mapfile -t COMPREPLY < <(compgen -W 'list count decide' -- "$word")
     elif [[ $word == *=* ]]; then
         _fizhedul_values "${word%%=*}" "${word#*=}"
-        # Where bash cuts words at '=', only what stands behind it is completed.
+        # Where bash cuts words at '=', only what stands after it is completed.
         [[ $COMP_WORDBREAKS == *=* ]] || _fizhedul_whole_words "${word%%=*}"
     else
         compopt -o nospace 2>/dev/null

@@ -211,7 +211,7 @@ class Terminal:
         os.write(self.end, keys)
 
     def read_until(self, wanted: str, seconds: float = TIME) -> str:
-        """What is shown up to a text; what comes behind it is kept."""
+        """What is shown up to a text; what comes after it is kept."""
         begin = time.monotonic()
         while wanted.encode() not in self.shown:
             left = begin + seconds - time.monotonic()

@@ -12,7 +12,7 @@ module _ {X : Type 0} (nought : X) (place n : ℕ) (old new : List X) (cut : IsC
   pub cut_front : take n new ≡ remove (take (n + 1) old) place
   cut_front = ext_get_or nought (take n new) (remove (take (n + 1) old) place) (lengths) (λ i h. elim (cases_lt i place) [
     | inl less ↦ get_or-take n new i nought (omega arith) ∙ cut.before i less ∙ sym (get_or-take (n + 1) old i nought (omega arith)) ∙ sym (get_or-remove_below (take (n + 1) old) place nought i less (omega (arith, long)))
-    | inr more ↦ get_or-take n new i nought (within i h) ∙ cut.behind i more ∙ sym (get_or-take (n + 1) old (i + 1) nought (let l : i < n = within i h in omega arith)) ∙ sym (get_or-remove_above (take (n + 1) old) place nought i more (omega (arith, long)))
+    | inr more ↦ get_or-take n new i nought (within i h) ∙ cut.after i more ∙ sym (get_or-take (n + 1) old (i + 1) nought (let l : i < n = within i h in omega arith)) ∙ sym (get_or-remove_above (take (n + 1) old) place nought i more (omega (arith, long)))
   ])
     where
       long : length (take (n + 1) old) ≡ n + 1
@@ -29,4 +29,4 @@ module _ {X : Type 0} (nought : X) (place n : ℕ) (old new : List X) (cut : IsC
 
   -- and after them there is nothing
   pub cut_padded : IsPadded nought (n + 1) old → IsPadded nought n new
-  cut_padded p = record { size = cut.size; zeros = λ i h. cut.behind i (omega arith) ∙ p.zeros (i + 1) (omega arith) }
+  cut_padded p = record { size = cut.size; zeros = λ i h. cut.after i (omega arith) ∙ p.zeros (i + 1) (omega arith) }

@@ -31,7 +31,7 @@ use Rattle.lrp_tables.proofs.HeadNames.{pairs_apart}
 use Rattle.lrp_tables.proofs.Joining.{joint_differs}
 use Rattle.lrp_algebra.specs.declared.pattern.Pattern.{Pattern}
 use Rattle.lrp_algebra.specs.Conditions.{condition_reach, IsWithTest, HasNoTest}
-use Rattle.lrp_algebra.specs.Patterns.{parts_of, IsOver, Suits}
+use Rattle.lrp_algebra.specs.Patterns.{parts_of, IsOver, MatchesPattern}
 use Rattle.lrp_algebra.proofs.Conditioned.{condition_within}
 use Rattle.lrp_algebra.proofs.Parts.{added_nothing}
 use Rattle.lrp_algebra.proofs.Steps.{over_tuples, has_texts, free, free_reach, free_suits, step_table, step_few, step_many, step_reach, empty_store, divides_abs, positive, same_word}
@@ -147,8 +147,8 @@ module _ (domain : List Text) (ascends : Ascends domain) (test : Test) (one : po
 
   -- something may pass
   module _ (pattern : Pattern) (w : IsWithTest domain times texts test old pattern) where
-    are : AreTuplesOf domain times texts (IsOver shape size (Suits pattern)) (IsTested domain test)
-    are = over_tuples domain times texts shape size es refl refl (Suits pattern) (IsTested domain test)
+    are : AreTuplesOf domain times texts (IsOver shape size (MatchesPattern pattern)) (IsTested domain test)
+    are = over_tuples domain times texts shape size es refl refl (MatchesPattern pattern) (IsTested domain test)
         (λ env ns a h. record { known = has_texts domain texts env ns a; passes = (w.to env ns a h).1 })
         (λ env m. m.known)
         (λ env m ns a. w.from env ns a (free_suits old none (map env.times times) ns) m.passes)
@@ -164,24 +164,24 @@ module _ (domain : List Text) (ascends : Ascends domain) (test : Test) (one : po
         same true e = condition_within test
         same false e = cc
 
-    module _ (out : StoreView) (ok : IsAdded (IsOver start.shape size (Suits pattern)) cap (system_reach start.period (parts_of pattern)) start out) where
-      all : IsAdded (IsOver shape size (Suits pattern)) cap (system_reach start.period (parts_of pattern)) start out
-      all = subst (λ (q : Shape). IsAdded (IsOver q size (Suits pattern)) cap (system_reach start.period (parts_of pattern)) start out) start_shape ok
+    module _ (out : StoreView) (ok : IsAdded (IsOver start.shape size (MatchesPattern pattern)) cap (system_reach start.period (parts_of pattern)) start out) where
+      all : IsAdded (IsOver shape size (MatchesPattern pattern)) cap (system_reach start.period (parts_of pattern)) start out
+      all = subst (λ (q : Shape). IsAdded (IsOver q size (MatchesPattern pattern)) cap (system_reach start.period (parts_of pattern)) start out) start_shape ok
 
       pub leaf_table : (made : Table) → made.vars.times ≡ times → made.vars.texts ≡ texts → made.store ≡ out → IsTableOf domain times texts k (IsTested domain test) made
-      leaf_table = step_table domain ascends times texts (differ_times test) (differ_texts test) (test_few_times test) (test_few_texts test) k (positive (test_period test) one) (IsOver shape size (Suits pattern)) (IsTested domain test) are cap start out fresh (system_reach start.period (parts_of pattern)) all
+      leaf_table = step_table domain ascends times texts (differ_times test) (differ_texts test) (test_few_times test) (test_few_texts test) k (positive (test_period test) one) (IsOver shape size (MatchesPattern pattern)) (IsTested domain test) are cap start out fresh (system_reach start.period (parts_of pattern)) all
 
       pub leaf_few : InhabitsMoreThan cap domain k times texts (IsTested domain test) → ⊥
-      leaf_few = step_few domain ascends times texts (differ_times test) (differ_texts test) (test_few_times test) (test_few_texts test) k (positive (test_period test) one) (IsOver shape size (Suits pattern)) (IsTested domain test) are cap start out fresh (system_reach start.period (parts_of pattern)) all
+      leaf_few = step_few domain ascends times texts (differ_times test) (differ_texts test) (test_few_times test) (test_few_texts test) k (positive (test_period test) one) (IsOver shape size (MatchesPattern pattern)) (IsTested domain test) are cap start out fresh (system_reach start.period (parts_of pattern)) all
 
       pub leaf_reach : HasReach out (test_reach test)
       leaf_reach =
-          let r : HasReach out (system_reach start.period (parts_of pattern)) = step_reach domain ascends times texts (differ_times test) (differ_texts test) (test_few_times test) (test_few_texts test) k (positive (test_period test) one) (IsOver shape size (Suits pattern)) (IsTested domain test) are cap start out fresh (system_reach start.period (parts_of pattern)) all in
+          let r : HasReach out (system_reach start.period (parts_of pattern)) = step_reach domain ascends times texts (differ_times test) (differ_texts test) (test_few_times test) (test_few_texts test) k (positive (test_period test) one) (IsOver shape size (MatchesPattern pattern)) (IsTested domain test) are cap start out fresh (system_reach start.period (parts_of pattern)) all in
           record { each = λ c t h. let l = r.each c t h in let m = within in omega (arith, l, m) }
 
       pub leaf_shape : out.shape ≡ shape
       leaf_shape = all.grown.shape ∙ start_shape
 
-    pub leaf_many : (out : StoreView) → IsRefused (IsOver start.shape size (Suits pattern)) cap (system_reach start.period (parts_of pattern)) start out → InhabitsMoreThan cap domain k times texts (IsTested domain test)
-    leaf_many out refused = step_many domain ascends times texts (differ_times test) (differ_texts test) (test_few_times test) (test_few_texts test) k (positive (test_period test) one) (IsOver shape size (Suits pattern)) (IsTested domain test) are cap start out fresh (system_reach start.period (parts_of pattern))
-        (subst (λ (q : Shape). IsRefused (IsOver q size (Suits pattern)) cap (system_reach start.period (parts_of pattern)) start out) start_shape refused)
+    pub leaf_many : (out : StoreView) → IsRefused (IsOver start.shape size (MatchesPattern pattern)) cap (system_reach start.period (parts_of pattern)) start out → InhabitsMoreThan cap domain k times texts (IsTested domain test)
+    leaf_many out refused = step_many domain ascends times texts (differ_times test) (differ_texts test) (test_few_times test) (test_few_texts test) k (positive (test_period test) one) (IsOver shape size (MatchesPattern pattern)) (IsTested domain test) are cap start out fresh (system_reach start.period (parts_of pattern))
+        (subst (λ (q : Shape). IsRefused (IsOver q size (MatchesPattern pattern)) cap (system_reach start.period (parts_of pattern)) start out) start_shape refused)

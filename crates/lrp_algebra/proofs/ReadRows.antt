@@ -219,11 +219,11 @@ node_none zero = refl
 node_none (suc n) = refl
 
 -- a time column after the first one
-pub behind : (x : ℤ) (xs : List ℤ) (n : ℕ) → n ≢ 1 → node (x ∷ xs) n ≡ node xs (n - 1)
-behind x [] zero h = refl
-behind x (y ∷ xs) zero h = refl
-behind x xs (suc zero) h = absurd (h refl)
-behind x xs (suc (suc n)) h = let e : suc n ≡ suc (suc n) - 1 = omega arith in ap (node xs) e
+pub after : (x : ℤ) (xs : List ℤ) (n : ℕ) → n ≢ 1 → node (x ∷ xs) n ≡ node xs (n - 1)
+after x [] zero h = refl
+after x (y ∷ xs) zero h = refl
+after x xs (suc zero) h = absurd (h refl)
+after x xs (suc (suc n)) h = let e : suc n ≡ suc (suc n) - 1 = omega arith in ap (node xs) e
 
 -- the terms from one of them on
 next_of : (terms : List Term) (i : ℕ) (item : Term) → i < length terms → item ≡ get_or terms i item → drop i terms ≡ item ∷ drop (i + 1) terms
@@ -235,7 +235,7 @@ first_left env terms i item t n low is e en = ap (λ l. node (term_times env l) 
 
 -- a later one, after a time
 pub later_left : (env : Assignment) (terms : List Term) (i : ℕ) (item : Term) (t : TimeTerm) (n next : ℕ) → i < length terms → item ≡ get_or terms i item → item ≡ time_term t → n ≢ 1 → next ≡ n - 1 → node (term_times env (drop i terms)) n ≡ node (term_times env (drop (i + 1) terms)) next
-later_left env terms i item t n next low is e other en = ap (λ l. node (term_times env l) n) (next_of terms i item low is ∙ ap (λ u. u ∷ drop (i + 1) terms) e) ∙ behind (time_value env t) (term_times env (drop (i + 1) terms)) n other ∙ ap (node (term_times env (drop (i + 1) terms))) (sym en)
+later_left env terms i item t n next low is e other en = ap (λ l. node (term_times env l) n) (next_of terms i item low is ∙ ap (λ u. u ∷ drop (i + 1) terms) e) ∙ after (time_value env t) (term_times env (drop (i + 1) terms)) n other ∙ ap (node (term_times env (drop (i + 1) terms))) (sym en)
 
 -- a text is not counted
 pub text_left : (env : Assignment) (terms : List Term) (i : ℕ) (item : Term) (n next : ℕ) → i < length terms → item ≡ get_or terms i item → ((t : TimeTerm) → item ≡ time_term t → ⊥) → next ≡ n → node (term_times env (drop i terms)) n ≡ node (term_times env (drop (i + 1) terms)) next

@@ -43,7 +43,7 @@ use Rattle.lrp_tables.proofs.HeadNames.{pairs_apart}
 use Rattle.lrp_tables.proofs.Joining.{joint_differs, in_joint_right}
 use Rattle.lrp_tables.proofs.Named.{some_is}
 use Rattle.lrp_systems.specs.Parts.{Fits, system_reach}
-use Rattle.lrp_algebra.specs.Patterns.{parts_of, FitsInto, IsOver, Suits}
+use Rattle.lrp_algebra.specs.Patterns.{parts_of, FitsInto, IsOver, MatchesPattern}
 use Rattle.lrp_algebra.specs.Rows.{bounds_reach, offsets_reach, CanBeRead, DividesPeriod, HasSmallPeriod, HasNoRow, IsOfRow, IsRowTuple}
 use Rattle.lrp_algebra.specs.declared.pattern.Pattern.{Pattern}
 use Rattle.lrp_algebra.proofs.Leaves.{joint_short}
@@ -62,11 +62,11 @@ module _ (domain : List Text) (times texts : List Identifier) (terms : List Term
   row_nothing fails xs ns h = fails.none h.is.env ns h.is.texts_are h.is.is
 
   module _ (p : Pattern) (w : IsOfRow domain times texts terms row p) where
-    row_from : (xs : List ℤ) (ns : List ℕ) → RowTuples xs ns → IsOver shape (length domain) (Suits p) xs ns
-    row_from xs ns h = record { times_count = h.times_count; texts_count = h.texts_count; known = h.known; is = subst (λ l. Suits p l ns) (sym h.is.times_are) (w.from h.is.env ns h.is.texts_are h.is.is) }
+    row_from : (xs : List ℤ) (ns : List ℕ) → RowTuples xs ns → IsOver shape (length domain) (MatchesPattern p) xs ns
+    row_from xs ns h = record { times_count = h.times_count; texts_count = h.texts_count; known = h.known; is = subst (λ l. MatchesPattern p l ns) (sym h.is.times_are) (w.from h.is.env ns h.is.texts_are h.is.is) }
 
     -- what suits the pattern is that of the tuple's own assignment
-    row_to : Ascends domain → AllPairs ◌≢◌ times → AllPairs ◌≢◌ texts → length times ≡ shape.times → length texts ≡ shape.texts → (xs : List ℤ) (ns : List ℕ) → IsOver shape (length domain) (Suits p) xs ns → RowTuples xs ns
+    row_to : Ascends domain → AllPairs ◌≢◌ times → AllPairs ◌≢◌ texts → length times ≡ shape.times → length texts ≡ shape.texts → (xs : List ℤ) (ns : List ℕ) → IsOver shape (length domain) (MatchesPattern p) xs ns → RowTuples xs ns
     row_to ascends td xd et ex xs ns h =
         let e : map (env_of domain ascends times texts td xd xs ns).times times ≡ xs = env_times domain ascends times texts td xd xs ns (h.times_count ∙ sym et) in
         let a : AreTexts domain ns (map (env_of domain ascends times texts td xd xs ns).texts texts) = env_texts domain ascends times texts td xd xs ns (h.texts_count ∙ sym ex) h.known in
@@ -74,7 +74,7 @@ module _ (domain : List Text) (times texts : List Identifier) (terms : List Term
           times_count = h.times_count;
           texts_count = h.texts_count;
           known = h.known;
-          is = record { env = env_of domain ascends times texts td xd xs ns; times_are = sym e; texts_are = a; is = w.to (env_of domain ascends times texts td xd xs ns) ns a (subst (λ l. Suits p l ns) (sym e) h.is) };
+          is = record { env = env_of domain ascends times texts td xd xs ns; times_are = sym e; texts_are = a; is = w.to (env_of domain ascends times texts td xd xs ns) ns a (subst (λ l. MatchesPattern p l ns) (sym e) h.is) };
         }
 
 -- ---- values and names
@@ -385,7 +385,7 @@ module _ (domain : List Text) (ascends : Ascends domain) (relation : Relation) (
         row_fits = record { fits = subst (λ n. All (Fits n out.period) (parts_of p)) row_times (w.fits out.period row_valid.period_low row_periods row_room); known = w.size }
 
         abbrev Asked : ℕ → Set
-        Asked n = IsOver out.shape n (Suits p)
+        Asked n = IsOver out.shape n (MatchesPattern p)
 
         asked_reach : system_reach out.period (parts_of p) ≤ bounds_reach row.bounds terms + out.period
         asked_reach = w.reach out.period (bounds_reach row.bounds terms + out.period) row_valid.period_low (omega arith)

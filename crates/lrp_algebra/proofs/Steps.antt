@@ -30,7 +30,7 @@ use Rattle.lrp_tables.proofs.Numbers.{number_of, domain_differs, numbers_are, ar
 use Rattle.lrp_tables.proofs.TableMade.{table_of}
 use Rattle.lrp_tables.specs.declared.names.Places.{Places}
 use Rattle.lrp_algebra.specs.declared.pattern.Pattern.{Pattern}
-use Rattle.lrp_algebra.specs.Patterns.{parts_of, IsAt, IsOver, IsKnown, Suits}
+use Rattle.lrp_algebra.specs.Patterns.{parts_of, IsAt, IsOver, IsKnown, MatchesPattern}
 use Rattle.lrp_tables.specs.Calls.{number_at}
 use Rattle.lrp_algebra.specs.Gathered.{CanStandIn, HasBrought}
 use Rattle.lrp_algebra.proofs.Parts.{held_just, added_reach, added_few, refused_many}
@@ -38,7 +38,7 @@ use Rattle.lrp_algebra.proofs.Parts.{held_just, added_reach, added_few, refused_
 -- ---- what has no condition
 
 -- every tuple is as a pattern asks that asks nothing
-pub all_suit : (xs : List ℤ) (ns : List ℕ) → Suits (record { zones = []; texts = replicate 8 None; equal = [] }) xs ns
+pub all_suit : (xs : List ℤ) (ns : List ℕ) → MatchesPattern (record { zones = []; texts = replicate 8 None; equal = [] }) xs ns
 all_suit xs ns = record { zones = λ k d h. absurd (omega arith); known = record { each = none 8 }; equal = λ k d h. absurd (omega arith) }
   where
     none : (n i : ℕ) → IsKnown (get_or (replicate n None) i None) (get_or ns i 0)
@@ -197,8 +197,8 @@ free = record { zones = []; texts = replicate 8 None; equal = [] }
 pub free_reach : (pattern : Pattern) → pattern ≡ free → (k high : ℕ) → system_reach k (parts_of pattern) ≤ high
 free_reach pattern e k high = subst (λ (p : Pattern). system_reach k (parts_of p) ≤ high) (sym e) (omega arith)
 
-pub free_suits : (pattern : Pattern) → pattern ≡ free → (xs : List ℤ) (ns : List ℕ) → Suits pattern xs ns
-free_suits pattern e xs ns = subst (λ (p : Pattern). Suits p xs ns) (sym e) (all_suit xs ns)
+pub free_suits : (pattern : Pattern) → pattern ≡ free → (xs : List ℤ) (ns : List ℕ) → MatchesPattern pattern xs ns
+free_suits pattern e xs ns = subst (λ (p : Pattern). MatchesPattern p xs ns) (sym e) (all_suit xs ns)
 
 -- a store without cells over so many columns
 abbrev pub empty_store : List Identifier → List Identifier → ℕ → StoreView

@@ -21,7 +21,7 @@ use Rattle.lrp_algebra.specs.Columns.{IsCut}
 use Rattle.lrp_tables.specs.Pieces.{InPiece, FitsCell}
 use Rattle.lrp_tables.specs.Passes.{IsMadeFrom}
 use Rattle.lrp_algebra.specs.Tuples.{IsWithoutText, IsStoreWithoutName, IsStoreWithoutText}
-use Rattle.lrp_tables.specs.Tables.{Has}
+use Rattle.lrp_tables.specs.Tables.{HasAssignment}
 use Rattle.lrp_algebra.specs.Tables.{IsTextDropped}
 use Rattle.lrp_tables.specs.declared.pieces.Piece.{Piece}
 use Rattle.lrp_tables.proofs.Adding.{IsZoneOf}
@@ -117,10 +117,10 @@ module _ (domain : List Text) (name : Identifier) (old new : Table) (times : new
   abbrev Old : Assignment → Type 0
   Old env = InTable domain old.vars.times (without name old.vars.texts) new.store env
 
-  to_old : (env : Assignment) → Has new domain env → Old env
+  to_old : (env : Assignment) → HasAssignment new domain env → Old env
   to_old env h = subst (λ ts. InTable domain old.vars.times ts new.store env) texts (subst (λ vs. InTable domain vs new.vars.texts new.store env) times h)
 
-  of_old : (env : Assignment) → Old env → Has new domain env
+  of_old : (env : Assignment) → Old env → HasAssignment new domain env
   of_old env h = subst (λ vs. InTable domain vs new.vars.texts new.store env) (sym times) (subst (λ ts. InTable domain old.vars.times ts new.store env) (sym texts) h)
 
   -- the name is that of a column
@@ -138,7 +138,7 @@ module _ (domain : List Text) (name : Identifier) (old new : Table) (times : new
         let b : place < length old.vars.texts = slice_get_within old.vars.texts place name at in
         let c : length (map env.texts (without name old.vars.texts)) ≡ length (without name old.vars.texts) = length-map (without name old.vars.texts) env.texts in omega arith
 
-    to_dropped : (env : Assignment) → Old env → (t : Text) × Contains domain t × Has old domain (with_value name (text t) env)
+    to_dropped : (env : Assignment) → Old env → (t : Text) × Contains domain t × HasAssignment old domain (with_value name (text t) env)
     to_dropped env h =
         let g = m.made.same.sound (map env.times old.vars.times) h.0 h.2 in
         let t = number_text domain g.made.value (let k : g.made.value < size = g.made.known in omega arith) in (
@@ -151,7 +151,7 @@ module _ (domain : List Text) (name : Identifier) (old new : Table) (times : new
           ),
         )
 
-    of_dropped : (env : Assignment) (t : Text) → Has old domain (with_value name (text t) env) → Old env
+    of_dropped : (env : Assignment) (t : Text) → HasAssignment old domain (with_value name (text t) env) → Old env
     of_dropped env t h =
         let g = zip_removed (λ n u. slice_get domain n ≡ Some u) h.0 (map env.texts (without name old.vars.texts)) place t (room env) (subst (λ ts. AreTexts domain h.0 ts) (values env t) h.1) in (
           g.rest,
@@ -182,12 +182,12 @@ module _ (domain : List Text) (name : Identifier) (old new : Table) (times : new
     kept env t = unchanged env.texts name t old.vars.texts none ∙ ap (map env.texts) (sym (others_all name old.vars.texts none))
 
     module _ (same : new.store ≡ record old.store { spare = new.store.spare }) (some : 0 < length domain) where
-      to_kept : (env : Assignment) → Old env → (t : Text) × Contains domain t × Has old domain (with_value name (text t) env)
+      to_kept : (env : Assignment) → Old env → (t : Text) × Contains domain t × HasAssignment old domain (with_value name (text t) env)
       to_kept env h =
           let t = number_text domain 0 some in
           (t.0, t.1, (h.0, subst (λ ts. AreTexts domain h.0 ts) (sym (kept env t.0)) h.1, same_spare old.store new.store.spare _ h.0 (subst (λ s. InStore s (map env.times old.vars.times) h.0) same h.2)))
 
-      of_kept : (env : Assignment) (t : Text) → Has old domain (with_value name (text t) env) → Old env
+      of_kept : (env : Assignment) (t : Text) → HasAssignment old domain (with_value name (text t) env) → Old env
       of_kept env t h = (h.0, subst (λ ts. AreTexts domain h.0 ts) (kept env t) h.1, subst (λ s. InStore s (map env.times old.vars.times) h.0) (sym same) (spare_same old.store new.store.spare _ h.0 h.2))
 
       pub texts_copied : IsTextDropped domain name old new

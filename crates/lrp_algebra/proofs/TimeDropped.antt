@@ -17,7 +17,7 @@ use Rattle.lrp_algebra.specs.Columns.{IsCut}
 use Rattle.lrp_tables.specs.Pieces.{InPiece, FitsCell}
 use Rattle.lrp_tables.specs.Passes.{IsMadeFrom}
 use Rattle.lrp_algebra.specs.Tuples.{IsWithoutTime, IsStoreWithoutTime}
-use Rattle.lrp_tables.specs.Tables.{Has}
+use Rattle.lrp_tables.specs.Tables.{HasAssignment}
 use Rattle.lrp_algebra.specs.Tables.{IsTimeDropped}
 use Rattle.lrp_tables.specs.declared.pieces.Piece.{Piece}
 use Rattle.lrp_tables.proofs.Named.{inserted, unchanged, others_all, others_fewer, pairs_left}
@@ -101,10 +101,10 @@ module _ (name : Identifier) (old new : Table) (times : new.vars.times ≡ witho
   abbrev Old : List Text → Assignment → Type 0
   Old domain env = InTable domain (without name old.vars.times) old.vars.texts new.store env
 
-  to_old : (domain : List Text) (env : Assignment) → Has new domain env → Old domain env
+  to_old : (domain : List Text) (env : Assignment) → HasAssignment new domain env → Old domain env
   to_old domain env h = subst (λ ts. InTable domain (without name old.vars.times) ts new.store env) texts (subst (λ vs. InTable domain vs new.vars.texts new.store env) times h)
 
-  of_old : (domain : List Text) (env : Assignment) → Old domain env → Has new domain env
+  of_old : (domain : List Text) (env : Assignment) → Old domain env → HasAssignment new domain env
   of_old domain env h = subst (λ vs. InTable domain vs new.vars.texts new.store env) (sym times) (subst (λ ts. InTable domain (without name old.vars.times) ts new.store env) (sym texts) h)
 
   -- the name is that of a column
@@ -113,12 +113,12 @@ module _ (name : Identifier) (old new : Table) (times : new.vars.times ≡ witho
     values : (env : Assignment) (x : ℤ) → map (with_value name (time x) env).times old.vars.times ≡ insert (map env.times (without name old.vars.times)) place x
     values env x = inserted env.times name x old.vars.times place (pairs_left ◌≢◌ old.vars.times old.vars.texts differ) at
 
-    to_dropped : (domain : List Text) (env : Assignment) → Old domain env → (x : ℤ) × Has old domain (with_value name (time x) env)
+    to_dropped : (domain : List Text) (env : Assignment) → Old domain env → (x : ℤ) × HasAssignment old domain (with_value name (time x) env)
     to_dropped domain env h =
         let g = m.made.same.sound (map env.times (without name old.vars.times)) h.0 h.2 in
         (g.made.value, (h.0, h.1, subst (λ ns. InStore old.store (map (with_value name (time g.made.value) env).times old.vars.times) ns) g.made.texts_are (subst (λ xs. InStore old.store xs g.old_texts) (g.made.times_are ∙ sym (values env g.made.value)) g.is)))
 
-    of_dropped : (domain : List Text) (env : Assignment) (x : ℤ) → Has old domain (with_value name (time x) env) → Old domain env
+    of_dropped : (domain : List Text) (env : Assignment) (x : ℤ) → HasAssignment old domain (with_value name (time x) env) → Old domain env
     of_dropped domain env x h = (
       h.0,
       h.1,
@@ -146,10 +146,10 @@ module _ (name : Identifier) (old new : Table) (times : new.vars.times ≡ witho
     kept : (env : Assignment) (x : ℤ) → map (with_value name (time x) env).times old.vars.times ≡ map env.times (without name old.vars.times)
     kept env x = unchanged env.times name x old.vars.times none ∙ ap (map env.times) (sym (others_all name old.vars.times none))
 
-    to_kept : (domain : List Text) (env : Assignment) → Old domain env → (x : ℤ) × Has old domain (with_value name (time x) env)
+    to_kept : (domain : List Text) (env : Assignment) → Old domain env → (x : ℤ) × HasAssignment old domain (with_value name (time x) env)
     to_kept domain env h = (pos 0, (h.0, h.1, subst (λ xs. InStore old.store xs h.0) (sym (kept env (pos 0))) (same_spare old.store new.store.spare _ h.0 (subst (λ s. InStore s (map env.times (without name old.vars.times)) h.0) same h.2))))
 
-    of_kept : (domain : List Text) (env : Assignment) (x : ℤ) → Has old domain (with_value name (time x) env) → Old domain env
+    of_kept : (domain : List Text) (env : Assignment) (x : ℤ) → HasAssignment old domain (with_value name (time x) env) → Old domain env
     of_kept domain env x h = (h.0, h.1, subst (λ s. InStore s (map env.times (without name old.vars.times)) h.0) (sym same) (spare_same old.store new.store.spare _ h.0 (subst (λ xs. InStore old.store xs h.0) (kept env x) h.2)))
 
     pub table_copied : IsTimeDropped name old new

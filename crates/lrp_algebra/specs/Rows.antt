@@ -16,7 +16,7 @@ use Rattle.lrp_store.specs.Tables.{AreTexts}
 use Rattle.lrp_systems.specs.Parts.{Fits, system_reach}
 use Rattle.lrp_zone.specs.Zones.{ZoneView, columns_of, reach_of}
 use Rattle.lrp_zone.specs.Zones.{IsMember as InZone}
-use Rattle.lrp_algebra.specs.Patterns.{parts_of, Suits}
+use Rattle.lrp_algebra.specs.Patterns.{parts_of, MatchesPattern}
 use Rattle.lrp_algebra.specs.declared.pattern.Pattern.{Pattern}
 
 -- the datum is of the value: a member of the point, or the constant
@@ -71,8 +71,8 @@ pub record HasNoBounded (bounds : List Bound) (columns : ℕ) : Type 0 where
 -- new asks what old asks, and that the times of the terms meet the bounds
 pub record IsWithBounds (times : List Identifier) (terms : List Term) (bounds : List Bound) (old new : Pattern) : Type 0 where
   pub size : length new.texts ≡ 8
-  pub to : (env : Assignment) (ns : List ℕ) → Suits new (map env.times times) ns → Suits old (map env.times times) ns × AllByRecursion (MeetsBound (term_times env terms)) bounds
-  pub from : (env : Assignment) (ns : List ℕ) → Suits old (map env.times times) ns → AllByRecursion (MeetsBound (term_times env terms)) bounds → Suits new (map env.times times) ns
+  pub to : (env : Assignment) (ns : List ℕ) → MatchesPattern new (map env.times times) ns → MatchesPattern old (map env.times times) ns × AllByRecursion (MeetsBound (term_times env terms)) bounds
+  pub from : (env : Assignment) (ns : List ℕ) → MatchesPattern old (map env.times times) ns → AllByRecursion (MeetsBound (term_times env terms)) bounds → MatchesPattern new (map env.times times) ns
   pub fits : (k : ℕ) → 0 < k → bounds_reach bounds terms + k ≤ 2 ^ 62 → All (Fits (length times) k) (parts_of old) → All (Fits (length times) k) (parts_of new)
   pub reach : (k high : ℕ) → 0 < k → bounds_reach bounds terms + k ≤ high → system_reach k (parts_of old) ≤ high → system_reach k (parts_of new) ≤ high
 
@@ -85,20 +85,20 @@ pub record HasNoBounds (times : List Identifier) (terms : List Term) (bounds : L
 -- new asks what old asks, and that what the term stands for is of the value
 pub record IsWithValue (domain : List Text) (times texts : List Identifier) (value : Value) (term : Term) (old new : Pattern) : Type 0 where
   pub size : length new.texts ≡ 8
-  pub to : (env : Assignment) (ns : List ℕ) → AreTexts domain ns (map env.texts texts) → Suits new (map env.times times) ns → Suits old (map env.times times) ns × IsOfValue value (term_value env term)
-  pub from : (env : Assignment) (ns : List ℕ) → AreTexts domain ns (map env.texts texts) → Suits old (map env.times times) ns → IsOfValue value (term_value env term) → Suits new (map env.times times) ns
+  pub to : (env : Assignment) (ns : List ℕ) → AreTexts domain ns (map env.texts texts) → MatchesPattern new (map env.times times) ns → MatchesPattern old (map env.times times) ns × IsOfValue value (term_value env term)
+  pub from : (env : Assignment) (ns : List ℕ) → AreTexts domain ns (map env.texts texts) → MatchesPattern old (map env.times times) ns → IsOfValue value (term_value env term) → MatchesPattern new (map env.times times) ns
   pub fits : (k : ℕ) → DividesPeriod (pos k) value → k ≤ 2 ^ 62 → All (Fits (length times) k) (parts_of old) → All (Fits (length times) k) (parts_of new)
   pub reach : (k high : ℕ) → k ≤ high → system_reach k (parts_of old) ≤ high → system_reach k (parts_of new) ≤ high
 
 -- nothing that the pattern asks for has a value of the term that is of this one
 pub record HasNoValue (domain : List Text) (times texts : List Identifier) (value : Value) (term : Term) (old : Pattern) : Type 0 where
-  pub none : (env : Assignment) (ns : List ℕ) → AreTexts domain ns (map env.texts texts) → Suits old (map env.times times) ns → IsOfValue value (term_value env term) → ⊥
+  pub none : (env : Assignment) (ns : List ℕ) → AreTexts domain ns (map env.texts texts) → MatchesPattern old (map env.times times) ns → IsOfValue value (term_value env term) → ⊥
 
 -- the pattern asks that what the terms stand for is of the values
 pub record IsWithValues (domain : List Text) (times texts : List Identifier) (values : List Value) (terms : List Term) (new : Pattern) : Type 0 where
   pub size : length new.texts ≡ 8
-  pub to : (env : Assignment) (ns : List ℕ) → AreTexts domain ns (map env.texts texts) → Suits new (map env.times times) ns → IsOf values (map (term_value env) terms)
-  pub from : (env : Assignment) (ns : List ℕ) → AreTexts domain ns (map env.texts texts) → IsOf values (map (term_value env) terms) → Suits new (map env.times times) ns
+  pub to : (env : Assignment) (ns : List ℕ) → AreTexts domain ns (map env.texts texts) → MatchesPattern new (map env.times times) ns → IsOf values (map (term_value env) terms)
+  pub from : (env : Assignment) (ns : List ℕ) → AreTexts domain ns (map env.texts texts) → IsOf values (map (term_value env) terms) → MatchesPattern new (map env.times times) ns
   pub fits : (k : ℕ) → AllByRecursion (DividesPeriod (pos k)) values → k ≤ 2 ^ 62 → All (Fits (length times) k) (parts_of new)
   pub reach : (k high : ℕ) → k ≤ high → system_reach k (parts_of new) ≤ high
 
@@ -121,8 +121,8 @@ pub record AreNeverOf (values : List Value) (terms : List Term) : Type 0 where
 -- the pattern asks that the values of the terms are a member of the row
 pub record IsOfRow (domain : List Text) (times texts : List Identifier) (terms : List Term) (row : Row) (new : Pattern) : Type 0 where
   pub size : length new.texts ≡ 8
-  pub to : (env : Assignment) (ns : List ℕ) → AreTexts domain ns (map env.texts texts) → Suits new (map env.times times) ns → IsInRow row (map (term_value env) terms)
-  pub from : (env : Assignment) (ns : List ℕ) → AreTexts domain ns (map env.texts texts) → IsInRow row (map (term_value env) terms) → Suits new (map env.times times) ns
+  pub to : (env : Assignment) (ns : List ℕ) → AreTexts domain ns (map env.texts texts) → MatchesPattern new (map env.times times) ns → IsInRow row (map (term_value env) terms)
+  pub from : (env : Assignment) (ns : List ℕ) → AreTexts domain ns (map env.texts texts) → IsInRow row (map (term_value env) terms) → MatchesPattern new (map env.times times) ns
   pub fits : (k : ℕ) → 0 < k → AllByRecursion (DividesPeriod (pos k)) row.values → bounds_reach row.bounds terms + k ≤ 2 ^ 62 → All (Fits (length times) k) (parts_of new)
   pub reach : (k high : ℕ) → 0 < k → bounds_reach row.bounds terms + k ≤ high → system_reach k (parts_of new) ≤ high
 

@@ -10,8 +10,8 @@ use Rattle.lrp_model.specs.declared.tuples.Cell.{Cell}
 use Rattle.lrp_model.specs.declared.tuples.Shape.{Shape}
 use Rattle.lrp_store.specs.Stores.{StoreView}
 use Rattle.lrp_answer_text.specs.AnswerText.{cell_values, residue_point}
-use Rattle.lrp_answer_text.specs.Lines.{values_behind}
-use Rattle.lrp_answer_text.proofs.LineLaws.{joined_behind, values_spelled}
+use Rattle.lrp_answer_text.specs.Lines.{values_after}
+use Rattle.lrp_answer_text.proofs.LineLaws.{joined_after, values_spelled}
 
 -- ---- rows of tables
 
@@ -31,7 +31,7 @@ pushed f n old now new e g = g ∙ ap (λ r. r ++ f n) e ∙ append_assoc old (f
 
 -- the values of a cell, by what is read of the answer
 pub values_same : (columns : List Column) (domain : List Text) (s : StoreView) (cell : Cell) (period : ℤ) (cs : List Column) (shape : Shape) → period ≡ pos s.period → cs ≡ columns → shape ≡ s.shape
-    → values_behind (residue_point period) (codes "") (codes ", ") (in_head_order cs (take shape.times cell.residues) (texts_at domain (take shape.texts cell.texts))) ≡ joined_by (codes ", ") value_bytes (cell_values columns domain s cell)
+    → values_after (residue_point period) (codes "") (codes ", ") (in_head_order cs (take shape.times cell.residues) (texts_at domain (take shape.texts cell.texts))) ≡ joined_by (codes ", ") value_bytes (cell_values columns domain s cell)
 values_same columns domain s cell period cs shape e g h =
     let tuple = in_head_order columns (take s.shape.times cell.residues) (texts_at domain (take s.shape.texts cell.texts)) in
-    rw (e, g, h) (joined_behind (residue_point (pos s.period)) (codes ", ") tuple ∙ values_spelled (pos s.period) tuple)
+    rw (e, g, h) (joined_after (residue_point (pos s.period)) (codes ", ") tuple ∙ values_spelled (pos s.period) tuple)

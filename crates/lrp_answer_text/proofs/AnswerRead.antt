@@ -35,7 +35,7 @@ use Rattle.lrp_model.specs.declared.written.RawRelation.{RawRelation}
 use Rattle.lrp_model.specs.Kept.{AreKept, AreValuesOf, IsBoundOf, IsKept, IsRowOf}
 use Rattle.lrp_print.proofs.Faultless.{relations_fit, relations_sound}
 use Rattle.lrp_print.proofs.Meant.{reduced, reduced_row, reduced_value, relations_mean}
-use Rattle.lrp_print.proofs.PieceLaws.{trees, behind}
+use Rattle.lrp_print.proofs.PieceLaws.{trees, after_piece}
 use Rattle.lrp_print.proofs.Spelling.{tokens_at}
 use Rattle.lrp_print.proofs.Trees.{relation_tree}
 use Rattle.lrp_print.proofs.Utf8.{relations_utf8}
@@ -63,7 +63,7 @@ the_end p = (refl, refl)
 
 -- the tree of relations
 abbrev database_tree : List Relation → List RawRelation
-database_tree = trees (behind relation_bytes) relation_tree start
+database_tree = trees (after_piece relation_bytes) relation_tree start
 
 -- a relation reads back with each offset taken modulo its period
 read_reduced : (r : Relation) → IsKept r → IsDatabase (relation_bytes r) (reduced r ∷ [])

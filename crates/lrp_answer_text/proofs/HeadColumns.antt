@@ -9,7 +9,7 @@ use Rattle.std.proofs.lemmas.List.Sums.{sum_by-cons}
 use Rattle.lrp_model.specs.Texts.{Identifier, AreDistinct}
 use Rattle.lrp_model.specs.Sorts.{is_time, is_data, time_count, text_count}
 use Rattle.lrp_model.specs.Names.{IsName, AreNamed}
-use Rattle.lrp_model.specs.Lexing.{scan, run, behind_run, word_or_name, scan_in}
+use Rattle.lrp_model.specs.Lexing.{scan, run, after_run, word_or_name, scan_in}
 use Rattle.lrp_model.specs.Faults.{fault_if, is_named_in, ninth}
 use Rattle.lrp_model.specs.DatabaseMeaning.{column_of}
 use Rattle.lrp_model.specs.RawQueries.{RawQuestion}
@@ -22,7 +22,7 @@ use Rattle.lrp_answer_text.specs.Answering.{AreAnswerColumns}
 
 -- the relation's own name
 answer_named : IsName (codes "answer")
-unfolding scan_in run behind_run word_or_name
+unfolding scan_in run after_run word_or_name
 answer_named = refl
 
 -- two lists that are nothing together

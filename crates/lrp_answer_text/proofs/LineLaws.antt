@@ -12,7 +12,7 @@ use Rattle.lrp_model.specs.declared.relations.Sort.TheVariants.{Time, Data, Name
 use Rattle.lrp_model.specs.declared.relations.Column.{Column}
 use Rattle.lrp_model.specs.Satisfaction.{HasShape}
 use Rattle.lrp_answer_text.specs.AnswerText.{residue_point, answer_value}
-use Rattle.lrp_answer_text.specs.Lines.{tuple_line, spelled_datum, values_behind}
+use Rattle.lrp_answer_text.specs.Lines.{tuple_line, spelled_datum, values_after}
 use Rattle.lrp_answers.proofs.HeadOrder.{head_is}
 
 -- what is left of a list after its first element
@@ -34,33 +34,33 @@ text_put (Named name) xs t ts rest e = refl
 
 -- the first column's time, and the others after it
 pub time_first : (times : ℤ → List ℕ) (before between : List ℕ) (cs : List Column) (c : Column) (xs : List ℤ) (d : ℤ) (ts : List Text) → 1 ≤ length cs → c ≡ get_or cs 0 c → is_time c.sort ≡ true → 1 ≤ length xs
-    → (before ++ times (get_or xs 0 d)) ++ values_behind times between between (in_head_order (take (length cs - 1) (drop 1 cs)) (take (length xs - 1) (drop 1 xs)) ts) ≡ values_behind times before between (in_head_order cs xs ts)
+    → (before ++ times (get_or xs 0 d)) ++ values_after times between between (in_head_order (take (length cs - 1) (drop 1 cs)) (take (length xs - 1) (drop 1 xs)) ts) ≡ values_after times before between (in_head_order cs xs ts)
 time_first times before between [] c xs d ts l e k m = absurd (omega arith)
 time_first times before between (b ∷ cs) c [] d ts l e k m = absurd (omega arith)
 time_first times before between (b ∷ cs) c (x ∷ xs) d ts l e k m =
-    ap₂ (λ bs ys. (before ++ times x) ++ values_behind times between between (in_head_order bs ys ts)) (rest_is b cs) (rest_is x xs)
-    ∙ append_assoc before (times x) (values_behind times between between (in_head_order cs xs ts))
-    ∙ ap (values_behind times before between) (sym (time_put b.sort x xs ts (in_head_order cs) (ap (λ a. is_time a.sort) (sym e) ∙ k)))
+    ap₂ (λ bs ys. (before ++ times x) ++ values_after times between between (in_head_order bs ys ts)) (rest_is b cs) (rest_is x xs)
+    ∙ append_assoc before (times x) (values_after times between between (in_head_order cs xs ts))
+    ∙ ap (values_after times before between) (sym (time_put b.sort x xs ts (in_head_order cs) (ap (λ a. is_time a.sort) (sym e) ∙ k)))
 
 -- the first column's text, and the others after it
 pub text_first : (times : ℤ → List ℕ) (domain : List Text) (before between : List ℕ) (cs : List Column) (c : Column) (xs : List ℤ) (ns : List ℕ) → 1 ≤ length cs → c ≡ get_or cs 0 c → is_time c.sort ≡ false → 1 ≤ length ns
-    → (before ++ quoted (text_at domain (get_or ns 0 0))) ++ values_behind times between between (in_head_order (take (length cs - 1) (drop 1 cs)) xs (texts_at domain (take (length ns - 1) (drop 1 ns)))) ≡ values_behind times before between (in_head_order cs xs (texts_at domain ns))
+    → (before ++ quoted (text_at domain (get_or ns 0 0))) ++ values_after times between between (in_head_order (take (length cs - 1) (drop 1 cs)) xs (texts_at domain (take (length ns - 1) (drop 1 ns)))) ≡ values_after times before between (in_head_order cs xs (texts_at domain ns))
 text_first times domain before between [] c xs ns l e k m = absurd (omega arith)
 text_first times domain before between (b ∷ cs) c xs [] l e k m = absurd (omega arith)
 text_first times domain before between (b ∷ cs) c xs (n ∷ ns) l e k m =
-    ap₂ (λ bs ms. (before ++ quoted (text_at domain n)) ++ values_behind times between between (in_head_order bs xs (texts_at domain ms))) (rest_is b cs) (rest_is n ns)
-    ∙ append_assoc before (quoted (text_at domain n)) (values_behind times between between (in_head_order cs xs (texts_at domain ns)))
-    ∙ ap (values_behind times before between) (sym (text_put b.sort xs (text_at domain n) (texts_at domain ns) (in_head_order cs) (ap (λ a. is_time a.sort) (sym e) ∙ k)))
+    ap₂ (λ bs ms. (before ++ quoted (text_at domain n)) ++ values_after times between between (in_head_order bs xs (texts_at domain ms))) (rest_is b cs) (rest_is n ns)
+    ∙ append_assoc before (quoted (text_at domain n)) (values_after times between between (in_head_order cs xs (texts_at domain ns)))
+    ∙ ap (values_after times before between) (sym (text_put b.sort xs (text_at domain n) (texts_at domain ns) (in_head_order cs) (ap (λ a. is_time a.sort) (sym e) ∙ k)))
 
 -- a value and those after it
-joined_more : (times : ℤ → List ℕ) (between : List ℕ) (d : Datum) (ds : Tuple) → spelled_datum times d ++ values_behind times between between ds ≡ joined_by between (spelled_datum times) (d ∷ ds)
+joined_more : (times : ℤ → List ℕ) (between : List ℕ) (d : Datum) (ds : Tuple) → spelled_datum times d ++ values_after times between between ds ≡ joined_by between (spelled_datum times) (d ∷ ds)
 joined_more times between d [] = append-nil (spelled_datum times d)
 joined_more times between d (e ∷ es) = ap (λ r. spelled_datum times d ++ (between ++ r)) (joined_more times between e es)
 
 -- the first value after no bytes
-pub joined_behind : (times : ℤ → List ℕ) (between : List ℕ) (tuple : Tuple) → values_behind times [] between tuple ≡ joined_by between (spelled_datum times) tuple
-joined_behind times between [] = refl
-joined_behind times between (d ∷ ds) = joined_more times between d ds
+pub joined_after : (times : ℤ → List ℕ) (between : List ℕ) (tuple : Tuple) → values_after times [] between tuple ≡ joined_by between (spelled_datum times) tuple
+joined_after times between [] = refl
+joined_after times between (d ∷ ds) = joined_more times between d ds
 
 -- one value of an option
 same : {A : Type 0} (d t : A) → Some d ≡ Some t → t ≡ d
@@ -92,13 +92,13 @@ json_more domain n t e = rw (add-one) (by domain n t e)
 
 -- ---- whole lines
 
-pub json_line_is : (times : ℤ → List ℕ) (tuple : Tuple) → codes "[" ++ (values_behind times (codes "") (codes ",") tuple ++ codes "]\n") ≡ tuple_line times true tuple
-json_line_is times tuple = ap (λ bs. codes "[" ++ (bs ++ codes "]\n")) (joined_behind times (codes ",") tuple)
+pub json_line_is : (times : ℤ → List ℕ) (tuple : Tuple) → codes "[" ++ (values_after times (codes "") (codes ",") tuple ++ codes "]\n") ≡ tuple_line times true tuple
+json_line_is times tuple = ap (λ bs. codes "[" ++ (bs ++ codes "]\n")) (joined_after times (codes ",") tuple)
 
-some_line : (times : ℤ → List ℕ) (cs : List Column) (tuple : Tuple) → HasShape cs tuple → 0 < length cs → values_behind times (codes "") (codes ", ") tuple ++ codes "\n" ≡ tuple_line times false tuple
+some_line : (times : ℤ → List ℕ) (cs : List Column) (tuple : Tuple) → HasShape cs tuple → 0 < length cs → values_after times (codes "") (codes ", ") tuple ++ codes "\n" ≡ tuple_line times false tuple
 some_line times [] tuple h l = absurd (omega arith)
 some_line times (c ∷ cs) [] h l = absurd h
-some_line times (c ∷ cs) (d ∷ ds) h l = ap (λ bs. bs ++ codes "\n") (joined_behind times (codes ", ") (d ∷ ds))
+some_line times (c ∷ cs) (d ∷ ds) h l = ap (λ bs. bs ++ codes "\n") (joined_after times (codes ", ") (d ∷ ds))
 
 some_columns : (n : ℕ) (b : Bool) → b ≡ (n == 0) → b ≡ false → 0 < n
 some_columns n b e f = grind (arith, nat_tests)
@@ -108,7 +108,7 @@ length_at domain [] = refl
 length_at domain (n ∷ ns) = ap suc (length_at domain ns)
 
 pub plain_line_is : (times : ℤ → List ℕ) (domain : List Text) (cs : List Column) (xs : List ℤ) (ns : List ℕ) (b : Bool) → b ≡ (length cs == 0) → b ≡ false → time_count cs ≡ length xs → length cs ≡ length xs + length ns
-    → values_behind times (codes "") (codes ", ") (in_head_order cs xs (texts_at domain ns)) ++ codes "\n" ≡ tuple_line times false (in_head_order cs xs (texts_at domain ns))
+    → values_after times (codes "") (codes ", ") (in_head_order cs xs (texts_at domain ns)) ++ codes "\n" ≡ tuple_line times false (in_head_order cs xs (texts_at domain ns))
 plain_line_is times domain cs xs ns b e f g h =
     some_line times cs (in_head_order cs xs (texts_at domain ns)) (head_is cs xs (texts_at domain ns) g (h ∙ ap (λ n. length xs + n) (sym (length_at domain ns)))).shape (some_columns (length cs) b e f)
 

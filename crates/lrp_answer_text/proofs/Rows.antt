@@ -9,7 +9,7 @@ use Rattle.std.proofs.lemmas.List.{length-map}
 use Rattle.std.specs.FinMap as finite
 use Rattle.lrp_io.specs.Bytes.{appended, AppendsFront}
 use Rattle.lrp_io.proofs.BytesLemmas.{appended_twice}
-use Rattle.lrp_io.proofs.PieceLemmas.{front_behind, front_before}
+use Rattle.lrp_io.proofs.PieceLemmas.{front_after, front_before}
 use Rattle.lrp_model.specs.Texts.{Text, Identifier, Ascends}
 use Rattle.lrp_model.specs.Printed.{column_bytes, joined_by, relation_bytes, row_line}
 use Rattle.lrp_model.specs.declared.relations.Column.{Column}
@@ -73,7 +73,7 @@ module _ {A : Type 0} (f : A → List ℕ) (all : List A) (x : A) (left : List A
   -- a front of one more's
   pub front_done : AppendsFront now new (f x) → AppendsFront old new (flat_map f all)
   front_done w =
-      let front : AppendsFront old new (flat_map f h.done ++ f x) = front_behind old now new (flat_map f h.done) (f x) h.so_far w in
+      let front : AppendsFront old new (flat_map f h.done ++ f x) = front_after old now new (flat_map f h.done) (f x) h.so_far w in
       let whole : flat_map f all ≡ (flat_map f h.done ++ f x) ++ flat_map f left = ap (flat_map f) (sym h.split) ∙ flat_map-append f h.done (x ∷ left) ∙ sym (append_assoc (flat_map f h.done) (f x) (flat_map f left)) in
       subst (λ bs. AppendsFront old new bs) (sym whole) (front_before old new (flat_map f h.done ++ f x) (flat_map f left) front)
 

@@ -28,6 +28,6 @@ tuple_line times false (d ∷ ds) = joined_by (codes ", ") (spelled_datum times)
 tuple_line times true tuple = codes "[" ++ (joined_by (codes ",") (spelled_datum times) tuple ++ codes "]\n")
 
 -- the values of a tuple, the first after some bytes and each further one after others
-abbrev pub values_behind : (ℤ → List ℕ) → List ℕ → List ℕ → Tuple → List ℕ
-values_behind times before between [] = []
-values_behind times before between (d ∷ ds) = before ++ (spelled_datum times d ++ values_behind times between between ds)
+abbrev pub values_after : (ℤ → List ℕ) → List ℕ → List ℕ → Tuple → List ℕ
+values_after times before between [] = []
+values_after times before between (d ∷ ds) = before ++ (spelled_datum times d ++ values_after times between between ds)

@@ -5,7 +5,7 @@ ghost use Rattle.lrp_io.specs.Causes.{HasCause};
 ghost use Rattle.lrp_io.specs.Pieces.{IsWritten};
 ghost use Rattle.lrp_model.specs.Printed.{quoted};
 ghost use Rattle.lrp_model.specs.Tuples.{in_head_order, text_at, texts_at};
-ghost use Rattle.lrp_answer_text.specs.Lines.{values_behind};
+ghost use Rattle.lrp_answer_text.specs.Lines.{values_after};
 
 use crate::texts::JsonTexts;
 use lrp_io::{Failed, Sink};
@@ -41,7 +41,7 @@ pub(crate) fn write_values<S: Sink, T: Notation<Item = i64>>(
         ≡ map quoted values.domain.now) }
     requires times { AllByRecursion (T.spells spelling.now.times.now) values.times.now }
     ensures text { IsWritten (S.written out.old) (S.written out.new)
-        (values_behind (T.bytes spelling.now.times.now) before.now between.now
+        (values_after (T.bytes spelling.now.times.now) before.now between.now
         (in_head_order values.entry.columns.now values.entry.times.now
         (texts_at values.entry.domain.now values.entry.numbers.now))) result }
     ensures cause { HasCause (S.faults out.old) (S.faults out.new) result }

@@ -44,8 +44,8 @@ back w p t u l m = record { is = m.is; inside = m.inside; later = by p l.later }
     by None h = tt
     by (Some a) h = tuples_total.trans a t u h m.later
 
-behind : (w : WindowView) (p : Option Tuple) (t u : Tuple) → IsLeft w p u → Before t u → IsLeft w (Some t) u
-behind w p t u l b = record { is = l.is; inside = l.inside; later = b }
+afterwards : (w : WindowView) (p : Option Tuple) (t u : Tuple) → IsLeft w p u → Before t u → IsLeft w (Some t) u
+afterwards w p t u l b = record { is = l.is; inside = l.inside; later = b }
 
 all_weaker : (P Q : Tuple → Type 0) → ((t : Tuple) → P t → Q t) → (ts : List Tuple) → AllByRecursion P ts → AllByRecursion Q ts
 all_weaker P Q f [] h = tt
@@ -53,13 +53,13 @@ all_weaker P Q f (t ∷ ts) h = (f t h.0, all_weaker P Q f ts h.1)
 
 -- ---- the parts of a page
 
-all_behind : (w : WindowView) (t : Tuple) (ts : List Tuple) (end : Option Tuple) → GivesTuples w (Some t) ts end → AllByRecursion (Before t) ts
-all_behind w t [] end g = tt
-all_behind w t (u ∷ us) end g = (g.0.is.later, all_weaker (Before u) (Before t) (λ v b. tuples_total.trans t u v g.0.is.later b) us (all_behind w u us end g.1))
+all_after : (w : WindowView) (t : Tuple) (ts : List Tuple) (end : Option Tuple) → GivesTuples w (Some t) ts end → AllByRecursion (Before t) ts
+all_after w t [] end g = tt
+all_after w t (u ∷ us) end g = (g.0.is.later, all_weaker (Before u) (Before t) (λ v b. tuples_total.trans t u v g.0.is.later b) us (all_after w u us end g.1))
 
 rises : (w : WindowView) (p : Option Tuple) (ts : List Tuple) (end : Option Tuple) → GivesTuples w p ts end → Rises ts
 rises w p [] end g = tt
-rises w p (t ∷ ts) end g = (all_behind w t ts end g.1, rises w (Some t) ts end g.1)
+rises w p (t ∷ ts) end g = (all_after w t ts end g.1, rises w (Some t) ts end g.1)
 
 all_due : (w : WindowView) (p : Option Tuple) (ts : List Tuple) (end : Option Tuple) → GivesTuples w p ts end → AllByRecursion (IsLeft w p) ts
 all_due w p [] end g = tt
@@ -68,7 +68,7 @@ all_due w p (t ∷ ts) end g = (g.0.is, all_weaker (IsLeft w (Some t)) (IsLeft w
 whole : (w : WindowView) (p : Option Tuple) (ts : List Tuple) (end : Option Tuple) → GivesTuples w p ts end → (u : Tuple) → IsLeft w p u → (ComesAfter (last_of ts) u → ⊥) → Contains ts u
 whole w p [] end g u l unless = absurd (unless tt)
 whole w p (t ∷ ts) end g u l unless = by_order tuples_total t u (Contains (t ∷ ts) u)
-    (λ e. contains_later t u ts (rest ts g.1 unless e (λ unless. whole w (Some t) ts end g.1 u (behind w p t u l e) unless)))
+    (λ e. contains_later t u ts (rest ts g.1 unless e (λ unless. whole w (Some t) ts end g.1 u (afterwards w p t u l e) unless)))
     (λ e. subst (Contains (t ∷ ts)) (same_tuple w.columns t u g.0.is.is.shape l.is.shape e) (contains_first t ts))
     (λ e. absurd (g.0.first u l (turned_back tuples_total t u e)))
   where
@@ -84,7 +84,7 @@ left_end w p (t ∷ ts) end g u l =
 
 end_left : (w : WindowView) (p : Option Tuple) (ts : List Tuple) (end : Option Tuple) → GivesTuples w p ts end → (u : Tuple) → IsLeft w p u → AfterAll ts u → IsLeft w end u
 end_left w p [] end g u l a = subst (λ q. IsLeft w q u) g l
-end_left w p (t ∷ ts) end g u l a = end_left w (Some t) ts end g.1 u (behind w p t u l a.0) a.1
+end_left w p (t ∷ ts) end g u l a = end_left w (Some t) ts end g.1 u (afterwards w p t u l a.0) a.1
 
 -- the law of `laws.rt`
 pub page_is : (w : WindowView) (after end : Option Tuple) (limit : ℕ) (page : List Tuple) (more : Bool) → GivesTuples w after page end → length page ≤ limit → (IsTrue more → length page ≡ limit) → (IsTrue more ↔ ((t : Tuple) × IsLeft w end t))

@@ -105,8 +105,8 @@ module _ (set : ℤ → Type 0) (either : (x : ℤ) → set x ⊎ (set x → ⊥
     stop_ahead : (y : ℤ) → Above y e.number → Divides (pos period) (y -ℤ pos e.residue) → StopsAt set period y → IsEdgeAhead stops e y
     stop_ahead y a d s = (let t = stop.from y s in record { listed = subst (Contains stops) (edge_is period y e.residue t.0 (begin.below e listed) d t.1) t.2; later = a })
 
-    behind : (x y : ℤ) → Within x row.most → IsEdgeAhead stops e y → x <ℤ y
-    behind x y w a = by row.most from.most w
+    after : (x y : ℤ) → Within x row.most → IsEdgeAhead stops e y → x <ℤ y
+    after x y w a = by row.most from.most w
       where
         by : (b : Option ℤ) → EndsAt period stops e b → Within x b → x <ℤ y
         by None t v = absurd (t y a)
@@ -121,7 +121,7 @@ module _ (set : ℤ → Type 0) (either : (x : ℤ) → set x ⊎ (set x → ⊥
         let g : a +ℤ pos (period * t.0) ≡ x = omega (arith, ints, f) in
         subst set g (climb t.0 a h (λ y lt ly dy s.
         let dr : Divides (pos period) (y -ℤ pos e.residue) = Divides-is (pos period) ((y -ℤ a) +ℤ (a -ℤ pos e.residue)) _ (omega (arith, ints)) (Divides-+ (pos period) _ _ dy d) in
-        let b : x <ℤ y = behind x y i.high (stop_ahead y (above_more a y e.number (omega (arith, ints)) above) dr s) in
+        let b : x <ℤ y = after x y i.high (stop_ahead y (above_more a y e.number (omega (arith, ints)) above) dr s) in
         absurd (omega (arith, ints))))
 
     pub row_to : (x : ℤ) → IsInside period row x → set x

@@ -114,15 +114,15 @@ earlier_trans d e f (inr a) (inl b) = inl (let p : d.residue ≡ e.residue = a.0
 earlier_trans d e f (inr a) (inr b) = inr (a.0 ∙ b.0, number_trans d.number e.number f.number a.1 b.1)
 
 -- what stands after a place of a list in order comes after the edge there
-behind : (edges : List Edge) (k : ℕ) (d : Edge) → k < length edges → AllPairs IsEarlierEdge edges → (s : Edge) → Contains (drop (k + 1) edges) s → IsEarlierEdge (get_or edges k d) s
-behind edges k d l all s h =
+after : (edges : List Edge) (k : ℕ) (d : Edge) → k < length edges → AllPairs IsEarlierEdge edges → (s : Edge) → Contains (drop (k + 1) edges) s → IsEarlierEdge (get_or edges k d) s
+after edges k d l all s h =
     let e : take (k + 1) edges ++ drop (k + 1) edges ≡ edges = take-append-drop (k + 1) edges in
     let f : take (k + 1) edges ≡ take k edges ++ get_or edges k d ∷ [] = take_more edges k d l in
     let g : take k edges ++ (get_or edges k d ∷ drop (k + 1) edges) ≡ edges = sym (append_assoc (take k edges) (get_or edges k d ∷ []) (drop (k + 1) edges)) ∙ ap (λ xs. xs ++ drop (k + 1) edges) (sym f) ∙ e in
     pairs_head IsEarlierEdge (get_or edges k d) (drop (k + 1) edges) (pairs_right IsEarlierEdge (take k edges) (get_or edges k d ∷ drop (k + 1) edges) (subst (AllPairs IsEarlierEdge) (sym g) all)) s h
 
 pub still_before : (stops starts : List Edge) (k next : ℕ) (d : Edge) → k < length starts → AllPairs IsEarlierEdge starts → ((e : Edge) → Contains (take next stops) e → IsEarlierEdge e (get_or starts k d)) → (s : Edge) → Contains (drop (k + 1) starts) s → (e : Edge) → Contains (take next stops) e → IsEarlierEdge e s
-still_before stops starts k next d l all before s h e m = earlier_trans e (get_or starts k d) s (before e m) (behind starts k d l all s h)
+still_before stops starts k next d l all before s h e m = earlier_trans e (get_or starts k d) s (before e m) (after starts k d l all s h)
 
 pub here_left : (starts : List Edge) (k : ℕ) (d : Edge) → k < length starts → Contains (drop k starts) (get_or starts k d)
 here_left [] k d l = absurd (omega arith)

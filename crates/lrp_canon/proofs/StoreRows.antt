@@ -103,13 +103,13 @@ module _ (group : Cell) (rows : List MaximalRow) (row : MaximalRow) (old now new
   far : ((c : Cell) → c.texts ≡ group.texts → zones_at old c ≡ []) → ((c : Cell) → AllPairs IsFarBelow (zones_at old c)) → (c : Cell) → AllPairs IsFarBelow (zones_at new c)
   far empty all c = elim (row_added group row now new now_one a c) [
     | inl e ↦ subst (AllPairs IsFarBelow) (sym e.1) (pairs_append IsFarBelow (zones_at now c) (a.zone ∷ []) (so.far empty all c) (pairs_one IsFarBelow a.zone)
-        (λ u w lu lw. subst (IsFarBelow u) (in_one a.zone w lw) (behind e.0 u (so.to c u lu))))
+        (λ u w lu lw. subst (IsFarBelow u) (in_one a.zone w lw) (after e.0 u (so.to c u lu))))
     | inr e ↦ subst (AllPairs IsFarBelow) (sym e.1) (so.far empty all c)
   ]
     where
-      behind : c ≡ row_cell group row.residue → (u : ZoneView) → Contains (zones_at old c) u ⊎ IsRowZone group rows old.period c u → IsFarBelow u a.zone
-      behind ce u (inl h) = absurd (in_none u (subst (λ l. Contains l u) (empty c (ap (λ (d : Cell). d.texts) ce)) h))
-      behind ce u (inr h) = record {
+      after : c ≡ row_cell group row.residue → (u : ZoneView) → Contains (zones_at old c) u ⊎ IsRowZone group rows old.period c u → IsFarBelow u a.zone
+      after ce u (inl h) = absurd (in_none u (subst (λ l. Contains l u) (empty c (ap (λ (d : Cell). d.texts) ce)) h))
+      after ce u (inr h) = record {
         far = λ x y mx my. subst (λ p. (x +ℤ pos p) <ℤ y) (sym h.is.same)
             ((across h.row h.listed).far (same_residue h.row.residue row.residue (sym h.named ∙ ce)) x y (h.is.to x mx) (is.to y my));
       }

@@ -290,8 +290,8 @@ same_residue K values t u x y p h g e f =
 
 -- ---- the rows of one relation of answers
 module _ {called : Identifier} (K : ℕ) (db : List Relation) (q : Question) (one : time_count q.head ≡ 1) (answer : Relation) (is : IsAnswerRelation called K db q answer) where
-  abbrev Behind : Row → Row → Type 0
-  Behind r s = (row_cell_cmp r s ≢ Greater) × (OfOneCell r s → IsApart K r s)
+  abbrev After : Row → Row → Type 0
+  After r s = (row_cell_cmp r s ≢ Greater) × (OfOneCell r s → IsApart K r s)
 
   row_is : (r : Row) → Contains answer.rows r → IsAnswerRow K 1 r
   row_is r c = subst (λ m. IsAnswerRow K m r) one (all_at (IsAnswerRow K (time_count q.head)) answer.rows r is.rows c)
@@ -311,10 +311,10 @@ module _ {called : Identifier} (K : ℕ) (db : List Relation) (q : Question) (on
   apart : AllPairs (λ r s. OfOneCell r s → IsApart K r s) answer.rows
   apart = subst (λ m. AllPairs (λ r s. OfOneCell r s → MayStandBeside (IsAnswer db q) K m r s) answer.rows) one is.beside
 
-  in_order : AllPairs Behind answer.rows
+  in_order : AllPairs After answer.rows
   in_order i j d il jl = (is.cells i j d il jl, apart i j d il jl)
 
-  strict : (r s : Row) → Contains answer.rows r → Contains answer.rows s → Behind r s → Behind s r → ⊥
+  strict : (r s : Row) → Contains answer.rows r → Contains answer.rows s → After r s → After s r → ⊥
   strict r s c d p o =
       let e : row_cell_cmp r s ≡ Equal = neither (row_cell_cmp r s) (row_cell_cmp s r) (rows_total.antisymm r s) p.0 o.0 in
       let f : row_cell_cmp s r ≡ Equal = neither (row_cell_cmp s r) (row_cell_cmp r s) (rows_total.antisymm s r) o.0 p.0 in
@@ -335,7 +335,7 @@ module _ {called : Identifier} (K : ℕ) (db : List Relation) (q : Question) (on
       let s : Row = h.0 in
       let iv : IsInRow s v = h.2 in
       let same : s.values ≡ r.values = same_values K s.values r.values v (row_is s h.1).period (row_is r c).period iv.values of in
-      elim (either Behind answer.rows r s in_order c h.1) [
+      elim (either After answer.rows r s in_order c h.1) [
         | inl k ↦ subst (λ z. IsInRow z v) (sym k) iv
         | inr k ↦ elim k [
           | inl p ↦ (let l : (x +ℤ pos K) <ℤ y = far r s u v x y e f (p.1 (one_cell r s same)) iu iv in absurd (omega (arith, ints, l, yx)))
@@ -445,7 +445,7 @@ module _ {called : Identifier} (K : ℕ) (db other_db : List Relation) (q other 
     (same : (t : List Datum) → IsAnswer db q t ↔ IsAnswer other_db other t) where
   same_relation : (answer second : Relation) → IsAnswerRelation called K db q answer → IsAnswerRelation called K other_db other second → answer ≡ second
   same_relation answer second is also =
-      let rows : answer.rows ≡ second.rows = same_list (Behind K db q one answer is) answer.rows second.rows (strict K db q one answer is) (in_order K db q one answer is) (in_order K other_db other (other_one q other heads one) second also)
+      let rows : answer.rows ≡ second.rows = same_list (After K db q one answer is) answer.rows second.rows (strict K db q one answer is) (in_order K db q one answer is) (in_order K other_db other (other_one q other heads one) second also)
       (row_there K db other_db q other one (other_one q other heads one) (λ t. (same t).0) (λ t. (same t).1) answer second is also)
       (row_there K other_db db other q (other_one q other heads one) one (λ t. (same t).1) (λ t. (same t).0) second answer also is) in
       made (is.name ∙ sym also.name) (is.columns ∙ heads ∙ sym also.columns) rows

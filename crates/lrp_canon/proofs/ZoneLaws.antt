@@ -376,15 +376,15 @@ module _ (s : StoreView) (h : IsCanonical s) (room : HasRoom s) where
       })
 
   -- a cell has a zone without a beginning, or all its numbers are after some number
-  abbrev IsBehind : List ZoneView → ℤ → Type 0
-  IsBehind zs l = (z : ZoneView) → Contains zs z → (x : ℤ) → IsMember z (x ∷ []) → l ≤ℤ x
+  abbrev LiesAfter : List ZoneView → ℤ → Type 0
+  LiesAfter zs l = (z : ZoneView) → Contains zs z → (x : ℤ) → IsMember z (x ∷ []) → l ≤ℤ x
 
-  some_endless : (zs : List ZoneView) → ((z : ZoneView) → Contains zs z → IsZone z × (columns_of z ≡ 1)) → ((z : ZoneView) × Contains zs z × (begin_of z ≡ None)) ⊎ ((l : ℤ) × IsBehind zs l)
+  some_endless : (zs : List ZoneView) → ((z : ZoneView) → Contains zs z → IsZone z × (columns_of z ≡ 1)) → ((z : ZoneView) × Contains zs z × (begin_of z ≡ None)) ⊎ ((l : ℤ) × LiesAfter zs l)
   some_endless [] each = inr (pos 0, λ z c. absurd (in_none z c))
   some_endless (z ∷ zs) each = add_zone z zs (each z (head_in z zs)) (begin_of z) refl (some_endless zs (λ w c. each w (later z zs w c)))
     where
-      add_zone : (z : ZoneView) (zs : List ZoneView) → IsZone z × (columns_of z ≡ 1) → (e : Option ℤ) → begin_of z ≡ e → ((w : ZoneView) × Contains zs w × (begin_of w ≡ None)) ⊎ ((l : ℤ) × IsBehind zs l)
-          → ((w : ZoneView) × Contains (z ∷ zs) w × (begin_of w ≡ None)) ⊎ ((l : ℤ) × IsBehind (z ∷ zs) l)
+      add_zone : (z : ZoneView) (zs : List ZoneView) → IsZone z × (columns_of z ≡ 1) → (e : Option ℤ) → begin_of z ≡ e → ((w : ZoneView) × Contains zs w × (begin_of w ≡ None)) ⊎ ((l : ℤ) × LiesAfter zs l)
+          → ((w : ZoneView) × Contains (z ∷ zs) w × (begin_of w ≡ None)) ⊎ ((l : ℤ) × LiesAfter (z ∷ zs) l)
       add_zone z zs valid None e rest = inl (z, head_in z zs, e)
       add_zone z zs valid (Some a) e (inl w) = inl (w.0, later z zs w.0 w.1, w.2)
       add_zone z zs valid (Some a) e (inr w) = inr (

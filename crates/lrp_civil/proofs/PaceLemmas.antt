@@ -13,7 +13,7 @@ use Rattle.std.proofs.lemmas.Fmt.{IsAscii-from_digits, decimal-digits_value, dec
 use Rattle.std.proofs.lemmas.Str.{IsUtf8-from_ascii}
 use Rattle.std.proofs.lemmas.Str.Parse.{IsNumeralModel, numerals_by_value, parse_digits}
 use Rattle.std.proofs.Math.Seq.{drop-append_seam}
-use Rattle.lrp_model.specs.Lexing.{behind_run, run}
+use Rattle.lrp_model.specs.Lexing.{after_run, run}
 use Rattle.lrp_text.proofs.Runs.{run_taken, run_whole}
 use Rattle.lrp_print.proofs.Scanned.{Stops, decimal_number, run_over}
 use Rattle.lrp_civil.specs.declared.values.Pace.{Pace}
@@ -31,12 +31,12 @@ stops [] e = tt
 stops (b ∷ bs) e = e
 
 -- after a run of digits no number goes on
-by_digit : (b : ℕ) (bs : List ℕ) (d : Bool) → is_ascii_digit b ≡ d → goes_on (behind_run is_ascii_digit bs) ≡ false → goes_on (if d then behind_run is_ascii_digit bs else b ∷ bs) ≡ false
+by_digit : (b : ℕ) (bs : List ℕ) (d : Bool) → is_ascii_digit b ≡ d → goes_on (after_run is_ascii_digit bs) ≡ false → goes_on (if d then after_run is_ascii_digit bs else b ∷ bs) ≡ false
 by_digit b bs true e rest = rest
 by_digit b bs false e rest = e
 
-pub run_ends : (bytes : List ℕ) → goes_on (behind_run is_ascii_digit bytes) ≡ false
-unfolding behind_run
+pub run_ends : (bytes : List ℕ) → goes_on (after_run is_ascii_digit bytes) ≡ false
+unfolding after_run
 run_ends [] = refl
 run_ends (b ∷ bs) = by_digit b bs (is_ascii_digit b) refl (run_ends bs)
 
@@ -51,7 +51,7 @@ run_digits [] = refl
 run_digits (b ∷ bs) = by_all b bs (is_ascii_digit b) refl (run_digits bs)
 
 -- the bytes before those after the digits
-pub digits_are : (bytes after : List ℕ) → after ≡ behind_run is_ascii_digit bytes → take (length bytes - length after) bytes ≡ run is_ascii_digit bytes
+pub digits_are : (bytes after : List ℕ) → after ≡ after_run is_ascii_digit bytes → take (length bytes - length after) bytes ≡ run is_ascii_digit bytes
 digits_are bytes after e = ap (λ x. take (length bytes - length x) bytes) e ∙ run_taken is_ascii_digit bytes
 
 -- ---- a number at the front
@@ -59,14 +59,14 @@ digits_are bytes after e = ap (λ x. take (length bytes - length x) bytes) e ∙
 -- what is known of bytes that a number begins
 pub record IsRunOf (bytes : List ℕ) (n : ℕ) (after : List ℕ) : Type 0 where
   pub digits : run is_ascii_digit bytes ≡ decimal n
-  pub left : behind_run is_ascii_digit bytes ≡ after
+  pub left : after_run is_ascii_digit bytes ≡ after
 
 pub number_run : (bytes : List ℕ) (n : ℕ) (after : List ℕ) → n < 2 ^ 64 → bytes ≡ decimal n ++ after → goes_on after ≡ false → IsRunOf bytes n after
 number_run bytes n after small whole ends =
     let k = decimal_number n small in
     let one : run is_ascii_digit (decimal n) ≡ decimal n = ap (run is_ascii_digit) k.is ∙ k.whole ∙ sym k.is in
     let both = run_over is_ascii_digit (decimal n) after one (stops after ends) in
-    record { digits = ap (run is_ascii_digit) whole ∙ both.0; left = ap (behind_run is_ascii_digit) whole ∙ both.1 }
+    record { digits = ap (run is_ascii_digit) whole ∙ both.0; left = ap (after_run is_ascii_digit) whole ∙ both.1 }
 
 pub number_unique : (bytes : List ℕ) (n m : ℕ) (x y : List ℕ) → n < 2 ^ 64 → m < 2 ^ 64 → bytes ≡ decimal n ++ x → goes_on x ≡ false → bytes ≡ decimal m ++ y → goes_on y ≡ false → (n ≡ m) × (x ≡ y)
 number_unique bytes n m x y small low e f g h =
@@ -81,7 +81,7 @@ number_value n small = (decimal_is_IsNumeral n small).1
 numerals : IsNumeralModel (λ ds. list_all is_ascii_digit ds ≡ true) (digits_value 10)
 numerals = numerals_by_value (λ ds. list_all is_ascii_digit ds ≡ true) (search rules)
 
-pub number_found : (bytes digits after : List ℕ) (n : ℕ) → digits ≡ run is_ascii_digit bytes → after ≡ behind_run is_ascii_digit bytes → 0 < length digits → (get_or digits 0 0 ≡ 48 → ⊥) → n ≡ digits_value 10 digits → n < 2 ^ 64 → IsNumberAt bytes n after
+pub number_found : (bytes digits after : List ℕ) (n : ℕ) → digits ≡ run is_ascii_digit bytes → after ≡ after_run is_ascii_digit bytes → 0 < length digits → (get_or digits 0 0 ≡ 48 → ⊥) → n ≡ digits_value 10 digits → n < 2 ^ 64 → IsNumberAt bytes n after
 number_found bytes digits after n d b some first value small =
     let all : list_all is_ascii_digit digits ≡ true = ap (list_all is_ascii_digit) d ∙ run_digits bytes in
     let is : decimal n ≡ digits = ap decimal value ∙ decimal-digits_value numerals digits all some (λ z. absurd (first z)) (subst (λ x. x < 2 ^ 64) value small) in
@@ -89,7 +89,7 @@ number_found bytes digits after n d b some first value small =
     record {
       positive = positive_of n zero_is;
       small = small;
-      whole = sym (run_whole is_ascii_digit bytes) ∙ ap (λ ds. ds ++ behind_run is_ascii_digit bytes) (sym d ∙ sym is) ∙ ap (λ x. decimal n ++ x) (sym b);
+      whole = sym (run_whole is_ascii_digit bytes) ∙ ap (λ ds. ds ++ after_run is_ascii_digit bytes) (sym d ∙ sym is) ∙ ap (λ x. decimal n ++ x) (sym b);
       ends = ap goes_on b ∙ run_ends bytes;
     }
   where

@@ -7,7 +7,7 @@ use Rattle.lrp_model.specs.declared.tokens.Place.{Place}
 use Rattle.lrp_model.specs.Tokens.{Token}
 use Rattle.lrp_model.specs.Tokens.Token.{number_token}
 use Rattle.std.specs.Str.Parse.{digits_value}
-use Rattle.lrp_model.specs.Lexing.{QuotedText, Scanned, behind_run, is_blank, is_letter, is_name_byte, moved, run, skip, start, symbol_in, text_from, text_scanned, word_or_name, scan_in}
+use Rattle.lrp_model.specs.Lexing.{QuotedText, Scanned, after_run, is_blank, is_letter, is_name_byte, moved, run, skip, start, symbol_in, text_from, text_scanned, word_or_name, scan_in}
 use Rattle.std.specs.Char.{is_ascii_digit}
 use Rattle.lrp_text.proofs.Scans.{chosen}
 use Rattle.lrp_civil.specs.Tokens.{IsAfterSymbol, IsAfterToken, after_quoted, is_last}
@@ -53,11 +53,11 @@ word_goes n =
     chosen P (bytes_eq n (codes "in")) _ _ (λ e. refl) (λ n12. refl))))))))))))
 
 -- what is scanned, by the first byte
-scan_name : (wide : Bool) (b : ℕ) (bytes : List ℕ) → is_letter b ≡ true → scan_in wide (b ∷ bytes) ≡ record { token = word_or_name (run is_name_byte (b ∷ bytes)); taken = run is_name_byte (b ∷ bytes); left = behind_run is_name_byte (b ∷ bytes) }
+scan_name : (wide : Bool) (b : ℕ) (bytes : List ℕ) → is_letter b ≡ true → scan_in wide (b ∷ bytes) ≡ record { token = word_or_name (run is_name_byte (b ∷ bytes)); taken = run is_name_byte (b ∷ bytes); left = after_run is_name_byte (b ∷ bytes) }
 unfolding scan_in
 scan_name wide b bytes e = rw e refl
 
-scan_number : (wide : Bool) (b : ℕ) (bytes : List ℕ) → is_letter b ≡ false → is_ascii_digit b ≡ true → scan_in wide (b ∷ bytes) ≡ record { token = number_token (digits_value 10 (run is_ascii_digit (b ∷ bytes))); taken = run is_ascii_digit (b ∷ bytes); left = behind_run is_ascii_digit (b ∷ bytes) }
+scan_number : (wide : Bool) (b : ℕ) (bytes : List ℕ) → is_letter b ≡ false → is_ascii_digit b ≡ true → scan_in wide (b ∷ bytes) ≡ record { token = number_token (digits_value 10 (run is_ascii_digit (b ∷ bytes))); taken = run is_ascii_digit (b ∷ bytes); left = after_run is_ascii_digit (b ∷ bytes) }
 unfolding scan_in
 scan_number wide b bytes e f = rw (e, f) refl
 
@@ -69,13 +69,13 @@ scan_symbol : (wide : Bool) (b : ℕ) (bytes : List ℕ) → is_letter b ≡ fal
 unfolding scan_in
 scan_symbol wide b bytes e f g = rw (e, f, g) refl
 
-pub name_after : (wide : Bool) (bytes after : List ℕ) → 1 ≤ length bytes → is_letter (get_or bytes 0 0) ≡ true → after ≡ behind_run is_name_byte bytes → IsAfterToken wide bytes after
+pub name_after : (wide : Bool) (bytes after : List ℕ) → 1 ≤ length bytes → is_letter (get_or bytes 0 0) ≡ true → after ≡ after_run is_name_byte bytes → IsAfterToken wide bytes after
 name_after wide [] after h e f = absurd (omega arith)
 name_after wide (b ∷ bytes) after h e f =
     let s = scan_name wide b bytes e in
     record { goes_on = ap (λ x. is_last x.token) s ∙ word_goes (run is_name_byte (b ∷ bytes)); left = ap (λ x. x.left) s ∙ sym f }
 
-pub number_after : (wide : Bool) (bytes after : List ℕ) → 1 ≤ length bytes → is_letter (get_or bytes 0 0) ≡ false → is_ascii_digit (get_or bytes 0 0) ≡ true → after ≡ behind_run is_ascii_digit bytes → IsAfterToken wide bytes after
+pub number_after : (wide : Bool) (bytes after : List ℕ) → 1 ≤ length bytes → is_letter (get_or bytes 0 0) ≡ false → is_ascii_digit (get_or bytes 0 0) ≡ true → after ≡ after_run is_ascii_digit bytes → IsAfterToken wide bytes after
 number_after wide [] after h e f g = absurd (omega arith)
 number_after wide (b ∷ bytes) after h e f g =
     let s = scan_number wide b bytes e f in

@@ -1,7 +1,7 @@
 // Where tokens begin and end. Their places, which the lexer counts at each byte, are not needed here.
 ghost use Rattle.std.specs.Prelude.{◌≡◌, ◌≤◌, ◌<◌, IfSome, length, false};
 ghost use Rattle.std.specs.Option.{option_map};
-ghost use Rattle.lrp_model.specs.Lexing.{behind_run, is_blank as is_blank_byte, is_forbidden as is_forbidden_byte, is_letter as is_letter_byte, is_name_byte as is_byte_of_names, text_from};
+ghost use Rattle.lrp_model.specs.Lexing.{after_run, is_blank as is_blank_byte, is_forbidden as is_forbidden_byte, is_letter as is_letter_byte, is_name_byte as is_byte_of_names, text_from};
 ghost use Rattle.std.specs.Char.{is_ascii_digit};
 ghost use Rattle.lrp_civil.specs.Tokens.{FindsCharacter, FindsSymbol, FindsToken, after_blanks as after_blanks_of, after_equals as after_equals_of, after_quoted as after_text_of};
 
@@ -51,9 +51,9 @@ pub fn after_blanks(bytes: &[u8]) -> &[u8]
 }
 
 // What stands after the letters, digits and underscores that come first.
-#[tactic(auto, unfolding(lrp_model::specs::Lexing::behind_run))]
+#[tactic(auto, unfolding(lrp_model::specs::Lexing::after_run))]
 fn after_name(bytes: &[u8]) -> &[u8]
-    ensures { result.now ≡ behind_run is_byte_of_names bytes.now }
+    ensures { result.now ≡ after_run is_byte_of_names bytes.now }
 {
     let mut rest = bytes;
     while let [b, tail @ ..] = rest {
@@ -66,9 +66,9 @@ fn after_name(bytes: &[u8]) -> &[u8]
 }
 
 /// What stands after the digits that come first.
-#[tactic(auto, unfolding(lrp_model::specs::Lexing::behind_run))]
+#[tactic(auto, unfolding(lrp_model::specs::Lexing::after_run))]
 pub fn after_digits(bytes: &[u8]) -> &[u8]
-    ensures { result.now ≡ behind_run is_ascii_digit bytes.now }
+    ensures { result.now ≡ after_run is_ascii_digit bytes.now }
 {
     let mut rest = bytes;
     while let [b, tail @ ..] = rest {

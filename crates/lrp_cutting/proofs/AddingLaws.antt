@@ -45,8 +45,8 @@ one_added cell zones more z start old new same h e shape period = record {
 }
 
 -- one zone after those before
-added_behind : (cell : Cell) (zones : List ZoneView) (z : ZoneView) (start old new : StoreView) → AddsZones cell zones start old → AddsZones cell (z ∷ []) old new → AddsZones cell (zones ++ z ∷ []) start new
-added_behind cell zones z start old new a b = record {
+added_after : (cell : Cell) (zones : List ZoneView) (z : ZoneView) (start old new : StoreView) → AddsZones cell zones start old → AddsZones cell (z ∷ []) old new → AddsZones cell (zones ++ z ∷ []) start new
+added_after cell zones z start old new a b = record {
   shape = b.shape ∙ a.shape;
   period = b.period ∙ a.period;
   here = b.here ∙ ap (λ l. l ++ z.bounds ∷ []) a.here ∙ append_one (tables_at start cell) (map (λ z. z.bounds) zones) z.bounds ∙ ap (λ l. tables_at start cell ++ l) (sym (map_one zones z));
@@ -82,14 +82,14 @@ module _ (cell : Cell) (z : ZoneView) (vs : List Interval) (old mid : StoreView)
     pub adding_apart : LiesApart z.period last next → ((u : Interval) → Contains vs u → BeginsBy u next) → IsInterval z next → AreAdding cell z (vs ++ next ∷ []) old new next
     adding_apart apart begins i = record {
       zones = a.zones ++ b.span ∷ [];
-      adds = added_behind cell a.zones b.span old mid new a.adds b.adds;
+      adds = added_after cell a.zones b.span old mid new a.adds b.adds;
       merging = merging_apart z vs a.zones last next a.merging b.span b.is apart begins i;
     }
 
 pub adding_ends : (cell : Cell) (z : ZoneView) (vs : List Interval) (old mid new : StoreView) (last : Interval) → AreAdding cell z vs old mid last → AddsSpan cell z last mid new → AddsMerged cell z vs old new
 adding_ends cell z vs old mid new last a b = record {
   zones = a.zones ++ b.span ∷ [];
-  adds = added_behind cell a.zones b.span old mid new a.adds b.adds;
+  adds = added_after cell a.zones b.span old mid new a.adds b.adds;
   merged = merging_end z vs a.zones last last a.merging b.span b.is;
 }
 

@@ -99,8 +99,8 @@ cells_push z zs w a c = record {
 }
 
 -- what stands after the first element of a list, as in the whole list
-pub behind_first : {X : Type 0} (all : List X) (x : X) (xs : List X) (i : ℕ) (y : X) → all ≡ x ∷ xs → i < length xs → y ≡ get_or xs i y → take (i + 1 + 1) all ≡ take (i + 1) all ++ y ∷ []
-behind_first all x xs i y e l q =
+pub after_first : {X : Type 0} (all : List X) (x : X) (xs : List X) (i : ℕ) (y : X) → all ≡ x ∷ xs → i < length xs → y ≡ get_or xs i y → take (i + 1 + 1) all ≡ take (i + 1) all ++ y ∷ []
+after_first all x xs i y e l q =
     let on : i + 1 ≡ suc i = omega arith in
     let here : y ≡ get_or (x ∷ xs) (i + 1) y = q ∙ ap (λ n. get_or (x ∷ xs) n y) (sym on) in
     rw e (front_more (x ∷ xs) (i + 1) y (omega arith) here)

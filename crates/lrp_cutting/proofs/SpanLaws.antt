@@ -199,10 +199,10 @@ module _ (z : ZoneView) (v : Interval) (one : columns_of z ≡ 1) where
 -- ---- two intervals with no number between them
 module _ (z : ZoneView) (v w : Interval) (low : pos 1 ≤ℤ pos z.period) (vi : IsInterval z v) (begins : BeginsBy v w) (near : LiesApart z.period v w → ⊥) where
   -- what lies after the first lies after the start of the second
-  behind : (x : ℤ) (e f : Option ℤ) → v.most ≡ e → w.least ≡ f → Divides (pos z.period) (x -ℤ node z.residues 1) → (Within x e → ⊥) → Above x f
-  behind x None f q p d out = absurd (out tt)
-  behind x (Some a) None q p d out = tt
-  behind x (Some a) (Some b) q p d out =
+  after : (x : ℤ) (e f : Option ℤ) → v.most ≡ e → w.least ≡ f → Divides (pos z.period) (x -ℤ node z.residues 1) → (Within x e → ⊥) → Above x f
+  after x None f q p d out = absurd (out tt)
+  after x (Some a) None q p d out = tt
+  after x (Some a) (Some b) q p d out =
       let da : Divides (pos z.period) (a -ℤ node z.residues 1) = (subst (λ o. IsIntervalEnd z o) q vi.most).0 in
       let lt : a <ℤ x = by_lt_z a x (λ l. l) (λ le. absurd (out le)) in
       let far : (a +ℤ pos z.period) ≤ℤ x = next_number (pos z.period) (node z.residues 1) a x low da d lt in
@@ -220,7 +220,7 @@ module _ (z : ZoneView) (v w : Interval) (low : pos 1 ≤ℤ pos z.period) (vi :
     begins = least;
     to = λ x n. elim (decided_within x v.most) [
       | inl h ↦ inl (record { residue = n.residue; low = subst (λ e. Above x e) least n.low; high = h })
-      | inr out ↦ inr (record { residue = n.residue; low = behind x v.most w.least refl refl n.residue out; high = (elim wide.one [ inl e ↦ absurd (out (subst (λ o. Within x o) e n.high)) | inr e ↦ subst (λ o. Within x o) e n.high ]) })
+      | inr out ↦ inr (record { residue = n.residue; low = after x v.most w.least refl refl n.residue out; high = (elim wide.one [ inl e ↦ absurd (out (subst (λ o. Within x o) e n.high)) | inr e ↦ subst (λ o. Within x o) e n.high ]) })
     ];
     from = from;
     small = λ h a b. record { least = subst (λ e. AtMost h e) (sym least) a.least; most = (elim wide.one [ inl e ↦ subst (λ o. AtMost h o) (sym e) a.most | inr e ↦ subst (λ o. AtMost h o) (sym e) b.most ]) };

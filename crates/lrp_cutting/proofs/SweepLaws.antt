@@ -274,9 +274,9 @@ taken_in cuts n u l =
     let short : l.0 < length (take n cuts) = l.1 in
     (l.0, omega (arith, length-take n cuts), sym (get_or-take n cuts l.0 u (omega (arith, length-take n cuts))) ∙ l.2)
 
-pub taken_or_behind : (cuts : List Interval) (n : ℕ) → AllPairs BeginsBy cuts → (u : Interval) → Contains cuts u → Contains (take n cuts) u ⊎ ((d : Interval) → Contains (take n cuts) d → BeginsBy d u)
+pub taken_or_after : (cuts : List Interval) (n : ℕ) → AllPairs BeginsBy cuts → (u : Interval) → Contains cuts u → Contains (take n cuts) u ⊎ ((d : Interval) → Contains (take n cuts) d → BeginsBy d u)
 unfolding taken_in
-taken_or_behind cuts n order u l =
+taken_or_after cuts n order u l =
     let long : l.0 < length cuts = l.1 in
     elim (below_or l.0 n) [
       | inl lt ↦ inl (l.0, omega (arith, length-take n cuts), get_or-take n cuts l.0 u lt ∙ l.2)
@@ -296,7 +296,7 @@ all_swept z v cuts i order lt made rest d m ci begins low lp new a part ap e =
     let more : take (i + 1) cuts ≡ take i cuts ++ get_or cuts i d ∷ [] = take_more cuts i d lt in
     sweeping_over z v (take i cuts) made rest (get_or cuts i d) m ci begins low lp new a part ap e cuts
     (λ u l. taken_in cuts (i + 1) u (subst (λ xs. Contains xs u) (sym more) l))
-    (λ u l. subst (λ xs. Contains xs u ⊎ ((d : Interval) → Contains xs d → BeginsBy d u)) more (taken_or_behind cuts (i + 1) order u l))
+    (λ u l. subst (λ xs. Contains xs u ⊎ ((d : Interval) → Contains xs d → BeginsBy d u)) more (taken_or_after cuts (i + 1) order u l))
 
 -- ---- what is left of a zone
 -- numbers that lie alike for the cutters are on the same side of each end of their intervals

@@ -11,7 +11,7 @@ use Rattle.lrp_model.specs.Databases.{name_part, row_text}
 use Rattle.lrp_model.specs.DatabaseMeaning.{row_of}
 use Rattle.lrp_model.specs.declared.relations.Column.{Column}
 use Rattle.lrp_model.specs.declared.relations.Relation.{Relation}
-use Rattle.lrp_text.proofs.NameTokens.{all_front, all_behind, all_tail}
+use Rattle.lrp_text.proofs.NameTokens.{all_front, all_after, all_tail}
 use Rattle.lrp_model.specs.Kept.{IsRowOf}
 use Rattle.lrp_edits.specs.declared.edits.Edit.{Edit}
 use Rattle.lrp_edits.specs.declared.edits.RawEdit.{RawEdit}
@@ -33,8 +33,8 @@ all_texted (e ∷ tree) h =
     let rest = flat_map edit_text tree in
     let row = located_text row_text e.row in
     let first : AllByRecursion TextPart (edit_text e) = all_front TextPart (edit_text e) rest h in
-    let behind = all_tail TextPart (name_part e.relation) row (all_tail TextPart (change_part e.add) (name_part e.relation ∷ row) first) in
-    (row_texted e.row behind, all_texted tree (all_behind TextPart (edit_text e) rest h))
+    let after = all_tail TextPart (name_part e.relation) row (all_tail TextPart (change_part e.add) (name_part e.relation ∷ row) first) in
+    (row_texted e.row after, all_texted tree (all_after TextPart (edit_text e) rest h))
 
 -- the texts in edits that bytes of UTF-8 spell
 edits_texted : (bytes : List ℕ) (tree : List RawEdit) → IsUtf8 bytes → Spells (edits_text tree) (tokens bytes) → AllByRecursion (λ e. RowHasTexts e.row) tree

@@ -15,7 +15,7 @@ use crate::reading::read_edits_to_end;
 use lrp_database::Database;
 use lrp_model::{DbFault, DbKind, List};
 use lrp_rel::{ReadFault, refusal};
-use lrp_text::{TokenCursor, place_behind};
+use lrp_text::{TokenCursor, place_after};
 use std::alloc::Global;
 use std::str::from_utf8;
 
@@ -43,7 +43,7 @@ fn read_bytes(alloc: Global, bytes: &[u8], database: &Database) -> Result<Edits,
         Ok(text) => read_text(alloc, text, database),
         Err(error) => {
             let kind = DbKind::Utf8;
-            let place = place_behind(&bytes[..error.valid_up_to()]);
+            let place = place_after(&bytes[..error.valid_up_to()]);
             Err(ReadFault::Fault {
                 fault: DbFault { kind, place },
             })

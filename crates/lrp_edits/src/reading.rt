@@ -1,6 +1,6 @@
 // Edits, read from the tokens of a text: a written row is dropped as soon as what it means is kept.
 ghost use Rattle.std.specs.Prelude.{◌<◌, ℕ, length, IfOk, []};
-ghost use Rattle.lrp_text.specs.Parsers.{Reads, left_behind, until_from};
+ghost use Rattle.lrp_text.specs.Parsers.{Reads, left_after, until_from};
 ghost use Rattle.lrp_text.specs.Taking.{is_end};
 ghost use Rattle.lrp_rel.specs.Gathered.{ReadsInto};
 ghost use Rattle.lrp_edits.specs.EditTexts.{FitsEdit};
@@ -72,7 +72,7 @@ pub fn read_edits_to_end(
     requires { AreHeadings database.now headings.now }
     ensures { (n : ℕ) → length tokens.old < n
         → ReadsInto (AreEditsOf database.now) (edits n tokens.old) result
-        (left_behind result tokens.new) }
+        (left_after result tokens.new) }
 {
     let kept = read_all(alloc, database, headings, tokens)?;
     tokens.expect_end()?;

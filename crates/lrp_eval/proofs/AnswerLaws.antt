@@ -20,7 +20,7 @@ use Rattle.lrp_store.specs.Tables.{StoreHolds}
 use Rattle.lrp_tables.specs.declared.table.Table.{Table}
 use Rattle.lrp_tables.specs.Columns.{head_times, head_texts}
 use Rattle.lrp_tables.specs.Caps.{InhabitsMoreThan}
-use Rattle.lrp_tables.specs.Tables.{Has}
+use Rattle.lrp_tables.specs.Tables.{HasAssignment}
 use Rattle.lrp_tables.proofs.Numbers.{texts_known, all_mapped}
 use Rattle.lrp_plan_laws.specs.Settled.{IsSoundPlan}
 use Rattle.lrp_eval.specs.Planned.{IsPlanOf, HasAnswers}
@@ -75,7 +75,7 @@ module _ (planned : Steps) (db : List Relation) (q : Question) (p : Plan) (h : I
   ordered : (table.vars.times ≡ head_times q.head) × (table.vars.texts ≡ head_texts q.head)
   ordered = r.run.order last (length planned - 1) at_last (last_step sound_plan).1.kind
 
-  is_table : (tuple : List Datum) → HasShape q.head tuple → Has table (constants db q) (assignment q.head tuple) ↔ StoreHolds (constants db q) table.store (times_of tuple) (texts_of tuple)
+  is_table : (tuple : List Datum) → HasShape q.head tuple → HasAssignment table (constants db q) (assignment q.head tuple) ↔ StoreHolds (constants db q) table.store (times_of tuple) (texts_of tuple)
   is_table tuple k =
       let a : map (assignment q.head tuple).times table.vars.times ≡ times_of tuple = ap (map (assignment q.head tuple).times) ordered.0 ∙ tuple_times q.head tuple _ h.settled.names k in
       let b : map (assignment q.head tuple).texts table.vars.texts ≡ texts_of tuple = ap (map (assignment q.head tuple).texts) ordered.1 ∙ tuple_texts q.head tuple _ h.settled.names k in (
@@ -92,22 +92,22 @@ module _ (planned : Steps) (db : List Relation) (q : Question) (p : Plan) (h : I
   holds : (tuple : List Datum) → HasShape q.head tuple → AllByRecursion (Contains (constants db q)) (texts_of tuple) → StoreHolds (constants db q) table.store (times_of tuple) (texts_of tuple) ↔ IsAnswer db q tuple
   holds tuple k c =
       let t = is_table tuple k in
-      let m : Has table (constants db q) (assignment q.head tuple) ↔ Satisfies (formula_at planned (length planned)) (structure db q) (assignment q.head tuple) = r.run.means (assignment q.head tuple) (known tuple k c) in
+      let m : HasAssignment table (constants db q) (assignment q.head tuple) ↔ Satisfies (formula_at planned (length planned)) (structure db q) (assignment q.head tuple) = r.run.means (assignment q.head tuple) (known tuple k c) in
       let a : Satisfies (formula_at planned (length planned)) (structure db q) (assignment q.head tuple) ↔ IsAnswer db q tuple = sound_plan.answers tuple k c in
       ((λ x. a.0 (m.0 (t.1 x))), λ x. t.0 (m.1 (a.1 x)))
 
   -- the last step has more cells than a number exactly where the last table's set inhabits more
-  many_last : (count : ℕ) → InhabitsMoreThan count (constants db q) last.period table.vars.times table.vars.texts (Has table (constants db q)) ↔ ManyAt planned db q count (length planned)
-  many_last count = many_at planned db q (variables_of table) (Has table (constants db q)) last (length planned) count at_last
+  many_last : (count : ℕ) → InhabitsMoreThan count (constants db q) last.period table.vars.times table.vars.texts (HasAssignment table (constants db q)) ↔ ManyAt planned db q count (length planned)
+  many_last count = many_at planned db q (variables_of table) (HasAssignment table (constants db q)) last (length planned) count at_last
       (subst (λ vs. SameVariables (variables_of table) vs) (ap (λ o. unwrap_or (option_map (step_variables q.head) o) []) at_last) r.run.variables)
-      (λ env c. subst (λ f. Has table (constants db q) env ↔ Satisfies f (structure db q) env) (ap (λ o. unwrap_or (option_map (λ step. step.formula) o) (conjunction no_forms)) at_last) (r.run.means env c))
+      (λ env c. subst (λ f. HasAssignment table (constants db q) env ↔ Satisfies f (structure db q) env) (ap (λ o. unwrap_or (option_map (λ step. step.formula) o) (conjunction no_forms)) at_last) (r.run.means env c))
 
   -- so it has as many cells as the last table
   cells_are : IsStore table.store → HasCells planned db q (length planned) (finite.len table.store.tables)
   cells_are is count =
       let period : table.store.period ≡ last.period = r.run.period ∙ ap (λ o. unwrap_or (option_map (λ step. step.period) o) 1) at_last in
       let many = many_last count in
-      let held = subst (λ k. InhabitsMoreThan count (constants db q) k table.vars.times table.vars.texts (Has table (constants db q)) ↔ (count < finite.len table.store.tables)) period
+      let held = subst (λ k. InhabitsMoreThan count (constants db q) k table.vars.times table.vars.texts (HasAssignment table (constants db q)) ↔ (count < finite.len table.store.tables)) period
       (table_cells (constants db q) (in_order_ascends (map (λ entry. entry.1) (all_texts db q))) table is r.run.numbered count) in
       ((λ m. held.0 (many.1 m)), λ l. many.0 (held.1 l))
 

@@ -13,7 +13,7 @@ use Rattle.lrp_store.specs.Tables.{AreNumbered}
 use Rattle.lrp_tables.specs.declared.table.Table.{Table}
 use Rattle.lrp_store.proofs.Counted.{held_inhabited, first_of, key_held, not_many}
 use Rattle.lrp_tables.specs.Caps.{InhabitsMoreThan}
-use Rattle.lrp_tables.specs.Tables.{Has}
+use Rattle.lrp_tables.specs.Tables.{HasAssignment}
 use Rattle.lrp_tables.proofs.CellsNamed.{many_named, many_placed}
 use Rattle.lrp_tables.proofs.Named.{pairs_left, pairs_right}
 use Rattle.lrp_tables.proofs.TableMade.{tuples_of}
@@ -65,12 +65,12 @@ no_fewer a b is_a is_b shape period to = elim (cases_lt (finite.len b.tables) (f
 
 -- the assignments of a table inhabit as many cells as its store holds
 pub table_cells : (domain : List Text) → Ascends domain → (table : Table) → IsStore table.store → AreNumbered domain table.store → (cap : ℕ)
-    → InhabitsMoreThan cap domain table.store.period table.vars.times table.vars.texts (Has table domain) ↔ (cap < finite.len table.store.tables)
+    → InhabitsMoreThan cap domain table.store.period table.vars.times table.vars.texts (HasAssignment table domain) ↔ (cap < finite.len table.store.tables)
 table_cells domain ascends table is numbered cap =
     let held = held_cells table.store is cap in
     let times_differ : AllPairs ◌≢◌ table.vars.times = pairs_left ◌≢◌ table.vars.times table.vars.texts table.names_differ in
     let texts_differ : AllPairs ◌≢◌ table.vars.texts = pairs_right ◌≢◌ table.vars.times table.vars.texts table.names_differ in
     let are = tuples_of domain table is numbered in (
-      (λ m. held.0 (many_placed domain ascends table.vars.times table.vars.texts times_differ texts_differ table.store.period is.period_low table.store.shape (sym table.times_named) (sym table.texts_named) is.times is.texts (InStore table.store) (Has table domain) are cap m)),
-      λ l. many_named domain ascends table.vars.times table.vars.texts times_differ texts_differ table.store.period is.period_low table.store.shape (sym table.times_named) (sym table.texts_named) is.times is.texts (InStore table.store) (Has table domain) are cap (held.1 l),
+      (λ m. held.0 (many_placed domain ascends table.vars.times table.vars.texts times_differ texts_differ table.store.period is.period_low table.store.shape (sym table.times_named) (sym table.texts_named) is.times is.texts (InStore table.store) (HasAssignment table domain) are cap m)),
+      λ l. many_named domain ascends table.vars.times table.vars.texts times_differ texts_differ table.store.period is.period_low table.store.shape (sym table.times_named) (sym table.texts_named) is.times is.texts (InStore table.store) (HasAssignment table domain) are cap (held.1 l),
     )

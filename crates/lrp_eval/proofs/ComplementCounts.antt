@@ -21,7 +21,7 @@ use Rattle.lrp_tables.specs.declared.table.Table.{Table}
 use Rattle.lrp_store.proofs.Counted.{lies_in}
 use Rattle.lrp_tables.specs.Calls.{AreVariablesOf}
 use Rattle.lrp_tables.specs.Caps.{Inhabits, InhabitsMoreThan}
-use Rattle.lrp_tables.specs.Tables.{Has, HasTexts, IsMinus, IsComplement, IsTableOf, named_variables}
+use Rattle.lrp_tables.specs.Tables.{HasAssignment, HasTexts, IsMinus, IsComplement, IsTableOf, named_variables}
 use Rattle.lrp_tables.proofs.CellsNamed.{mapped_at}
 use Rattle.lrp_tables.proofs.Joining.{found_in, name_in, not_found_in}
 use Rattle.lrp_tables.proofs.Numbers.{all_variables, number_of, number_is, number_low}
@@ -119,7 +119,7 @@ module _ {domain : List Text} {left right outside : Table} {period : ℕ} (valid
   OfCells = Known (Inhabits domain period (named_variables left.vars.times left.vars.texts) (IsMinus domain left right))
 
   -- what the right table lacks has the cell's assignment
-  in_complement : (k : OfCells) → Has outside domain k.1.witness
+  in_complement : (k : OfCells) → HasAssignment outside domain k.1.witness
   in_complement k = is.whole k.1.witness (record { known = no_texts domain right.vars.texts k.1.witness right_plain; none = k.1.member.none })
 
   abbrev held : OfCells → Cell

@@ -32,7 +32,7 @@ use Rattle.lrp_tables.specs.declared.table.StepFault.{StepFault}
 use Rattle.lrp_tables.specs.Caps.{InhabitsMoreThan}
 use Rattle.lrp_tables.specs.Columns.{scan_times, scan_texts}
 use Rattle.lrp_tables.specs.Steps.{CanTest, IsLeafResult}
-use Rattle.lrp_tables.specs.Tables.{Has, IsScanned, IsTableOf, named_variables}
+use Rattle.lrp_tables.specs.Tables.{HasAssignment, IsScanned, IsTableOf, named_variables}
 use Rattle.lrp_periods.specs.Bounding.{HaveFewCells}
 use Rattle.lrp_periods.specs.Operations.{AreOperand, CanScanInParts, IsWholeResult}
 use Rattle.lrp_periods.specs.Parts.{AreParts, ArePartsOf, HasSome, IsPeriodPart, IsSmallPeriod, part_texts, part_times}
@@ -90,7 +90,7 @@ module _ (planned : Steps) (db : List Relation) (q : Question) (cap s : ℕ) (st
         variables = subst (λ vs. SameVariables (variables_of t) vs) (all_own planned db q cap s step at other) run.variables;
         means = λ env k.
             let m = run.means env k in
-            ((λ h. m.0 (subst (λ p. Has p (constants db q) env) (sym (one_is t h.part h.listed)) h.has)), λ x. record { part = t; listed = contains_first t []; has = m.1 x });
+            ((λ h. m.0 (subst (λ p. HasAssignment p (constants db q) env) (sym (one_is t h.part h.listed)) h.has)), λ x. record { part = t; listed = contains_first t []; has = m.1 x });
         other = λ this of e k. other of (let same : step ≡ this = cc (at, e) in ap (λ s. s.kind) same ∙ k);
       }
 
@@ -157,7 +157,7 @@ module _ (cap : ℕ) (g : Group) (planned : Steps) (q : Question) (h : IsPlanOf 
       let table : IsStepTable planned g.database.now q cap l x.table = subst (λ i. IsStepTable planned g.database.now q cap i x.table) pred (run.read (l - 1) x.table x.at (record {
         number = next_step_number g made;
         step = n.step;
-        behind = omega arith;
+        after = omega arith;
         at = n.at;
         reads = subst (λ k. Contains (operands k) (suc (l - 1))) n.kind_is (subst (λ i. Contains (operands kind) i) (sym pred) reads);
       })) in
@@ -169,7 +169,7 @@ module _ (cap : ℕ) (g : Group) (planned : Steps) (q : Question) (h : IsPlanOf 
       subst (λ ps. IsStepInParts planned g.database.now q l ps) (sym x.alone)
       (alone planned g.database.now q cap l y.0 at (no_other_head h.sound l y.0 at (omega (arith, inside, low))) x.table x.valid x.reach table)
   parts_held made run all {kind} {period} n l reads early parts (inr x) =
-      let b : length g.tables.now < l = x.behind in
+      let b : length g.tables.now < l = x.after in
       subst (λ i. IsStepInParts planned g.database.now q i parts) (let e : suc (length g.tables.now + (l - 1 - length g.tables.now)) ≡ l = omega (arith, b) in e) (all.each (l - 1 - length g.tables.now) parts x.at)
 
   -- parts of few cells show that their step has no more
@@ -251,7 +251,7 @@ whole_few cap domain period old new table can whole one =
       times_are = whole.is.times_are;
       texts_are = whole.is.texts_are;
       same = λ env. (
-        (λ h. whole.is.sound env (subst (λ p. Has p domain env) (sym (one_is table h.part h.listed)) h.has)),
+        (λ h. whole.is.sound env (subst (λ p. HasAssignment p domain env) (sym (one_is table h.part h.listed)) h.has)),
         λ x. record { part = table; listed = contains_first table []; has = whole.is.whole env x },
       );
       few = whole.few;
@@ -301,7 +301,7 @@ one_whole cap domain period parts table can is same few =
         texts_are = part.texts_are;
         period_is = (let e : table.store.period ≡ nat_abs period = ap nat_abs same in e);
         sound = λ env x. record { part = table; listed = subst (λ ps. Contains ps table) (sym is) (contains_first table []); has = x };
-        whole = λ env h. subst (λ p. Has p domain env) (sym (one_is table h.part (subst (λ ps. Contains ps h.part) is h.listed))) h.has;
+        whole = λ env h. subst (λ p. HasAssignment p domain env) (sym (one_is table h.part (subst (λ ps. Contains ps h.part) is h.listed))) h.has;
         numbered = part.numbered;
       };
       few = few;

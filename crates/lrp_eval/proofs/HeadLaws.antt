@@ -18,7 +18,7 @@ use Rattle.lrp_tables.specs.declared.table.Table.{Table}
 use Rattle.lrp_tables.specs.Caps.{Inhabits, InhabitsMoreThan}
 use Rattle.lrp_tables.specs.Columns.{head_times, head_texts}
 use Rattle.lrp_tables.specs.Steps.{CanExtend, IsExtendResult}
-use Rattle.lrp_tables.specs.Tables.{Has, HasTexts, IsTableOf, IsExtended, named_variables}
+use Rattle.lrp_tables.specs.Tables.{HasAssignment, HasTexts, IsTableOf, IsExtended, named_variables}
 use Rattle.lrp_tables.proofs.HeadNames.{head_names_differ}
 use Rattle.lrp_tables.proofs.TableLaws.{table_texts}
 use Rattle.lrp_plan_laws.specs.Scopes.{IsNarrow}
@@ -69,7 +69,7 @@ module _ {planned : Steps} {db : List Relation} {q : Question} {cap : ℕ} {doma
   head_means : (env : Assignment) → HasConstants (constants db q) names env → IsExtended (constants db q) q.head table env ↔ Satisfies n.step.formula (structure db q) env
   head_means env k =
       let own : HasConstants (constants db q) (variables_of table) env = λ v c. k v ((head_columns q.head (data_variable v)).1 (among (data_variable v) c)) in
-      let l : Has table (constants db q) env ↔ Satisfies (formula_at planned of) (structure db q) env = (denotes_of n of table before o).means env own in
+      let l : HasAssignment table (constants db q) env ↔ Satisfies (formula_at planned of) (structure db q) env = (denotes_of n of table before o).means env own in
       let t : Satisfies (formula_at planned of) (structure db q) env ↔ Satisfies n.step.formula (structure db q) env =
       subst (λ g. Satisfies (formula_at planned of) (structure db q) env ↔ Satisfies g (structure db q) env) (sym formula_is)
       (subst (λ i. Satisfies (formula_at planned i) (structure db q) env ↔ Satisfies (formula_at planned (length planned)) (structure db q) env) (sym (formula_kind n).0) ((sound_plan n).says env (λ v c. k v ((head_columns q.head (data_variable v)).1 c)))) in
@@ -106,13 +106,13 @@ module _ {planned : Steps} {db : List Relation} {q : Question} {cap : ℕ} {doma
 
     no_more : InhabitsMoreThan cap domain table.store.period (head_times q.head) (head_texts q.head) (IsExtended domain q.head table) → ⊥
     no_more m =
-        let own : Many (Differ names) (Inhabits domain table.store.period names (Has table domain)) cap =
-        many_map (λ c. c) (Differ names) (Differ names) (Inhabits domain table.store.period names (IsExtended domain q.head table)) (Inhabits domain table.store.period names (Has table domain))
+        let own : Many (Differ names) (Inhabits domain table.store.period names (HasAssignment table domain)) cap =
+        many_map (λ c. c) (Differ names) (Differ names) (Inhabits domain table.store.period names (IsExtended domain q.head table)) (Inhabits domain table.store.period names (HasAssignment table domain))
         (λ c h. record { witness = h.witness; inside = h.inside; member = h.member.has }) (λ a b h k d. d) cap m in
         let same : names ≡ variables_of table = sym (ap₂ named_variables times texts) in
-        let told : Many (Differ (variables_of table)) (Inhabits (constants db q) table.store.period (variables_of table) (Has table (constants db q))) cap =
-        subst (λ d. Many (Differ (variables_of table)) (Inhabits d table.store.period (variables_of table) (Has table d)) cap) n.domain_is
-        (subst (λ vs. Many (Differ vs) (Inhabits domain table.store.period vs (Has table domain)) cap) same own) in
+        let told : Many (Differ (variables_of table)) (Inhabits (constants db q) table.store.period (variables_of table) (HasAssignment table (constants db q))) cap =
+        subst (λ d. Many (Differ (variables_of table)) (Inhabits d table.store.period (variables_of table) (HasAssignment table d)) cap) n.domain_is
+        (subst (λ vs. Many (Differ vs) (Inhabits domain table.store.period vs (HasAssignment table domain)) cap) same own) in
         (run_of n of table before o).few (many_read n of table before o table.store.period (run_of n of table before o).period told)
 
     pub head_stands : IsStepTable planned db q cap (suc (length tables)) table

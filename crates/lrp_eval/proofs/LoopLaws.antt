@@ -20,7 +20,7 @@ use Rattle.lrp_eval.specs.declared.evaluation.EvalFault.TheVariants.{TooManyCell
 use Rattle.lrp_eval.specs.Planned.{IsPlanOf, IsEvalCause}
 use Rattle.lrp_plan_laws.specs.Made.{operands}
 use Rattle.lrp_eval.specs.Freeing.{AreLastReaders, AreLeftOrFreed, IsDone}
-use Rattle.lrp_eval.specs.Running.{IsStepTable, IsReadBehind, AreRun, IsNext, IsLastRun}
+use Rattle.lrp_eval.specs.Running.{IsStepTable, IsReadAfter, AreRun, IsNext, IsLastRun}
 use Rattle.lrp_cutting.proofs.Lists.{below_or}
 use Rattle.lrp_eval.specs.Together.{AreRunTogether, IsNarrowing, IsNarrowingNext, IsNarrowingRun, IsProjection, IsProjectionNext, IsProjectionRun}
 use Rattle.lrp_eval.specs.declared.projecting.Projection.{Projection}
@@ -81,7 +81,7 @@ module _ (planned : Steps) (db : List Relation) (q : Question) (cap : ℕ) where
         before = λ i table at reads. run.read i table at (record {
           number = suc (length tables);
           step = y.0;
-          behind = omega arith;
+          after = omega arith;
           at = subst (λ n. slice_get planned n ≡ Some y.0) (sym count) y.1;
           reads = subst (λ k. Contains (operands k) (suc i)) y.2.kind reads;
         });
@@ -94,8 +94,8 @@ module _ (planned : Steps) (db : List Relation) (q : Question) (cap : ℕ) where
       let at : (i : ℕ) (table : Table) → slice_get new i ≡ Some table → (slice_get tables i ≡ Some table) ⊎ ((i ≡ length tables) × (t ≡ table)) = λ i table e. at_push tables t table i (subst (λ l. slice_get l i ≡ Some table) same e) in
       let this : (i : ℕ) (table : Table) → (i ≡ length tables) × (t ≡ table) → IsStepTable planned db q cap (suc i) table = λ i table x. subst (λ n. IsStepTable planned db q cap (suc n) table) (sym x.0) (subst (λ u. IsStepTable planned db q cap (suc (length tables)) u) x.1 r) in
       record {
-        read = λ i table e behind. ⊎_elim
-            (λ l. run.read i table l (let h : length new < behind.number = behind.behind in record { number = behind.number; step = behind.step; behind = omega arith; at = behind.at; reads = behind.reads }))
+        read = λ i table e after. ⊎_elim
+            (λ l. run.read i table l (let h : length new < after.number = after.after in record { number = after.number; step = after.step; after = omega arith; at = after.at; reads = after.reads }))
             (λ x. this i table x) (at i table e);
         last = λ i table e whole. ⊎_elim (λ l. let lt : i < length tables = within tables i table l in absurd (omega arith)) (λ x. this i table x) (at i table e);
         few = λ s le m. few_more (length tables) s t run.few r (omega arith) m;
@@ -109,22 +109,22 @@ module _ (planned : Steps) (db : List Relation) (q : Question) (cap : ℕ) where
 
   pub none_run : (tables : List Table) → tables ≡ [] → AreRun planned db q cap tables
   none_run tables none = record {
-    read = λ i table e behind. let n : slice_get [] i ≡ Some table = subst (λ l. slice_get l i ≡ Some table) none e in cc;
+    read = λ i table e after. let n : slice_get [] i ≡ Some table = subst (λ l. slice_get l i ≡ Some table) none e in cc;
     last = λ i table e whole. let n : slice_get [] i ≡ Some table = subst (λ l. slice_get l i ≡ Some table) none e in cc;
     few = λ s le m. let zero_is : s ≡ 0 = (let z : length tables ≡ 0 = ap length none in omega arith) in subst (ManyAt planned db q cap) zero_is m;
   }
 
   -- a step that is done is read by none after
-  pub not_behind : (p : Plan) (readers : List ℕ) (count i : ℕ) → IsPlanOf planned db q p → AreLastReaders p.steps readers → IsDone readers count i → IsReadBehind planned count (suc i) → ⊥
-  not_behind p readers count i h noted d behind = by behind.number refl
+  pub not_after : (p : Plan) (readers : List ℕ) (count i : ℕ) → IsPlanOf planned db q p → AreLastReaders p.steps readers → IsDone readers count i → IsReadAfter planned count (suc i) → ⊥
+  not_after p readers count i h noted d after = by after.number refl
     where
-      by : (number : ℕ) → behind.number ≡ number → ⊥
-      by zero e = let b : count < behind.number = behind.behind in omega arith
+      by : (number : ℕ) → after.number ≡ number → ⊥
+      by zero e = let b : count < after.number = after.after in omega arith
       by (suc j) e =
-          let at : slice_get planned j ≡ Some behind.step = subst (λ n. step_at planned n ≡ Some behind.step) e behind.at in
-          let x : (step : Step) × (slice_get p.steps j ≡ Some step) × IsStep step behind.step = zip_back p.steps planned j behind.step h.is.steps at in
-          let lt : j < d.reader = noted j i d.reader x.0 (within p.steps j x.0 x.1) x.1 (subst (λ k. Contains (operands k) (suc i)) (sym x.2.kind) behind.reads) d.noted in
-          let b : count < behind.number = behind.behind in
+          let at : slice_get planned j ≡ Some after.step = subst (λ n. step_at planned n ≡ Some after.step) e after.at in
+          let x : (step : Step) × (slice_get p.steps j ≡ Some step) × IsStep step after.step = zip_back p.steps planned j after.step h.is.steps at in
+          let lt : j < d.reader = noted j i d.reader x.0 (within p.steps j x.0 x.1) x.1 (subst (λ k. Contains (operands k) (suc i)) (sym x.2.kind) after.reads) d.noted in
+          let b : count < after.number = after.after in
           let c : d.reader ≤ count = d.run in
           omega arith
 
@@ -133,7 +133,7 @@ module _ (planned : Steps) (db : List Relation) (q : Question) (cap : ℕ) where
   left_run p readers tables new h noted run left =
       let old : (i : ℕ) (table : Table) → slice_get new i ≡ Some table → (IsDone readers (length tables) i → ⊥) → slice_get tables i ≡ Some table = λ i table e keeps. ⊎_elim (λ same. sym same ∙ e) (λ d. absurd (keeps d)) (left.each i) in
       record {
-        read = λ i table e behind. run.read i table (old i table e (λ d. not_behind p readers (length tables) i h noted d (subst (λ n. IsReadBehind planned n (suc i)) left.count behind))) (subst (λ n. IsReadBehind planned n (suc i)) left.count behind);
+        read = λ i table e after. run.read i table (old i table e (λ d. not_after p readers (length tables) i h noted d (subst (λ n. IsReadAfter planned n (suc i)) left.count after))) (subst (λ n. IsReadAfter planned n (suc i)) left.count after);
         last = λ i table e whole. run.last i table (old i table e (λ d. let b : suc i < length tables = d.before in let c : length new ≡ length tables = left.count in omega arith)) (whole ∙ left.count);
         few = λ s le m. run.few s (subst (λ n. s ≤ n) left.count le) m;
       }
@@ -226,7 +226,7 @@ module _ (planned : Steps) (db : List Relation) (q : Question) (cap : ℕ) where
           subst (λ s. IsStepTable planned db q cap s table) e (run.read (n.from - 1) table at (record {
             number = suc (suc (suc (length tables)));
             step = third_here.0;
-            behind = omega arith;
+            after = omega arith;
             at = third_here.1;
             reads = subst (λ k. Contains (operands k) (suc (n.from - 1))) (sym is.third_kind ∙ third_here.2.kind) (0, omega arith, sym e);
           }));
@@ -264,10 +264,10 @@ module _ (planned : Steps) (db : List Relation) (q : Question) (cap : ℕ) where
       let all : length ((tables ++ more) ++ made ∷ []) ≡ suc (length tables + between) = (let e = more_count (tables ++ more) made (length tables + between) front in omega (arith, e)) in
       let this : (i : ℕ) (table : Table) → (i ≡ length (tables ++ more)) × (made ≡ table) → IsStepTable planned db q cap (suc i) table = λ i table x. subst (λ u. IsStepTable planned db q cap (suc i) u) x.1 (subst (λ k. IsStepTable planned db q cap (suc k) made) (sym (x.0 ∙ front)) t.run) in
       record {
-        read = λ i table e behind. ⊎_elim
+        read = λ i table e after. ⊎_elim
             (λ l. elim (below_or i (length tables)) [
-              | inl old ↦ run.read i table (sym (at_more tables more i old) ∙ l) (record { number = behind.number; step = behind.step; behind = (let b : length ((tables ++ more) ++ made ∷ []) < behind.number = behind.behind in omega (arith, all, b)); at = behind.at; reads = behind.reads })
-              | inr new ↦ absurd (not_behind planned db q cap p readers (suc (length tables + between)) i h noted (t.done i new (let lt : i < length (tables ++ more) = within (tables ++ more) i table l in omega (arith, lt, front))) (subst (λ k. IsReadBehind planned k (suc i)) all behind))
+              | inl old ↦ run.read i table (sym (at_more tables more i old) ∙ l) (record { number = after.number; step = after.step; after = (let b : length ((tables ++ more) ++ made ∷ []) < after.number = after.after in omega (arith, all, b)); at = after.at; reads = after.reads })
+              | inr new ↦ absurd (not_after planned db q cap p readers (suc (length tables + between)) i h noted (t.done i new (let lt : i < length (tables ++ more) = within (tables ++ more) i table l in omega (arith, lt, front))) (subst (λ k. IsReadAfter planned k (suc i)) all after))
             ])
             (λ x. this i table x) (at_push (tables ++ more) made table i e);
         last = λ i table e whole. ⊎_elim (λ l. let lt : i < length (tables ++ more) = within (tables ++ more) i table l in absurd (omega (arith, lt, front, all, whole))) (λ x. this i table x) (at_push (tables ++ more) made table i e);

@@ -13,7 +13,7 @@ use Rattle.lrp_store.specs.Stores.{HasReach}
 use Rattle.lrp_tables.specs.declared.table.StepFault.{StepFault}
 use Rattle.lrp_tables.specs.declared.table.Table.{Table}
 use Rattle.lrp_tables.specs.Steps.{BothReach, CanComplement, CanMinus, IsComplementResult, IsMinusResult}
-use Rattle.lrp_tables.specs.Tables.{Has, IsMinus, IsComplement}
+use Rattle.lrp_tables.specs.Tables.{HasAssignment, IsMinus, IsComplement}
 use Rattle.lrp_plan_laws.specs.Made.{AreAmong}
 use Rattle.lrp_eval.specs.Running.{variables_of, IsOperand, IsNext, IsRunResult}
 use Rattle.lrp_eval.proofs.Denotes.{Denotes, minus_keeps, complement_keeps}
@@ -49,7 +49,7 @@ module _ {planned : Steps} {db : List Relation} {q : Question} {cap : ℕ} {doma
   denotes =
       subst (Denotes (constants db q) (structure db q) (variables_of lt) (IsMinus domain lt rt)) (sym (formula_kind n))
       (subst (λ d. Denotes (constants db q) (structure db q) (variables_of lt) (IsMinus d lt rt) (conjunction (form (formula_at planned left) (form (negation (formula_at planned right)) no_forms)))) (sym n.domain_is)
-      (minus_keeps (constants db q) (structure db q) (variables_of lt) (variables_of rt) (Has lt (constants db q)) (Has rt (constants db q)) (IsMinus (constants db q) lt rt) (formula_at planned left) (formula_at planned right)
+      (minus_keeps (constants db q) (structure db q) (variables_of lt) (variables_of rt) (HasAssignment lt (constants db q)) (HasAssignment rt (constants db q)) (IsMinus (constants db q) lt rt) (formula_at planned left) (formula_at planned right)
       (denotes_of n left lt le lo) (denotes_of n right rt re ro) known (λ env. ((λ h. (h.has, h.none)), λ h. record { has = h.0; none = h.1 }))))
 
   other : (l : ℕ) → Minus left right ≡ Extend l → ⊥
@@ -82,7 +82,7 @@ module _ {planned : Steps} {db : List Relation} {q : Question} {cap : ℕ} {doma
   complement_denotes =
       subst (Denotes (constants db q) (structure db q) (variables_of table) (IsComplement domain table)) (sym (formula_kind n))
       (subst (λ d. Denotes (constants db q) (structure db q) (variables_of table) (IsComplement d table) (negation (formula_at planned of))) (sym n.domain_is)
-      (complement_keeps (constants db q) (structure db q) (variables_of table) (Has table (constants db q)) (IsComplement (constants db q) table) (formula_at planned of) (denotes_of n of table before o)
+      (complement_keeps (constants db q) (structure db q) (variables_of table) (HasAssignment table (constants db q)) (IsComplement (constants db q) table) (formula_at planned of) (denotes_of n of table before o)
       (λ env. ((λ h. (texts_are (constants db q) table.vars.times table.vars.texts env h.known, h.none)), λ h. record { known = are_texts (constants db q) table.vars.times table.vars.texts env h.0; none = h.1 }))))
 
   complement_other : (l : ℕ) → Complement of ≡ Extend l → ⊥

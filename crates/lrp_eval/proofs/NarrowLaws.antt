@@ -18,7 +18,7 @@ use Rattle.lrp_tables.specs.declared.table.Table.{Table}
 use Rattle.lrp_tables.specs.Calls.{AreVariablesOf, CanBeCarried, tests_reach}
 use Rattle.lrp_tables.specs.Columns.{joint}
 use Rattle.lrp_tables.specs.Steps.{CanJoin, CanMinus, IsJoinResult, IsMinusResult}
-use Rattle.lrp_tables.specs.Tables.{Has, IsJoined, IsMinus, IsTableOf}
+use Rattle.lrp_tables.specs.Tables.{HasAssignment, IsJoined, IsMinus, IsTableOf}
 use Rattle.lrp_tables.proofs.DropCounts.{of_others}
 use Rattle.lrp_algebra.specs.Tables.{IsTimeDropped}
 use Rattle.lrp_eval.specs.Together.{CanNarrow, IsUnbroken, IsUnbrokenTable}
@@ -58,7 +58,7 @@ module _ {domain : List Text} {of : Sides} {name : Identifier} {period : ℤ} (c
   abbrev right_table : Table
   right_table = of.right.now
 
-  pub moved : (env : Assignment) (x : ℤ) → Has from_table domain env → Has from_table domain (with_value name (time x) env)
+  pub moved : (env : Assignment) (x : ℤ) → HasAssignment from_table domain env → HasAssignment from_table domain (with_value name (time x) env)
   moved env x h = subst (λ xs. StoreHolds domain from_table.store xs (map env.texts from_table.vars.texts)) (sym (moved_times from_table.vars.times name x env can.fresh)) h
 
   -- ---- the join

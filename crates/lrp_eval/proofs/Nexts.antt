@@ -24,7 +24,7 @@ use Rattle.lrp_tables.specs.declared.table.StepFault.{StepFault}
 use Rattle.lrp_tables.specs.declared.table.Table.{Table}
 use Rattle.lrp_tables.specs.Caps.{Inhabits, InhabitsMoreThan}
 use Rattle.lrp_tables.specs.Steps.{IsStepResult}
-use Rattle.lrp_tables.specs.Tables.{Has, IsTableOf, named_variables}
+use Rattle.lrp_tables.specs.Tables.{HasAssignment, IsTableOf, named_variables}
 use Rattle.lrp_plan_laws.specs.Made.{IsMade, IsStepFormula, HasVariables, operands, head_step}
 use Rattle.lrp_plan_laws.specs.Rising.{IsRising, KeepsPeriod, period_at}
 use Rattle.lrp_plan_laws.specs.Scopes.{IsNarrow}
@@ -136,7 +136,7 @@ module _ {planned : Steps} {db : List Relation} {q : Question} {cap : ℕ} {doma
       no_other_head sound_plan l step at (omega arith) of k
 
   -- a table that is read stands for its step's formula
-  pub denotes_of : (l : ℕ) (t : Table) → IsRead l → IsOperand tables l t → Denotes (constants db q) (structure db q) (variables_of t) (Has t (constants db q)) (formula_at planned l)
+  pub denotes_of : (l : ℕ) (t : Table) → IsRead l → IsOperand tables l t → Denotes (constants db q) (structure db q) (variables_of t) (HasAssignment t (constants db q)) (formula_at planned l)
   denotes_of l t e o =
       let r : IsStepTable planned db q cap l t = run_of l t e o in
       let x : (step : PlanStep) × (step_at planned l ≡ Some step) = step_before l e in
@@ -147,15 +147,15 @@ module _ {planned : Steps} {db : List Relation} {q : Question} {cap : ℕ} {doma
 
   -- a table that is read has no more cells than its step
   pub many_read : (l : ℕ) (t : Table) → IsRead l → IsOperand tables l t → (K : ℕ) → K ≡ period_at planned l
-      → Many (Differ (variables_of t)) (Inhabits (constants db q) K (variables_of t) (Has t (constants db q))) cap → ManyAt planned db q cap l
+      → Many (Differ (variables_of t)) (Inhabits (constants db q) K (variables_of t) (HasAssignment t (constants db q))) cap → ManyAt planned db q cap l
   many_read l t e o K same m =
       let r : IsStepTable planned db q cap l t = run_of l t e o in
       let x : (step : PlanStep) × (step_at planned l ≡ Some step) = step_before l e in
       let k : K ≡ x.0.period = same ∙ ap (λ p. unwrap_or (option_map (λ step. step.period) p) 1) x.1 in
-      (many_at planned db q (variables_of t) (Has t (constants db q)) x.0 l cap x.1
+      (many_at planned db q (variables_of t) (HasAssignment t (constants db q)) x.0 l cap x.1
       (subst (λ vs. SameVariables (variables_of t) vs) (ap (λ p. unwrap_or (option_map (step_variables q.head) p) []) x.1) r.variables)
-      (λ env c. subst (λ f. Has t (constants db q) env ↔ Satisfies f (structure db q) env) (ap (λ p. unwrap_or (option_map (λ step. step.formula) p) (conjunction no_forms)) x.1) (r.means env c))).0
-      (subst (λ k. Many (Differ (variables_of t)) (Inhabits (constants db q) k (variables_of t) (Has t (constants db q))) cap) k m)
+      (λ env c. subst (λ f. HasAssignment t (constants db q) env ↔ Satisfies f (structure db q) env) (ap (λ p. unwrap_or (option_map (λ step. step.formula) p) (conjunction no_forms)) x.1) (r.means env c))).0
+      (subst (λ k. Many (Differ (variables_of t)) (Inhabits (constants db q) k (variables_of t) (HasAssignment t (constants db q))) cap) k m)
 
   pub ascends : Ascends domain
   ascends = subst Ascends (sym n.domain_is) (in_order_ascends (map (λ entry. entry.1) (all_texts db q)))
@@ -205,7 +205,7 @@ module _ {planned : Steps} {db : List Relation} {q : Question} {cap : ℕ} {doma
           variables = subst (λ ws. SameVariables (variables_of t) ws) (sym at_variables) (subst (λ ws. SameVariables ws (step_variables q.head n.step)) (sym vs) m.variables);
           means = λ env c.
               let x = m.means env (subst (λ ws. HasConstants (constants db q) ws env) vs c) in
-              subst (λ f. Has t (constants db q) env ↔ Satisfies f (structure db q) env) (sym at_formula) ((λ h. x.0 (d.sound env h)), λ h. d.whole env (x.1 h));
+              subst (λ f. HasAssignment t (constants db q) env ↔ Satisfies f (structure db q) env) (sym at_formula) ((λ h. x.0 (d.sound env h)), λ h. d.whole env (x.1 h));
           numbered = d.numbered;
           period = d.period_is ∙ k ∙ sym at_period;
           reach = subst (λ r. HasReach t.store r) (sym at_reach) reach;

@@ -25,7 +25,7 @@ use Rattle.lrp_store.specs.Stores.{IsStore}
 use Rattle.lrp_tables.specs.declared.table.Table.{Table}
 use Rattle.lrp_tables.specs.Calls.{AreVariablesOf, CanMeet}
 use Rattle.lrp_tables.specs.Columns.{joint}
-use Rattle.lrp_tables.specs.Tables.{Has, named_variables}
+use Rattle.lrp_tables.specs.Tables.{HasAssignment, named_variables}
 use Rattle.lrp_tables.proofs.TableLaws.{decided_table}
 use Rattle.lrp_periods.specs.Parts.{AreParts, ArePartsOf, HasSome, IsPeriodPart, IsSmallPeriod, part_texts, part_times}
 use Rattle.lrp_plan_laws.specs.Made.{IsEarlier, IsMade, IsStepFormula, HasVariables, operands, head_step}
@@ -48,10 +48,10 @@ decided_some : (domain : List Text) → Ascends domain → (parts : List Table) 
 decided_some domain a [] valid env = inr (λ h. contains_none h.part h.listed)
 decided_some domain a (part ∷ parts) valid env = by (decided_table domain a part (valid part (contains_first part parts)) env) (decided_some domain a parts (λ p c. valid p (contains_later part p parts c)) env)
   where
-    by : Decided (Has part domain env) → Decided (HasSome domain parts env) → Decided (HasSome domain (part ∷ parts) env)
+    by : Decided (HasAssignment part domain env) → Decided (HasSome domain parts env) → Decided (HasSome domain (part ∷ parts) env)
     by (inl h) d = inl (record { part = part; listed = contains_first part parts; has = h })
     by (inr n) (inl h) = inl (record { part = h.part; listed = contains_later part h.part parts h.listed; has = h.has })
-    by (inr n) (inr m) = inr (λ h. ⊎_elim (λ e. n (subst (λ t. Has t domain env) (sym e) h.has)) (λ c. m (record { part = h.part; listed = c; has = h.has })) (cons_cases part h.part parts h.listed))
+    by (inr n) (inr m) = inr (λ h. ⊎_elim (λ e. n (subst (λ t. HasAssignment t domain env) (sym e) h.has)) (λ c. m (record { part = h.part; listed = c; has = h.has })) (cons_cases part h.part parts h.listed))
 
 pub decided_parts : (domain : List Text) → Ascends domain → (K : ℤ) (parts : List Table) → AreParts domain K parts → (env : Assignment) → Decided (HasSome domain parts env)
 decided_parts domain a K parts are env = decided_some domain a parts (λ p c. (are.each p c).valid) env

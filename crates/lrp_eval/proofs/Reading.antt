@@ -88,13 +88,13 @@ any_of n (m ∷ ms) e = apart (bytes_eq n m) (list_any (bytes_eq n) ms) refl (an
     apart true c t h f = cc
     apart false c t h f = ((λ same. let yes_so : bytes_eq n m ≡ true = (bytes_decides n m).1 (sym same) in cc), h f)
 
-all_behind : (p : Identifier → Type 0) (ns : List Identifier) (n : Identifier) → AllByRecursion p ns → p n → AllByRecursion p (ns ++ n ∷ [])
-all_behind p [] n h k = (k, tt)
-all_behind p (m ∷ ms) n h k = (h.0, all_behind p ms n h.1 k)
+all_after : (p : Identifier → Type 0) (ns : List Identifier) (n : Identifier) → AllByRecursion p ns → p n → AllByRecursion p (ns ++ n ∷ [])
+all_after p [] n h k = (k, tt)
+all_after p (m ∷ ms) n h k = (h.0, all_after p ms n h.1 k)
 
-one_behind : (ns : List Identifier) (n : Identifier) → AreDistinct ns → AllByRecursion (λ m. m ≢ n) ns → AreDistinct (ns ++ n ∷ [])
-one_behind [] n d h = (tt, tt)
-one_behind (m ∷ ms) n d h = (all_behind (λ k. m ≢ k) ms n d.0 h.0, one_behind ms n d.1 h.1)
+one_after : (ns : List Identifier) (n : Identifier) → AreDistinct ns → AllByRecursion (λ m. m ≢ n) ns → AreDistinct (ns ++ n ∷ [])
+one_after [] n d h = (tt, tt)
+one_after (m ∷ ms) n d h = (all_after (λ k. m ≢ k) ms n d.0 h.0, one_after ms n d.1 h.1)
 
 pub joint_differ : (ns more : List Identifier) → AreDistinct ns → AreDistinct (joint ns more)
 joint_differ ns [] d = d
@@ -102,7 +102,7 @@ joint_differ ns (n ∷ more) d = joint_differ (cond (list_any (bytes_eq n) ns) n
   where
     taken : (b : Bool) → (b ≡ false → AllByRecursion (λ m. m ≢ n) ns) → AreDistinct (cond b ns (ns ++ n ∷ []))
     taken true h = d
-    taken false h = one_behind ns n d (h refl)
+    taken false h = one_after ns n d (h refl)
 
 -- ---- tests
 

@@ -19,7 +19,7 @@ use Rattle.lrp_tables.specs.declared.table.Table.{Table}
 use Rattle.lrp_tables.specs.Calls.{CanBeCarried, test_period}
 use Rattle.lrp_tables.specs.Columns.{test_times, test_names}
 use Rattle.lrp_tables.specs.Steps.{CanSelect, CanTest, IsLeafResult, IsSelectResult}
-use Rattle.lrp_tables.specs.Tables.{Has, IsTested, IsSelected, named_variables}
+use Rattle.lrp_tables.specs.Tables.{HasAssignment, IsTested, IsSelected, named_variables}
 use Rattle.lrp_plan_laws.specs.Made.{AreAmong}
 use Rattle.lrp_plan_laws.specs.Rising.{natural_test_period as period_of}
 use Rattle.lrp_eval.specs.Running.{variables_of, IsOperand, IsNext, IsRunResult}
@@ -78,7 +78,7 @@ module _ {planned : Steps} {db : List Relation} {q : Question} {cap : ℕ} {doma
   denotes =
       subst (Denotes (constants db q) (structure db q) (variables_of table) (IsSelected domain table t)) (sym (formula_kind n))
       (subst (λ d. Denotes (constants db q) (structure db q) (variables_of table) (IsSelected d table t) (conjunction (form (formula_at planned of) (form (test t) no_forms)))) (sym n.domain_is)
-      (select_keeps (constants db q) (structure db q) (variables_of table) (Has table (constants db q)) (IsSelected (constants db q) table t) (formula_at planned of) t (denotes_of n of table before o)
+      (select_keeps (constants db q) (structure db q) (variables_of table) (HasAssignment table (constants db q)) (IsSelected (constants db q) table t) (formula_at planned of) t (denotes_of n of table before o)
       (λ v c. ⊎_elim (λ a. known v a) (λ b. absurd (contains_none v b)) (in_one (variables_of_test t) [] v c))
       (λ env. ((λ h. (h.has, h.passes)), λ h. record { has = h.0; passes = h.1 }))))
 

@@ -19,7 +19,7 @@ use Rattle.lrp_model.proofs.DomainLaws.{in_order_ascends}
 use Rattle.lrp_store.specs.Stores.{IsStore, HasReach}
 use Rattle.lrp_tables.specs.declared.table.Table.{Table}
 use Rattle.lrp_tables.specs.Caps.{Inhabits, InhabitsMoreThan}
-use Rattle.lrp_tables.specs.Tables.{Has, IsTableOf, named_variables}
+use Rattle.lrp_tables.specs.Tables.{HasAssignment, IsTableOf, named_variables}
 use Rattle.lrp_tables.proofs.DropCounts.{drop_time_counts}
 use Rattle.lrp_tables.proofs.TableLaws.{decided_table}
 use Rattle.lrp_plan_laws.specs.Made.{AreAmong, IsStepFormula, HasVariables, head_step}
@@ -142,15 +142,15 @@ module _ (planned : Steps) (db : List Relation) (q : Question) (cap : ℕ) where
 
     -- what a table has beside the set is the step's table
     pub beside_table : (s l : ℕ) (step : PlanStep) → step_at planned (suc s) ≡ Some step → step.kind ≡ Minus l s → (times texts : List Identifier) (set : Set) → IsShown planned db q cap s times texts set
-        → (left : Table) → Denotes (constants db q) (structure db q) (variables_of left) (Has left (constants db q)) (formula_at planned l)
-        → (made : Table) → IsStore made.store → IsTableOf (constants db q) left.vars.times left.vars.texts (period_at planned (suc s)) (λ env. Has left (constants db q) env × (set env → ⊥)) made
+        → (left : Table) → Denotes (constants db q) (structure db q) (variables_of left) (HasAssignment left (constants db q)) (formula_at planned l)
+        → (made : Table) → IsStore made.store → IsTableOf (constants db q) left.vars.times left.vars.texts (period_at planned (suc s)) (λ env. HasAssignment left (constants db q) env × (set env → ⊥)) made
         → HasReach made.store (reach_at planned (suc s))
-        → (InhabitsMoreThan cap (constants db q) (period_at planned (suc s)) left.vars.times left.vars.texts (λ env. Has left (constants db q) env × (set env → ⊥)) → ⊥) → IsStepTable planned db q cap (suc s) made
+        → (InhabitsMoreThan cap (constants db q) (period_at planned (suc s)) left.vars.times left.vars.texts (λ env. HasAssignment left (constants db q) env × (set env → ⊥)) → ⊥) → IsStepTable planned db q cap (suc s) made
     beside_table s l step at kind times texts set h left d made valid is reach few =
         shown_table (suc s) step at left.vars.times left.vars.texts beside (λ of e. let f : Minus l s ≡ Extend of = sym kind ∙ e in cc) (of_denoted (suc s) left.vars.times left.vars.texts beside means few) made valid is reach
       where
         beside : Assignment → Type 0
-        beside env = Has left (constants db q) env × (set env → ⊥)
+        beside env = HasAssignment left (constants db q) env × (set env → ⊥)
 
         sound_is : IsSoundStep planned db q (suc s) step
         sound_is = sound_plan.each (suc s) step at

@@ -13,7 +13,7 @@ use Rattle.lrp_tables.specs.declared.table.StepFault.{StepFault}
 use Rattle.lrp_tables.specs.declared.table.Table.{Table}
 use Rattle.lrp_tables.specs.Columns.{joint}
 use Rattle.lrp_tables.specs.Steps.{BothReach, CanUnite, IsUnionResult}
-use Rattle.lrp_tables.specs.Tables.{Has, HasTexts, IsUnited, named_variables}
+use Rattle.lrp_tables.specs.Tables.{HasAssignment, HasTexts, IsUnited, named_variables}
 use Rattle.lrp_tables.proofs.TableLaws.{decided_table}
 use Rattle.lrp_eval.specs.Running.{variables_of, IsOperand, IsNext, IsRunResult}
 use Rattle.lrp_eval.proofs.Denotes.{Denotes, union_keeps}
@@ -29,7 +29,7 @@ decided_one (inr n) (inr m) = inr (λ h. ⊎_elim n m h)
 -- whether an assignment is in the union is decided
 decided_united : (domain : List Text) → Ascends domain → (tables : List Table) (l r : ℕ) (lt rt : Table) → IsOperand tables l lt → IsOperand tables r rt → (env : Assignment) → Decided (IsUnited domain lt rt env)
 decided_united domain a tables l r lt rt lo ro env =
-    decided_iff {p = HasTexts domain (joint lt.vars.texts rt.vars.texts) env × (Has lt domain env ⊎ Has rt domain env)} (λ h. record { known = h.0; has = h.1 }) (λ h. (h.known, h.has))
+    decided_iff {p = HasTexts domain (joint lt.vars.texts rt.vars.texts) env × (HasAssignment lt domain env ⊎ HasAssignment rt domain env)} (λ h. record { known = h.0; has = h.1 }) (λ h. (h.known, h.has))
     (decided_both (decided_all (λ name. Contains domain (env.texts name)) (λ name. decided_contains domain (env.texts name)) (joint lt.vars.texts rt.vars.texts))
     (decided_one (decided_table domain a lt lo.valid env) (decided_table domain a rt ro.valid env)))
 
@@ -60,7 +60,7 @@ module _ {planned : Steps} {db : List Relation} {q : Question} {cap : ℕ} {doma
       let c : Ascends (constants db q) = subst Ascends n.domain_is (ascends n) in
       subst (Denotes (constants db q) (structure db q) (named_variables (joint lt.vars.times rt.vars.times) (joint lt.vars.texts rt.vars.texts)) (IsUnited domain lt rt)) (sym (formula_kind n))
       (subst (λ d. Denotes (constants db q) (structure db q) (named_variables (joint lt.vars.times rt.vars.times) (joint lt.vars.texts rt.vars.texts)) (IsUnited d lt rt) (disjunction (form (formula_at planned left) (form (formula_at planned right) no_forms)))) (sym n.domain_is)
-      (union_keeps (constants db q) (structure db q) (variables_of lt) (variables_of rt) (named_variables (joint lt.vars.times rt.vars.times) (joint lt.vars.texts rt.vars.texts)) (Has lt (constants db q)) (Has rt (constants db q))
+      (union_keeps (constants db q) (structure db q) (variables_of lt) (variables_of rt) (named_variables (joint lt.vars.times rt.vars.times) (joint lt.vars.texts rt.vars.texts)) (HasAssignment lt (constants db q)) (HasAssignment rt (constants db q))
       (IsUnited (constants db q) lt rt) (formula_at planned left) (formula_at planned right) (denotes_of n left lt le lo) (denotes_of n right rt re ro)
       (joint_variables lt.vars.times lt.vars.texts rt.vars.times rt.vars.texts) (decided_united (constants db q) c tables left right lt rt lo ro)
       (λ env. (

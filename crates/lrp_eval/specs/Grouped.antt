@@ -114,7 +114,7 @@ pub record IsTableBefore (g : Group) (number : ℕ) (parts : List Table) : Type 
   pub alone : parts ≡ table ∷ []
 
 pub record IsMadeInGroup (g : Group) (made : List (List Table)) (number : ℕ) (parts : List Table) : Type 0 where
-  pub behind : length g.tables.now < number
+  pub after : length g.tables.now < number
   pub at : slice_get made (number - 1 - length g.tables.now) ≡ Some parts
 
 abbrev pub ArePartsAt : Group → List (List Table) → ℕ → List Table → Type 0

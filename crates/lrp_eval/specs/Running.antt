@@ -22,7 +22,7 @@ use Rattle.lrp_tables.specs.declared.table.StepFault.{StepFault}
 use Rattle.lrp_tables.specs.declared.table.StepFault.TheVariants.{TooManyCells}
 use Rattle.lrp_tables.specs.declared.table.Table.{Table}
 use Rattle.lrp_tables.specs.Columns.{head_times, head_texts}
-use Rattle.lrp_tables.specs.Tables.{Has, named_variables}
+use Rattle.lrp_tables.specs.Tables.{HasAssignment, named_variables}
 use Rattle.lrp_plan_laws.specs.Made.{operands}
 use Rattle.lrp_plan_laws.specs.Rising.{period_at}
 use Rattle.lrp_eval.specs.Planned.{IsPlanOf}
@@ -53,7 +53,7 @@ HasHeadColumns planned q s table =
 -- the table has just the assignments that satisfy the formula of step s, over its variables; it has the step's period, and no more than its reach and cap cells
 pub record IsStepTable (planned : Steps) (db : List Relation) (q : Question) (cap s : ℕ) (table : Table) : Type 0 where
   pub variables : SameVariables (variables_of table) (variables_at planned q s)
-  pub means : (env : Assignment) → HasConstants (constants db q) (variables_of table) env → Has table (constants db q) env ↔ Satisfies (formula_at planned s) (structure db q) env
+  pub means : (env : Assignment) → HasConstants (constants db q) (variables_of table) env → HasAssignment table (constants db q) env ↔ Satisfies (formula_at planned s) (structure db q) env
   pub numbered : AreNumbered (constants db q) table.store
   pub period : table.store.period ≡ period_at planned s
   pub reach : HasReach table.store (reach_at planned s)
@@ -69,16 +69,16 @@ pub record IsOperand (tables : List Table) (number : ℕ) (table : Table) : Type
   pub differ : AllPairs ◌≢◌ (table.vars.times ++ table.vars.texts)
 
 -- a step after the first `count` reads step s
-pub record IsReadBehind (steps : Steps) (count s : ℕ) : Type 0 where
+pub record IsReadAfter (steps : Steps) (count s : ℕ) : Type 0 where
   pub number : ℕ
   pub step : PlanStep
-  pub behind : count < number
+  pub after : count < number
   pub at : step_at steps number ≡ Some step
   pub reads : Contains (operands step.kind) s
 
 -- of the first steps, the last one and each that a later step reads have their tables, and none has more than cap cells
 pub record AreRun (planned : Steps) (db : List Relation) (q : Question) (cap : ℕ) (tables : List Table) : Type 0 where
-  pub read : (i : ℕ) (table : Table) → slice_get tables i ≡ Some table → IsReadBehind planned (length tables) (suc i) → IsStepTable planned db q cap (suc i) table
+  pub read : (i : ℕ) (table : Table) → slice_get tables i ≡ Some table → IsReadAfter planned (length tables) (suc i) → IsStepTable planned db q cap (suc i) table
   pub last : (i : ℕ) (table : Table) → slice_get tables i ≡ Some table → suc i ≡ length tables → IsStepTable planned db q cap (suc i) table
   pub few : (s : ℕ) → s ≤ length tables → ManyAt planned db q cap s → ⊥
 

@@ -167,7 +167,7 @@ fn run_one(
     let count = tables.len();
     match run_growing(setting, database, plan, readers, &mut tables) {
         Ok(table) => tables.push(table)?,
-        Err(fault) => return Err(fault_behind(count, fault)),
+        Err(fault) => return Err(fault_after(count, fault)),
     }
     let kind = &plan.steps.at(count).kind;
     Ok(give_up(setting.alloc, kind, readers, tables))
@@ -189,7 +189,7 @@ fn last_of(tables: List<Table>) -> Table
 }
 
 // The fault of the step after so many tables.
-fn fault_behind(tables: usize, fault: StepFault) -> EvalFault
+fn fault_after(tables: usize, fault: StepFault) -> EvalFault
     ensures { (step : ℕ) → result ≡ EvalFault.TooManyCells step → (fault ≡ too_many)
         × (step ≡ suc tables) }
 {

@@ -8,7 +8,7 @@ use Rattle.lrp_core.specs.declared.variables.Variable.{Variable as ProgramVariab
 use Rattle.lrp_model.specs.Formulas.{Form, test}
 use Rattle.lrp_model.specs.Satisfaction.{Structure}
 use Rattle.lrp_model.specs.Variables.{Variable, time_variable, data_variable, free, is_among}
-use Rattle.lrp_model.specs.Steps.{Steps, step_behind, join, leaf, formula_at}
+use Rattle.lrp_model.specs.Steps.{Steps, step_after, join, leaf, formula_at}
 use Rattle.lrp_model.specs.Periods.{test_periods}
 use Rattle.lrp_model.specs.Conjunctions.{nothing_taken}
 use Rattle.lrp_model.specs.declared.formulas.Test.{Test}
@@ -76,7 +76,7 @@ brings_one of vs v old mid any new last h t k = record {
       let n : ℕ = last_brought vs i st in
       let one = h.follows over K steps i m o in
       let there : IsMaking over K any (leaf (any_value v) over.structure st) = t over K st (any_period v K) one.making in
-      let grown : IsPlannedOperand over.structure.relations K (leaf (any_value v) over.structure st) n last = operand_grows over.structure.relations K st (step_behind over.structure (Leaf (any_value v)) (test (any_value v)) st ∷ []) n last one.last in
+      let grown : IsPlannedOperand over.structure.relations K (leaf (any_value v) over.structure st) n last = operand_grows over.structure.relations K st (step_after over.structure (Leaf (any_value v)) (test (any_value v)) st ∷ []) n last one.last in
       let made : IsMaking over K new (bring_one over.structure v n st) = k.follows over K (leaf (any_value v) over.structure st) n there grown in
       let all : IsMaking over K new (bring_each over.structure (vs ++ v ∷ []) i steps) = subst (IsMaking over K new) (sym (each_bring_push over.structure vs v i steps)) made in
       record { making = all; last = subst (λ k. IsPlannedOperand over.structure.relations K (bring_each over.structure (vs ++ v ∷ []) i steps) k new.draft.last) (sym (last_bring_push vs v i (bring_each over.structure (vs ++ v ∷ []) i steps))) all.draft.last };

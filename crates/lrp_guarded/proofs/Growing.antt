@@ -4,7 +4,7 @@ use Rattle.std.specs.List.{AllByRecursion}
 use Rattle.lrp_model.specs.Formulas.{Form, Forms, atom, test, sorted, negation, conjunction, disjunction, implication, exists, forall, no_forms, form}
 use Rattle.lrp_model.specs.Variables.{Variable, time_variable, data_variable, bound_by, free, is_among, are_among, variables_of_test}
 use Rattle.lrp_model.specs.Satisfaction.{Structure}
-use Rattle.lrp_model.specs.Steps.{Steps, Rule, made, step_behind, formula_at, join, select, union, leaf, scan_of, sort_texts}
+use Rattle.lrp_model.specs.Steps.{Steps, Rule, made, step_after, formula_at, join, select, union, leaf, scan_of, sort_texts}
 use Rattle.lrp_model.specs.Conjunctions.{select_each, is_test, tests_in}
 use Rattle.lrp_model.specs.declared.formulas.Test.{Test}
 use Rattle.lrp_model.specs.declared.plans.StepKind.{StepKind}
@@ -27,7 +27,7 @@ pub grows_then : (a b c : Steps) → Grows a b → Grows b c → Grows a c
 grows_then a b c h k = record { more = h.more ++ k.more; is = k.is ∙ ap (λ x. x ++ k.more) h.is ∙ append_assoc a h.more k.more }
 
 pub grows_made : (M : Structure) (kind : StepKind) (f : Form) (steps : Steps) → Grows steps (made M kind f steps)
-grows_made M kind f steps = record { more = step_behind M kind f steps ∷ []; is = refl }
+grows_made M kind f steps = record { more = step_after M kind f steps ∷ []; is = refl }
 
 pub grows_cond : (steps a b : Steps) (c : Bool) → Grows steps a → Grows steps b → Grows steps (cond c a b)
 grows_cond steps a b true h k = h

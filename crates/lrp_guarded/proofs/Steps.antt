@@ -8,7 +8,7 @@ use Rattle.lrp_core.proofs.VariableLists.{with_variables-append}
 use Rattle.lrp_model.specs.Formulas.{Form, conjunction, disjunction, negation, exists, form, no_forms, test}
 use Rattle.lrp_model.specs.Satisfaction.{Structure}
 use Rattle.lrp_model.specs.Variables.{Variable, time_variable, data_variable, free, free_each, variables_of_test}
-use Rattle.lrp_model.specs.Steps.{Steps, formula_at, made, step_behind, tests_as_forms, join, union, minus, complement, select}
+use Rattle.lrp_model.specs.Steps.{Steps, formula_at, made, step_after, tests_as_forms, join, union, minus, complement, select}
 use Rattle.lrp_model.specs.Conjunctions.{select_each}
 use Rattle.lrp_model.specs.declared.formulas.Test.{Test}
 use Rattle.lrp_model.specs.declared.plans.StepKind.{StepKind}
@@ -33,7 +33,7 @@ one_more over K kind f old new steps vs m d s c e = record {
   database = ap (λ x. x.database.now) s ∙ m.database;
   sorts = m.sorts;
   draft = d;
-  columns = subst (λ cs. AllZip HasColumns cs (made over.structure kind f steps)) (sym c) (zip_push HasColumns old.columns.items steps vs (step_behind over.structure kind f steps) m.columns e);
+  columns = subst (λ cs. AllZip HasColumns cs (made over.structure kind f steps)) (sym c) (zip_push HasColumns old.columns.items steps vs (step_after over.structure kind f steps) m.columns e);
 }
 
 -- the columns of a step, and those of an earlier one with those of the last
@@ -151,7 +151,7 @@ selects_more of ts t old mid new last h k = λ a.
 -- ---- variables dropped one by one
 
 length_made : (M : Structure) (kind : StepKind) (f : Form) (steps : Steps) → length (made M kind f steps) ≡ suc (length steps)
-length_made M kind f steps = let l : length (steps ++ step_behind M kind f steps ∷ []) ≡ length steps + length (step_behind M kind f steps ∷ []) = length-append steps (step_behind M kind f steps ∷ []) in omega arith
+length_made M kind f steps = let l : length (steps ++ step_after M kind f steps ∷ []) ≡ length steps + length (step_after M kind f steps ∷ []) = length-append steps (step_after M kind f steps ∷ []) in omega arith
 
 length_drop : (over : Ground) (v : Variable) (of : ℕ) (steps : Steps) → length (drop_variable over v of steps) ≡ suc (length steps)
 length_drop over (time_variable v) of steps = length_made over.structure (DropTime of v) (exists v Time (formula_at steps of)) steps

@@ -9,7 +9,7 @@ use Rattle.lrp_model.specs.Formulas.{Form, atom, sorted, test}
 use Rattle.lrp_model.specs.Rows.{relation_named, columns_in}
 use Rattle.lrp_model.specs.Satisfaction.{Structure}
 use Rattle.lrp_model.specs.Variables.{Variable, time_variable, data_variable, free, is_among, variables_of_test}
-use Rattle.lrp_model.specs.Steps.{Steps, made, step_behind, join, leaf, scan_of, sort_texts, formula_at}
+use Rattle.lrp_model.specs.Steps.{Steps, made, step_after, join, leaf, scan_of, sort_texts, formula_at}
 use Rattle.lrp_model.specs.Periods.{test_periods}
 use Rattle.lrp_model.specs.Conjunctions.{is_test}
 use Rattle.lrp_model.specs.declared.formulas.Test.{Test}
@@ -78,7 +78,7 @@ module _ (before mid after : Making) (old new : ProgramStanding) (left : Element
         making = m;
         standing = record {
           some = s.standing.some;
-          result = operand_grows over.structure.relations K at.steps (step_behind over.structure kind f at.steps ∷ []) at.taken.result old.result s.standing.result;
+          result = operand_grows over.structure.relations K at.steps (step_after over.structure kind f at.steps ∷ []) at.taken.result old.result s.standing.result;
           variables = s.standing.variables;
           left = record { atoms = l.atoms; sorts = l.sorts; others = l.others; tests = l.tests; are_tests = l.are_tests; negations = l.negations };
           block = s.standing.block;

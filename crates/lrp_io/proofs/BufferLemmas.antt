@@ -5,7 +5,7 @@ use Rattle.std.proofs.lemmas.Option.{same_Some}
 use Rattle.std.proofs.Math.Seq.{take-length, take-append_seam, drop-append_seam}
 use Rattle.lrp_io.specs.Bytes.{appended, AppendsFront}
 use Rattle.lrp_io.specs.Pieces.{IsWritten}
-use Rattle.lrp_io.specs.Buffers.{between, told_behind, Grew, HandsOn}
+use Rattle.lrp_io.specs.Buffers.{between, told_since, Grew, HandsOn}
 use Rattle.lrp_io.proofs.BytesLemmas.{appended_twice}
 
 -- a piece that is written after the bytes that are held
@@ -55,7 +55,7 @@ appended_none (Some x) = ap Some (append-nil x)
 -- where bytes were appended, it grew
 pub grew_by : (before now : Option (List ℕ)) (more : List ℕ) → now ≡ appended before more → Grew before now
 grew_by None now more e = e
-grew_by (Some b) now more e = e ∙ ap (λ m. Some (b ++ m)) (sym (ap (told_behind (Some b)) e ∙ drop-append_seam b more))
+grew_by (Some b) now more e = e ∙ ap (λ m. Some (b ++ m)) (sym (ap (told_since (Some b)) e ∙ drop-append_seam b more))
 
 -- so it did before anything was appended
 pub grew_not : (before now : Option (List ℕ)) → now ≡ before → Grew before now
@@ -63,7 +63,7 @@ grew_not before now e = grew_by before now [] (e ∙ sym (appended_none before))
 
 -- and where more bytes were appended
 pub grew_more : (before now new : Option (List ℕ)) (more : List ℕ) → Grew before now → new ≡ appended now more → Grew before new
-grew_more before now new more g e = grew_by before new (told_behind before now ++ more) (e ∙ ap (λ o. appended o more) g ∙ appended_twice before (told_behind before now) more)
+grew_more before now new more g e = grew_by before new (told_since before now ++ more) (e ∙ ap (λ o. appended o more) g ∙ appended_twice before (told_since before now) more)
 
 -- without the bytes that are held, a front of the bytes is still a front of them
 pub front_of_kept : (before now : Option (List ℕ)) (more held bytes : List ℕ) → now ≡ appended before more → AppendsFront before (appended now held) bytes → AppendsFront before now bytes
@@ -91,7 +91,7 @@ pub lent_front : {X : Type 0} (written : X → Option (List ℕ)) (old first now
 lent_front written old first now last none held bytes from empty end g f =
     let start : appended (written first) none ≡ written first = ap (appended (written first)) empty ∙ appended_none (written first) in
     let whole : appended (written now) held ≡ appended (written first) (take f.0 bytes) = f.2 ∙ ap (λ o. appended o (take f.0 bytes)) start in
-    let front : AppendsFront (written first) (written now) bytes = front_of_kept (written first) (written now) (told_behind (written first) (written now)) held bytes g (f.0, f.1, whole) in
+    let front : AppendsFront (written first) (written now) bytes = front_of_kept (written first) (written now) (told_since (written first) (written now)) held bytes g (f.0, f.1, whole) in
     (front.0, front.1, ap written end ∙ front.2 ∙ ap (λ x. appended (written x) (take front.0 bytes)) from)
 
 -- once all that is held was handed on, all bytes are written, or a front of them
@@ -101,5 +101,5 @@ lent_written written old first now new last none held bytes (Ok t) from empty en
     ap written end ∙ ok ∙ whole ∙ ap (λ o. appended o bytes) start
 lent_written written old first now new last none held bytes (Err x) from empty end g whole ok err =
     let start : appended (written first) none ≡ written first = ap (appended (written first)) empty ∙ appended_none (written first) in
-    let front : AppendsFront (written first) (written new) bytes = front_of_held (written first) (written now) (written new) (told_behind (written first) (written now)) held bytes g (whole ∙ ap (λ o. appended o bytes) start) err in
+    let front : AppendsFront (written first) (written new) bytes = front_of_held (written first) (written now) (written new) (told_since (written first) (written now)) held bytes g (whole ∙ ap (λ o. appended o bytes) start) err in
     (front.0, front.1, ap written end ∙ front.2 ∙ ap (λ s. appended (written s) (take front.0 bytes)) from)

@@ -14,8 +14,8 @@ written_put old new bytes (Ok t) ok front = ok
 written_put old new bytes (Err e) ok front = front
 
 -- a front of the second bytes, after the first, is a front of both
-pub front_behind : (old mid new : Option (List ℕ)) (a b : List ℕ) → mid ≡ appended old a → AppendsFront mid new b → AppendsFront old new (a ++ b)
-front_behind old mid new a b e f =
+pub front_after : (old mid new : Option (List ℕ)) (a b : List ℕ) → mid ≡ appended old a → AppendsFront mid new b → AppendsFront old new (a ++ b)
+front_after old mid new a b e f =
     let n = length a + f.0 in
     let size : length (a ++ b) ≡ length a + length b = length-append a b in
     let same : take n (a ++ b) ≡ a ++ take f.0 b = take-append-add a b f.0 in
@@ -29,9 +29,9 @@ front_before old new a b f =
     (f.0, omega (arith, f.1, size), f.2 ∙ ap (appended old) (sym (take-append-le f.0 a b f.1)))
 
 -- after the first bytes, a call that writes the second writes both
-pub written_behind : {T E : Type 0} (old mid new : Option (List ℕ)) (a b : List ℕ) (r : Result T E) → mid ≡ appended old a → IsWritten mid new b r → IsWritten old new (a ++ b) r
-written_behind old mid new a b (Ok t) e w = w ∙ ap (λ x. appended x b) e ∙ appended_twice old a b
-written_behind old mid new a b (Err x) e w = front_behind old mid new a b e w
+pub written_after : {T E : Type 0} (old mid new : Option (List ℕ)) (a b : List ℕ) (r : Result T E) → mid ≡ appended old a → IsWritten mid new b r → IsWritten old new (a ++ b) r
+written_after old mid new a b (Ok t) e w = w ∙ ap (λ x. appended x b) e ∙ appended_twice old a b
+written_after old mid new a b (Err x) e w = front_after old mid new a b e w
 
 -- a failure after a front of the bytes
 pub written_err : {T E : Type 0} (old new : Option (List ℕ)) (bytes : List ℕ) (r : Result T E) (e : E) → r ≡ Err e → AppendsFront old new bytes → IsWritten old new bytes r
@@ -53,7 +53,7 @@ each_step f xs i d old now new lt e n = n ∙ ap (λ x. appended x (f (get_or xs
 pub each_front : {A : Type 0} (f : A → List ℕ) (xs : List A) (i : ℕ) (d : A) (old now new : Option (List ℕ)) → i < length xs → now ≡ appended old (flat_map f (take i xs)) → AppendsFront now new (f (get_or xs i d)) → AppendsFront old new (flat_map f xs)
 each_front f xs i d old now new lt e w =
     let so_far = flat_map f (take i xs) ++ f (get_or xs i d) in
-    let front : AppendsFront old new so_far = front_behind old now new (flat_map f (take i xs)) (f (get_or xs i d)) e w in
+    let front : AppendsFront old new so_far = front_after old now new (flat_map f (take i xs)) (f (get_or xs i d)) e w in
     let P : List ℕ → Type 0 = λ bytes. AppendsFront old new bytes in
     subst P (sym (flat_front f xs i d lt)) (front_before old new so_far (flat_map f (drop (i + 1) xs)) front)
 

@@ -7,14 +7,14 @@ abbrev pub between : List ℕ → ℕ → ℕ → List ℕ
 between bytes first last = take (last - first) (drop first bytes)
 
 -- the bytes told after those that were told before
-abbrev pub told_behind : Option (List ℕ) → Option (List ℕ) → List ℕ
-told_behind None now = []
-told_behind (Some before) None = []
-told_behind (Some before) (Some now) = drop (length before) now
+abbrev pub told_since : Option (List ℕ) → Option (List ℕ) → List ℕ
+told_since None now = []
+told_since (Some before) None = []
+told_since (Some before) (Some now) = drop (length before) now
 
 -- some bytes were appended, where bytes are told
 abbrev pub Grew : Option (List ℕ) → Option (List ℕ) → Type 0
-Grew before now = now ≡ appended before (told_behind before now)
+Grew before now = now ≡ appended before (told_since before now)
 
 -- the first k of the bytes that were held were appended, and the others are still held
 abbrev pub HandsOn : Option (List ℕ) → Option (List ℕ) → List ℕ → List ℕ → Type 0

@@ -76,7 +76,7 @@ impl Shelf for SureShelf {
 }
 
 /// The place of the first file of this name, or the one after the last file.
-#[tactic(auto, using(crate::proofs::FilesLemmas::content_missing, crate::proofs::FilesLemmas::bytes_behind))]
+#[tactic(auto, using(crate::proofs::FilesLemmas::content_missing, crate::proofs::FilesLemmas::bytes_after))]
 fn place_of(files: &[File], name: &str) -> usize
     ensures { bytes_at files.now result ≡ content_of files.now name.now }
 {

@@ -20,7 +20,7 @@ use Rattle.lrp_tables.specs.Calls.{tests_reach}
 use Rattle.lrp_kept.specs.Choices.{HasLargeChoicePart as HasLargeChoice}
 use Rattle.lrp_kept.specs.Disjuncts.{AreDisjunctsOf}
 use Rattle.lrp_kept.specs.Held.{AreLowRows, greatest_bounds, names_of, held_relation, relations_of, held_row}
-use Rattle.lrp_kept.specs.Keyed.{AreHeldRows, AreRelisted, IsHeldBehind, IsLetGoAt}
+use Rattle.lrp_kept.specs.Keyed.{AreHeldRows, AreRelisted, IsHeldAfter, IsLetGoAt}
 use Rattle.lrp_kept.specs.Keys.{keys_of}
 use Rattle.lrp_kept.specs.Limits.{row_bound, scaled_kept_reach}
 use Rattle.lrp_kept.specs.SortedForms.{HaveColumnsOf}
@@ -40,7 +40,7 @@ use Rattle.lrp_parts.proofs.Without.{derived_after, derived_before}
 use Rattle.lrp_keep.specs.Keeps.{CanBeHeld, scaled_reach_of, with_row, StaysWithinLimits}
 use Rattle.lrp_keep.specs.States.{CanBeHeldIn, CanDeriveEach, HasSomeLargePart, IsHoldingCause, IsKeeper, IsKeeping, IsLetGoFrom, IsStillState, ground_at, levels_of, keeper_view, with_held}
 use Rattle.lrp_kept.specs.Sketches.{AreSketchesOf, CanBeSketched}
-use Rattle.lrp_keep.specs.Unions.{AreDerived, AreDerivedBut, AreStillBut}
+use Rattle.lrp_keep.specs.Unions.{AreDerived, AreDerivedBut, RemainWithout}
 use Rattle.lrp_keep.specs.Replaced.{replaced}
 use Rattle.lrp_keep.specs.declared.faults.KeepFault.TheVariants.{BoundLimit, TooManyCells}
 use Rattle.lrp_keep.specs.declared.kept_query.KeptQuery.{KeptQuery}
@@ -146,7 +146,7 @@ module _ (of : KeptQuery) (old : State) (is : IsKeeping of old) (relation : ℕ)
           read = can_be_read of.domain fits.held.columns row a.terms period fits.row_fits (count d a listed own e) positive high (fits.periods (read d a listed own e)) (omega (arith, l, m, r));
         }
 
-    module _ (new : HeldRows) (key : ℕ) (source : HeldRow) (relation_is : source.relation ≡ relation) (row_is : source.row ≡ row) (sketches : AreSketchesOf of.domain ds relation row source.sketches.items) (w : IsHeldBehind source key old.rows new) where
+    module _ (new : HeldRows) (key : ℕ) (source : HeldRow) (relation_is : source.relation ≡ relation) (row_is : source.row ≡ row) (sketches : AreSketchesOf of.domain ds relation row source.sketches.items) (w : IsHeldAfter source key old.rows new) where
       own_low : source.relation < length old.rows.relations.items
       own_low = subst (λ n. n < length old.rows.relations.items) (sym relation_is) low
 
@@ -372,7 +372,7 @@ module _ (of : KeptQuery) (old : State) (is : IsKeeping of old) (relation : ℕ)
 
       -- ---- what a refusal leaves
 
-      module _ (mid last : State) (rows_are : mid.rows ≡ new) (period_is : mid.period ≡ old.period) (still : AreStillBut (ground_at of new old.period.number) ds key (levels_of mid)) (place : ℕ) (place_is : place ≡ length (keys_of new relation) - 1) (gone : IsLetGoFrom relation place mid last) where
+      module _ (mid last : State) (rows_are : mid.rows ≡ new) (period_is : mid.period ≡ old.period) (still : RemainWithout (ground_at of new old.period.number) ds key (levels_of mid)) (place : ℕ) (place_is : place ≡ length (keys_of new relation) - 1) (gone : IsLetGoFrom relation place mid last) where
         gone_now : IsLetGoAt relation place gone.key new last.rows
         gone_now = subst (λ (r : HeldRows). IsLetGoAt relation place gone.key r last.rows) rows_are gone.rows
 

@@ -160,14 +160,14 @@ module _ (db : List Relation) where
   abbrev HasPeriod : Forms → ℕ → Type 0
   HasPeriod fs k = ((a : Atom) × Contains (atoms_each fs) a × Contains (rows_periods a.name) k) ⊎ ((t : Test) × Contains (tests_among fs) t × Contains (test_periods t) k)
 
-  behind_atom : (name : Identifier) (ts : List Term) (fs : Forms) (k : ℕ) → HasPeriod fs k → HasPeriod (form (atom name ts) fs) k
-  behind_atom name ts fs k h = elim h [
+  after_atom : (name : Identifier) (ts : List Term) (fs : Forms) (k : ℕ) → HasPeriod fs k → HasPeriod (form (atom name ts) fs) k
+  after_atom name ts fs k h = elim h [
     | inl x ↦ inl (x.0, contains_later (record { name = name; terms = ts }) x.0 (atoms_each fs) x.1, x.2)
     | inr x ↦ inr x
   ]
 
-  behind_test : (t : Test) (fs : Forms) (k : ℕ) → HasPeriod fs k → HasPeriod (form (test t) fs) k
-  behind_test t fs k h = elim h [
+  after_test : (t : Test) (fs : Forms) (k : ℕ) → HasPeriod fs k → HasPeriod (form (test t) fs) k
+  after_test t fs k h = elim h [
     | inl x ↦ inl x
     | inr x ↦ inr (x.0, contains_later t x.0 (tests_among fs) x.1, x.2)
   ]
@@ -176,11 +176,11 @@ module _ (db : List Relation) where
   period_in no_forms k e c = absurd (nowhere k c)
   period_in (form (atom name ts) fs) k e c = elim (in_one (rows_periods name) (periods_each fs db) k c) [
     | inl d ↦ inl (record { name = name; terms = ts }, contains_first (record { name = name; terms = ts }) (atoms_each fs), d)
-    | inr d ↦ behind_atom name ts fs k (period_in fs k e d)
+    | inr d ↦ after_atom name ts fs k (period_in fs k e d)
   ]
   period_in (form (test t) fs) k e c = elim (in_one (test_periods t) (periods_each fs db) k c) [
     | inl d ↦ inr (t, contains_first t (tests_among fs), d)
-    | inr d ↦ behind_test t fs k (period_in fs k e d)
+    | inr d ↦ after_test t fs k (period_in fs k e d)
   ]
   period_in (form (sorted s v) fs) k e c = absurd (false≢true (sym e))
   period_in (form (negation f) fs) k e c = absurd (false≢true (sym e))

@@ -26,7 +26,7 @@ use Rattle.lrp_kept.specs.declared.disjuncts.Disjunct.{Disjunct}
 use Rattle.lrp_kept.specs.declared.disjuncts.JoinedAtom.{JoinedAtom}
 use Rattle.lrp_kept.specs.declared.rows.Sketch.{Sketch}
 use Rattle.lrp_kept.specs.declared.rows.HeldRow.{HeldRow}
-use Rattle.lrp_parts.proofs.Behind.{own_reach, rises}
+use Rattle.lrp_parts.proofs.After.{own_reach, rises}
 use Rattle.lrp_keep.proofs.HeadRoom.{near_row, near_tests}
 use Rattle.lrp_keep.proofs.KeptAnswers.{zip_back}
 use Rattle.lrp_parts.proofs.Narrow.{can_be_joined, has_head}

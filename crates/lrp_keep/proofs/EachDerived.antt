@@ -7,7 +7,7 @@ use Rattle.lrp_kept.specs.declared.disjuncts.Disjunct.{Disjunct}
 use Rattle.lrp_parts.specs.Derivations.{AreReleased, Ground, HoldsNothingFor, IsDerivedBut, IsDerivedFrom, Levels}
 use Rattle.lrp_parts.specs.declared.derivation.Derived.{Derived}
 use Rattle.lrp_parts.proofs.Without.{derived_but}
-use Rattle.lrp_keep.specs.Unions.{AreDerived, AreDerivedBut, AreStillBut}
+use Rattle.lrp_keep.specs.Unions.{AreDerived, AreDerivedBut, RemainWithout}
 use Rattle.lrp_keep.proofs.Lists.{at_mapped}
 use Rattle.lrp_holdings.proofs.Chained.{none_some, some_is}
 use Rattle.lrp_plan_laws.proofs.Elements.{within}
@@ -80,7 +80,7 @@ module _ (g : Ground) (ds : List Disjunct) where
     }
 
     -- where one is refused, what is held for the key is in the first ones alone
-    pub stopped : IsDerivedBut g d key x.levels.items → AreStillBut g ds key (levels_in next)
+    pub stopped : IsDerivedBut g d key x.levels.items → RemainWithout g ds key (levels_in next)
     stopped h = record {
       count = map_count (λ (d : Derived). d.levels.items) next ∙ same ∙ a.size;
       each = λ i e levels here is.

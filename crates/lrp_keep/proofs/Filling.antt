@@ -8,7 +8,7 @@ use Rattle.lrp_model.proofs.Decided.{cons_cases}
 use Rattle.lrp_plan_laws.proofs.Members.{in_one, in_right}
 use Rattle.lrp_zone.proofs.Cases.{eq_or}
 use Rattle.lrp_kept.specs.Held.{held_row}
-use Rattle.lrp_kept.specs.Keyed.{AreHeldRows, AreRelisted, IsHeldBehind}
+use Rattle.lrp_kept.specs.Keyed.{AreHeldRows, AreRelisted, IsHeldAfter}
 use Rattle.lrp_kept.specs.Keys.{keys_in, keys_of}
 use Rattle.lrp_kept.specs.declared.rows.HeldRows.{HeldRows}
 use Rattle.lrp_kept.specs.declared.rows.HeldRow.{HeldRow}
@@ -33,7 +33,7 @@ none_also of number rows held = record {
 }
 
 module _ (of : KeptQuery) (number : ℕ) (all : List Row) (old mid new : HeldRows) (low : number < length old.relations.items) (was : AreHeldRows old) (a : AreHeldAlso of number all old mid) (source : HeldRow) (key : ℕ) (row : Row) (relation_is : source.relation ≡ number) (row_is : source.row ≡ row)
-    (sketches : AreSketchesOf of.domain of.disjuncts.items number row source.sketches.items) (w : IsHeldBehind source key mid new) where
+    (sketches : AreSketchesOf of.domain of.disjuncts.items number row source.sketches.items) (w : IsHeldAfter source key mid new) where
   low_mid : source.relation < length mid.relations.items
   low_mid = let n : length mid.relations.items ≡ length old.relations.items = a.listed.count in let e : source.relation ≡ number = relation_is in omega (arith, low, n, e)
 

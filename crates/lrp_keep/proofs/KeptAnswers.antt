@@ -24,7 +24,7 @@ use Rattle.lrp_store.specs.Stores.{IsStore, StoreView}
 use Rattle.lrp_store.specs.Tables.{InAnswer, StoreHolds}
 use Rattle.lrp_tables.proofs.TableLaws.{decided_store}
 use Rattle.lrp_tables.specs.Columns.{head_texts, head_times, text_name, texts_of_term}
-use Rattle.lrp_tables.specs.Tables.{Has, HasTexts}
+use Rattle.lrp_tables.specs.Tables.{HasAssignment, HasTexts}
 use Rattle.lrp_parts.specs.Bound.{AreCompleted}
 use Rattle.lrp_kept.specs.Choices.{ChosenWithValues, IsChosenBy, IsDerived, as_list, listed_disjuncts, tests_among}
 use Rattle.lrp_parts.specs.Derivations.{AreKeysFor, Ground, HoldsIn, IsDerivedFor, IsDerivedFrom, IsHeldFor, IsOfChoice, IsOfPart, Levels, last_atom, atom_tests, tests_of_part, atom_texts}
@@ -311,7 +311,7 @@ module _ (g : Ground) (q : Question) (bs : List Column) (ds : List Disjunct) (on
         let times : map env.times a.2.made.vars.times ≡ times_of tuple = ap (map env.times) (a.2.table.times_are ∙ ap head_times on.head) ∙ tuple_times q.head tuple (record { times = λ v. pos 0; texts = λ v. [] }) on.names shape in
         let texts : map env.texts a.2.made.vars.texts ≡ texts_of tuple = ap (map env.texts) (a.2.table.texts_are ∙ ap head_texts on.head) ∙ tuple_texts q.head tuple (record { times = λ v. pos 0; texts = λ v. [] }) on.names shape in
         let s : StoreHolds g.domain a.2.made.store (times_of tuple) (texts_of tuple) = subst (λ v. StoreHolds g.domain v (times_of tuple) (texts_of tuple)) (e ∙ sym a.2.store) c.has in
-        let has : Has a.2.made g.domain env = subst (λ l. StoreHolds g.domain a.2.made.store l (map env.texts a.2.made.vars.texts)) (sym times) (subst (λ l. StoreHolds g.domain a.2.made.store (times_of tuple) l) (sym texts) s) in
+        let has : HasAssignment a.2.made g.domain env = subst (λ l. StoreHolds g.domain a.2.made.store l (map env.texts a.2.made.vars.texts)) (sym times) (subst (λ l. StoreHolds g.domain a.2.made.store (times_of tuple) l) (sym texts) s) in
         let y = a.2.table.sound env has in
         let z : AreCompleted g.domain (bound_columns f) (IsOfChoice g d c.keys) env = subst (λ l. AreCompleted g.domain l (IsOfChoice g d c.keys) env) back.2.bound_are y.completed in
         record {
@@ -343,7 +343,7 @@ module _ (g : Ground) (q : Question) (bs : List Column) (ds : List Disjunct) (on
         let sound = w.sound.each (length c.0 - 1) c.0 held.0 held.1 in
         let a = sound.1.answers c.1.1 in
         let known : HasTexts g.domain (head_texts g.head) env = subst (λ h. HasTexts g.domain (head_texts h) env) (sym on.head) (known_texts M g.domain on.known env q.head tuple fits (tuple_texts q.head tuple (record { times = λ v. pos 0; texts = λ v. [] }) on.names shape)) in
-        let has : Has a.2.made g.domain env = a.2.table.whole env (record { known = known; completed = subst (λ l. AreCompleted g.domain l (IsOfChoice g d c.0) env) (sym z.3.bound_are) c.2 }) in
+        let has : HasAssignment a.2.made g.domain env = a.2.table.whole env (record { known = known; completed = subst (λ l. AreCompleted g.domain l (IsOfChoice g d c.0) env) (sym z.3.bound_are) c.2 }) in
         let times : map env.times a.2.made.vars.times ≡ times_of tuple = ap (map env.times) (a.2.table.times_are ∙ ap head_times on.head) ∙ tuple_times q.head tuple (record { times = λ v. pos 0; texts = λ v. [] }) on.names shape in
         let texts : map env.texts a.2.made.vars.texts ≡ texts_of tuple = ap (map env.texts) (a.2.table.texts_are ∙ ap head_texts on.head) ∙ tuple_texts q.head tuple (record { times = λ v. pos 0; texts = λ v. [] }) on.names shape in
         let s : StoreHolds g.domain a.2.made.store (times_of tuple) (texts_of tuple) = subst (λ l. StoreHolds g.domain a.2.made.store (times_of tuple) l) texts (subst (λ l. StoreHolds g.domain a.2.made.store l (map env.texts a.2.made.vars.texts)) times has) in

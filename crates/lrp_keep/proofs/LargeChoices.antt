@@ -17,7 +17,7 @@ use Rattle.lrp_kept.specs.declared.disjuncts.Disjunct.{Disjunct}
 use Rattle.lrp_kept.specs.declared.disjuncts.JoinedAtom.{JoinedAtom}
 use Rattle.lrp_kept.specs.declared.rows.HeldRows.{HeldRows}
 use Rattle.lrp_kept.specs.declared.rows.HeldRow.{HeldRow}
-use Rattle.lrp_parts.specs.Derivations.{AreHeldBehind, AreKeysFor, Ground, HasManyKeyedCells, HasRow, Levels}
+use Rattle.lrp_parts.specs.Derivations.{AreHeldAfter, AreKeysFor, Ground, HasManyKeyedCells, HasRow, Levels}
 use Rattle.lrp_parts.proofs.KeyedRows.{key_of_row, rows_at, rows_under_keys}
 use Rattle.lrp_parts.proofs.LargeParts.{AreUnder, many_of_keys, many_of_rows}
 use Rattle.lrp_keep.specs.States.{HasSomeLargePart}
@@ -142,6 +142,6 @@ module _ (g : Ground) (q : Question) (ds : List Disjunct) (are : AreDisjunctsOf 
       many_of_rows g h.disjunct d is (take h.count k.0) h.rows (omega (arith, count, low)) last.0 last.1 under first (subst (λ n. HasManyCells g.domain g.period g.cap h.disjunct h.rows n) (sym count) h.many) in
       by d there.0 (take h.count k.0) (omega (arith, count, low)) (first_keys g.rows d.atoms.items k.0 h.count k.1) many (λ key. (derived.each z.0 d there.0 z.2 there.1).whole (whole_keys g d.atoms.items k.0 k.1 k.2) key)
     where
-      by : (d : Disjunct) (levels : Levels) (keys : List ℕ) → 0 < length keys → AreKeysFor g.rows d.atoms.items keys → HasManyKeyedCells g d keys → ((key : ℕ) → AreHeldBehind g d (key ∷ []) levels) → ⊥
-      by d levels [] low rows many behind = let l : 0 < 0 = low in omega (arith, l)
-      by d levels (key ∷ keys) low rows many behind = (behind key).few keys rows many
+      by : (d : Disjunct) (levels : Levels) (keys : List ℕ) → 0 < length keys → AreKeysFor g.rows d.atoms.items keys → HasManyKeyedCells g d keys → ((key : ℕ) → AreHeldAfter g d (key ∷ []) levels) → ⊥
+      by d levels [] low rows many after = let l : 0 < 0 = low in omega (arith, l)
+      by d levels (key ∷ keys) low rows many after = (after key).few keys rows many

@@ -10,7 +10,7 @@ use Rattle.lrp_model.specs.declared.relations.Row.{Row}
 use Rattle.lrp_keep.specs.Faults.{kept_fault}
 use Rattle.lrp_keep.specs.Keeps.{KeepView, IsPastLimit}
 use Rattle.lrp_keep.specs.States.{IsHoldingCause, IsStateOf, IsStillState, IsUndone, ground_at, levels_of}
-use Rattle.lrp_keep.specs.Unions.{AreDerived, AreDerivedBut, AreStillBut}
+use Rattle.lrp_keep.specs.Unions.{AreDerived, AreDerivedBut, RemainWithout}
 use Rattle.lrp_keep.specs.declared.faults.KeepFault.TheVariants.{Memory, TooManyCells}
 use Rattle.lrp_keep.specs.declared.kept_query.KeptQuery.{KeptQuery}
 use Rattle.lrp_keep.specs.declared.states.State.{State}
@@ -60,7 +60,7 @@ err_then (Err e) P Q h go = go h
 pub undone_same : (of : KeptQuery) (key : ℕ) (old new : State) → AreDerivedBut (ground_at of old.rows old.period.number) of.disjuncts.items key (levels_of old) → new ≡ old → IsUndone of key old new
 undone_same of key old new h e = record {
   period = ap (λ (s : State). s.period) e;
-  derived = subst (λ (s : State). AreStillBut (ground_at of old.rows old.period.number) of.disjuncts.items key (levels_of s)) (sym e) (record { count = h.count; each = h.each });
+  derived = subst (λ (s : State). RemainWithout (ground_at of old.rows old.period.number) of.disjuncts.items key (levels_of s)) (sym e) (record { count = h.count; each = h.each });
 }
 
 -- what is known of a result twice

@@ -51,7 +51,7 @@ module _ (from start out : StoreView) (p : IsPassing StaysSame (λ high. high) (
         period = g.period;
         to = λ xs ns h. elim (g.sound xs ns h) [ inl old ↦ inl old | inr m ↦ inr (subst (λ ms. InStore from xs ms) (sym m.made.texts_are) (subst (λ ys. InStore from ys m.old_texts) (sym m.made.times_are) m.is)) ];
         kept = g.kept;
-        from = λ xs ns h. elim (p.behind xs ns h) [
+        from = λ xs ns h. elim (p.after xs ns h) [
           | inl made ↦ made xs ns (record { times_are = refl; texts_are = refl })
           | inr j ↦ absurd (let l : j.listed.0 < 0 = j.listed.1 in omega (arith, l))
         ];

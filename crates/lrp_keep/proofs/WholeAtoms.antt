@@ -19,7 +19,7 @@ use Rattle.lrp_kept.specs.Disjuncts.{IsAtomOf, IsDisjunctOf, is_test_covered}
 use Rattle.lrp_kept.specs.KeptForm.{all_occur, all_pass, kept_elements, is_atom, is_atom_with, is_conjunctive, is_neither, some_passes, tested_variables}
 use Rattle.lrp_kept.specs.declared.disjuncts.Disjunct.{Disjunct}
 use Rattle.lrp_kept.specs.declared.disjuncts.JoinedAtom.{JoinedAtom}
-use Rattle.lrp_parts.proofs.Behind.{in_kept, kept_test, own_tests, own_texts, own_times, rises, some_terms}
+use Rattle.lrp_parts.proofs.After.{in_kept, kept_test, own_tests, own_texts, own_times, rises, some_terms}
 use Rattle.lrp_kept.proofs.DisjunctAtoms.{atoms_are}
 use Rattle.lrp_kept.proofs.PartVariables.{all_covered, text_among, time_among}
 use Rattle.lrp_keep.proofs.KeptAnswers.{IsWholeAt, zip_at}
@@ -31,23 +31,23 @@ module _ (variable : Identifier → Variable) (names : Term → List Identifier)
   abbrev HasAtom : Forms → Identifier → Type 0
   HasAtom fs v = (a : Atom) × Contains (atoms_each fs) a × Contains (flat_map names a.terms) v
 
-  behind : (f : Form) (fs : Forms) (v : Identifier) → HasAtom fs v → HasAtom (form f fs) v
-  behind f fs v h = (h.0, in_right (atoms f) (atoms_each fs) h.0 h.1, h.2)
+  after : (f : Form) (fs : Forms) (v : Identifier) → HasAtom fs v → HasAtom (form f fs) v
+  after f fs v h = (h.0, in_right (atoms f) (atoms_each fs) h.0 h.1, h.2)
 
   atom_of : (fs : Forms) (v : Identifier) → some_passes (is_atom_with (variable v)) fs ≡ true → HasAtom fs v
   atom_of no_forms v e = absurd (false≢true e)
   atom_of (form (atom name terms) fs) v e = elim (or_cases (is_among (flat_map variables_of_term terms) (variable v)) (some_passes (is_atom_with (variable v)) fs) e) [
     | inl s ↦ (record { name = name; terms = terms }, contains_first (record { name = name; terms = terms }) (atoms_each fs), among terms v s)
-    | inr k ↦ behind (atom name terms) fs v (atom_of fs v k)
+    | inr k ↦ after (atom name terms) fs v (atom_of fs v k)
   ]
-  atom_of (form (test t) fs) v e = behind (test t) fs v (atom_of fs v e)
-  atom_of (form (sorted s w) fs) v e = behind (sorted s w) fs v (atom_of fs v e)
-  atom_of (form (negation f) fs) v e = behind (negation f) fs v (atom_of fs v e)
-  atom_of (form (conjunction gs) fs) v e = behind (conjunction gs) fs v (atom_of fs v e)
-  atom_of (form (disjunction gs) fs) v e = behind (disjunction gs) fs v (atom_of fs v e)
-  atom_of (form (implication f g) fs) v e = behind (implication f g) fs v (atom_of fs v e)
-  atom_of (form (exists w s f) fs) v e = behind (exists w s f) fs v (atom_of fs v e)
-  atom_of (form (forall w s f) fs) v e = behind (forall w s f) fs v (atom_of fs v e)
+  atom_of (form (test t) fs) v e = after (test t) fs v (atom_of fs v e)
+  atom_of (form (sorted s w) fs) v e = after (sorted s w) fs v (atom_of fs v e)
+  atom_of (form (negation f) fs) v e = after (negation f) fs v (atom_of fs v e)
+  atom_of (form (conjunction gs) fs) v e = after (conjunction gs) fs v (atom_of fs v e)
+  atom_of (form (disjunction gs) fs) v e = after (disjunction gs) fs v (atom_of fs v e)
+  atom_of (form (implication f g) fs) v e = after (implication f g) fs v (atom_of fs v e)
+  atom_of (form (exists w s f) fs) v e = after (exists w s f) fs v (atom_of fs v e)
+  atom_of (form (forall w s f) fs) v e = after (forall w s f) fs v (atom_of fs v e)
 
 -- some formula is an atom, so there is one
 some_atom : (fs : Forms) → some_passes is_atom fs ≡ true → 0 < length (atoms_each fs)

@@ -29,7 +29,7 @@ use Rattle.lrp_kept.specs.KeptForm.{is_kept}
 use Rattle.lrp_kept.specs.Keyed.{AreHeldRows, AreRelisted, AreSameRows, IsEmptyOf, IsFirstEqual, IsLetGoAt}
 use Rattle.lrp_kept.specs.SortedForms.{HaveColumnsOf}
 use Rattle.lrp_keep.specs.Taken.{HeldHaveReach}
-use Rattle.lrp_keep.specs.Unions.{AreDerived, AreDerivedBut, AreStillBut, HoldsAll}
+use Rattle.lrp_keep.specs.Unions.{AreDerived, AreDerivedBut, RemainWithout, HoldsAll}
 use Rattle.lrp_kept.specs.declared.disjuncts.Disjunct.{Disjunct}
 use Rattle.lrp_keep.specs.declared.faults.KeepFault.{KeepFault}
 use Rattle.lrp_keep.specs.declared.kept_query.KeptQuery.{KeptQuery}
@@ -97,11 +97,11 @@ AreDerivedIn setting of derived = AreDerived (ground_of setting) of.disjuncts.it
 abbrev pub AreDerivedInBut : DerivationSetting → KeptQuery → ℕ → List Derived → Type 0
 AreDerivedInBut setting of key derived = AreDerivedBut (ground_of setting) of.disjuncts.items key (levels_in derived)
 
-abbrev pub AreStillInBut : DerivationSetting → KeptQuery → ℕ → List Derived → Type 0
-AreStillInBut setting of key derived = AreStillBut (ground_of setting) of.disjuncts.items key (levels_in derived)
+abbrev pub RemainInWithout : DerivationSetting → KeptQuery → ℕ → List Derived → Type 0
+RemainInWithout setting of key derived = RemainWithout (ground_of setting) of.disjuncts.items key (levels_in derived)
 
 -- new has what is derived of the disjunct after the others
-pub record IsDerivedBehind (g : Ground) (d : Disjunct) (old new : List Derived) : Type 0 where
+pub record IsDerivedAfter (g : Ground) (d : Disjunct) (old new : List Derived) : Type 0 where
   pub derived : Derived
   pub are : new ≡ old ++ derived ∷ []
   pub is : IsDerivedFrom g d derived.levels.items
@@ -231,7 +231,7 @@ pub record IsStillState (of : KeptQuery) (old new : State) : Type 0 where
 -- the period is as it was, and all is derived from the rows but the one under the key
 pub record IsUndone (of : KeptQuery) (key : ℕ) (old new : State) : Type 0 where
   pub period : new.period ≡ old.period
-  pub derived : AreStillBut (ground_at of old.rows old.period.number) of.disjuncts.items key (levels_of new)
+  pub derived : RemainWithout (ground_at of old.rows old.period.number) of.disjuncts.items key (levels_of new)
 
 -- another number stands beside a relation
 pub record IsMarked (relation most : ℕ) (old new : HeldRows) : Type 0 where

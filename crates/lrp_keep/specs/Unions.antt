@@ -18,7 +18,7 @@ pub record AreDerivedBut (g : Ground) (ds : List Disjunct) (key : ℕ) (all : Li
   pub none : (i : ℕ) (levels : Levels) → slice_get all i ≡ Some levels → HoldsNothingFor key levels
 
 -- the same, with something for that key maybe
-pub record AreStillBut (g : Ground) (ds : List Disjunct) (key : ℕ) (all : List Levels) : Type 0 where
+pub record RemainWithout (g : Ground) (ds : List Disjunct) (key : ℕ) (all : List Levels) : Type 0 where
   pub count : length all ≡ length ds
   pub each : (i : ℕ) (d : Disjunct) (levels : Levels) → slice_get ds i ≡ Some d → slice_get all i ≡ Some levels → IsDerivedBut g d key levels
 

@@ -3,7 +3,7 @@
 ghost use Rattle.std.specs.Prelude.{◌≡◌, ◌<◌, ◌++◌, ◌∷◌, [], Err, IfOk, OnOk};
 ghost use Rattle.lrp_model.specs.Formulas.{question_of};
 ghost use Rattle.lrp_parts.specs.Derivations.{CanDerive, HasLargePart, ground_of};
-ghost use Rattle.lrp_keep.specs.States.{AreDerivedAt, AreDisjunctsFor, AreSketchesFor, CanAllBeJoinedUp, CanDeriveAt, HasLargePartAt, IsDerivedBehind, ground_at, levels_in};
+ghost use Rattle.lrp_keep.specs.States.{AreDerivedAt, AreDisjunctsFor, AreSketchesFor, CanAllBeJoinedUp, CanDeriveAt, HasLargePartAt, IsDerivedAfter, ground_at, levels_in};
 ghost use Rattle.lrp_kept.specs.Sketches.{CanBeSketched};
 
 use lrp_kept::{Disjunct, HeldRow, HeldRows, disjuncts_of};
@@ -107,7 +107,7 @@ fn derive_one(
     all: &mut Vec<Derived>,
 ) -> Result<(), StepFault>
     requires { CanDerive (ground_of setting.now) disjunct.now }
-    ensures derived { OnOk result (IsDerivedBehind
+    ensures derived { OnOk result (IsDerivedAfter
         (ground_of setting.now) disjunct.now all.old.items all.new.items) }
     ensures many { result ≡ Err StepFault.TooManyCells
         → HasLargePart (ground_of setting.now) disjunct.now }

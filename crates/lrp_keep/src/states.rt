@@ -10,7 +10,7 @@ ghost use Rattle.lrp_kept.specs.Limits.{relation_bound};
 ghost use Rattle.lrp_model.specs.Periods.{row_periods};
 ghost use Rattle.lrp_kept.specs.Sizes.{period_number};
 ghost use Rattle.lrp_keep.specs.Keeps.{IsPastLimit, StaysWithinLimits};
-ghost use Rattle.lrp_keep.specs.States.{AreAllHeld, AreHeldAlso, CanBeAddedAt, CanBeHeldIn, AreDerivedIn, AreDerivedInBut, AreStillInBut, CanAllBeSketched, CanBeOpened, CanDeriveAt, CanDeriveEach, HasLargePartAt, HasSomeLargePart, IsAddedAt, IsAddingCause, IsAnswerOfState, IsDerivedAt, IsDerivedWithout, IsHeldAt, IsHoldingCause, IsKeeper, IsKeeping, IsLetGoFrom, IsMarked, IsPeriodWith, IsRaisedBy, AreMarkedBy, IsRemoved, IsStillState, IsUndone, ground_at, levels_of, opened_with, periods_at, scaled_at, keeper_view, whole_periods};
+ghost use Rattle.lrp_keep.specs.States.{AreAllHeld, AreHeldAlso, CanBeAddedAt, CanBeHeldIn, AreDerivedIn, AreDerivedInBut, RemainInWithout, CanAllBeSketched, CanBeOpened, CanDeriveAt, CanDeriveEach, HasLargePartAt, HasSomeLargePart, IsAddedAt, IsAddingCause, IsAnswerOfState, IsDerivedAt, IsDerivedWithout, IsHeldAt, IsHoldingCause, IsKeeper, IsKeeping, IsLetGoFrom, IsMarked, IsPeriodWith, IsRaisedBy, AreMarkedBy, IsRemoved, IsStillState, IsUndone, ground_at, levels_of, opened_with, periods_at, scaled_at, keeper_view, whole_periods};
 ghost use Rattle.lrp_kept.specs.Sketches.{CanBeSketched};
 ghost use Rattle.lrp_packed.specs.Leading.{IsNotLater};
 ghost use Rattle.lrp_parts.specs.Firsts.{IsFirstOfHeld};
@@ -276,7 +276,7 @@ fn add_each(
     requires last { IsLastKey (ground_of setting.now) relation key }
     requires old { AreDerivedInBut setting.now of.now key derived.old.items }
     ensures derived { OnOk result (AreDerivedIn setting.now of.now derived.new.items) }
-    ensures others { OnErr result (AreStillInBut setting.now of.now key derived.new.items) }
+    ensures others { OnErr result (RemainInWithout setting.now of.now key derived.new.items) }
     ensures many { result ≡ Err StepFault.TooManyCells
         → HasSomeLargePart (ground_of setting.now) of.now.disjuncts.items }
 {

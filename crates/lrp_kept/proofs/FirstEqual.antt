@@ -9,7 +9,7 @@ use Rattle.lrp_tables.proofs.Joining.{place_in}
 use Rattle.lrp_zone.proofs.Cases.{eq_or}
 use Rattle.lrp_kept.specs.EqualRows.{AreEqualRows}
 use Rattle.lrp_kept.specs.Keys.{keys_at, keys_in, keys_of}
-use Rattle.lrp_kept.specs.Keyed.{AreRelisted, AreSameRows, HasNoEqualRow, IsFirstEqual, IsHeldBehind, IsLetGoAt, IsUnlisted}
+use Rattle.lrp_kept.specs.Keyed.{AreRelisted, AreSameRows, HasNoEqualRow, IsFirstEqual, IsHeldAfter, IsLetGoAt, IsUnlisted}
 use Rattle.lrp_kept.specs.declared.rows.HeldRelation.{HeldRelation}
 use Rattle.lrp_kept.specs.declared.rows.HeldRows.{HeldRows}
 use Rattle.lrp_kept.specs.declared.rows.HeldRow.{HeldRow}
@@ -73,9 +73,9 @@ none_equal rows relation row keys place are past before = record {
 
 -- ---- a row more, and a row less
 
-pub held_behind : (source : HeldRow) (key : ℕ) (old new : HeldRows) → get old.sources key ≡ None → Updates old.sources new.sources key (Some source)
-    → AreRelisted source.relation (keys_at old.relations.items source.relation ++ key ∷ []) old.relations.items new.relations.items → IsHeldBehind source key old new
-held_behind source key old new free put listed = record { free = free; there = put.changed; others = put.others; listed = listed }
+pub held_after : (source : HeldRow) (key : ℕ) (old new : HeldRows) → get old.sources key ≡ None → Updates old.sources new.sources key (Some source)
+    → AreRelisted source.relation (keys_at old.relations.items source.relation ++ key ∷ []) old.relations.items new.relations.items → IsHeldAfter source key old new
+held_after source key old new free put listed = record { free = free; there = put.changed; others = put.others; listed = listed }
 
 -- nothing was held
 pub same_slots : (old : HeldRows) (sources : Slab HeldRow) (relation : ℕ) → sources ≡ record old.sources { capacity = sources.capacity } → AreSameRows old (record { relations = old.relations; sources = sources })

@@ -16,7 +16,7 @@ use Rattle.lrp_tables.specs.declared.table.Vars.{Vars}
 use Rattle.lrp_tables.specs.Columns.{joint, scan_texts, scan_times}
 use Rattle.lrp_kept.specs.Choices.{as_list, listed_disjuncts}
 use Rattle.lrp_kept.specs.Disjuncts.{AreDisjunctsOf, AreJoined, IsAtomOf, IsDisjunctOf, is_test_covered}
-use Rattle.lrp_kept.specs.Drafts.{AreAllJoined, AreDisjuncts, AreOfRelations, CanBeJoinedUp, DraftsDisjunct, IsJoinedAtom, MakesDisjunct, IsOneMore, atom_in, texts_behind, times_behind}
+use Rattle.lrp_kept.specs.Drafts.{AreAllJoined, AreDisjuncts, AreOfRelations, CanBeJoinedUp, DraftsDisjunct, IsJoinedAtom, MakesDisjunct, IsOneMore, atom_in, texts_after, times_after}
 use Rattle.lrp_kept.specs.declared.disjuncts.Disjunct.{Disjunct}
 use Rattle.lrp_kept.specs.declared.disjuncts.DisjunctDraft.{DisjunctDraft}
 use Rattle.lrp_kept.specs.declared.disjuncts.JoinedAtom.{JoinedAtom}
@@ -28,24 +28,24 @@ use Rattle.lrp_kept.proofs.Zipped.{zip_push}
 
 -- one atom more, after the variables so far
 push_joined : (tests : List Test) (ts xs : List Identifier) (js : List JoinedAtom) (j : JoinedAtom) → AreJoined tests ts xs js
-    → j.vars.times ≡ joint (times_behind ts js) (scan_times j.terms) → j.vars.texts ≡ joint (texts_behind xs js) (scan_texts j.terms) → j.tests ≡ filter (is_test_covered j.vars.times j.vars.texts) tests
+    → j.vars.times ≡ joint (times_after ts js) (scan_times j.terms) → j.vars.texts ≡ joint (texts_after xs js) (scan_texts j.terms) → j.tests ≡ filter (is_test_covered j.vars.times j.vars.texts) tests
     → AreJoined tests ts xs (js ++ j ∷ [])
 push_joined tests ts xs [] j h t x f = (t, x, f, tt)
 push_joined tests ts xs (k ∷ js) j h t x f = (h.0, h.1, h.2, push_joined tests k.vars.times k.vars.texts js j h.3 t x f)
 
-times_pushed : (ts : List Identifier) (js : List JoinedAtom) (j : JoinedAtom) → times_behind ts (js ++ j ∷ []) ≡ j.vars.times
+times_pushed : (ts : List Identifier) (js : List JoinedAtom) (j : JoinedAtom) → times_after ts (js ++ j ∷ []) ≡ j.vars.times
 times_pushed ts [] j = refl
 times_pushed ts (k ∷ js) j = times_pushed k.vars.times js j
 
-texts_pushed : (xs : List Identifier) (js : List JoinedAtom) (j : JoinedAtom) → texts_behind xs (js ++ j ∷ []) ≡ j.vars.texts
+texts_pushed : (xs : List Identifier) (js : List JoinedAtom) (j : JoinedAtom) → texts_after xs (js ++ j ∷ []) ≡ j.vars.texts
 texts_pushed xs [] j = refl
 texts_pushed xs (k ∷ js) j = texts_pushed k.vars.texts js j
 
 -- the first atoms are joined, and these are the variables after them
 pub record AreJoinedUp (names : List Identifier) (all : List Atom) (tests : List Test) (vars : Vars) (js : List JoinedAtom) : Type 0 where
   pub joined : AreAllJoined names all tests js
-  pub times : vars.times ≡ times_behind [] js
-  pub texts : vars.texts ≡ texts_behind [] js
+  pub times : vars.times ≡ times_after [] js
+  pub texts : vars.texts ≡ texts_after [] js
 
 pub none_joined : (names : List Identifier) (tests : List Test) (vars : Vars) (js : List JoinedAtom) → js ≡ [] → vars.times ≡ [] → vars.texts ≡ [] → AreJoinedUp names [] tests vars js
 none_joined names tests vars js e t x = subst (λ k. AreJoinedUp names [] tests vars k) (sym e) (record { joined = record { each = tt; joined = tt }; times = t; texts = x })
@@ -57,8 +57,8 @@ push_up names all tests old vars js a j h t x w = record {
   joined = record {
     each = zip_push (IsAtomOf names) all js a j h.joined.each w.is;
     joined = push_joined tests [] [] js j h.joined.joined
-        (w.times ∙ t ∙ ap (λ ns. joint ns (scan_times a.terms)) h.times ∙ ap (λ ts. joint (times_behind [] js) (scan_times ts)) (sym w.is.terms))
-        (w.texts ∙ x ∙ ap (λ ns. joint ns (scan_texts a.terms)) h.texts ∙ ap (λ ts. joint (texts_behind [] js) (scan_texts ts)) (sym w.is.terms))
+        (w.times ∙ t ∙ ap (λ ns. joint ns (scan_times a.terms)) h.times ∙ ap (λ ts. joint (times_after [] js) (scan_times ts)) (sym w.is.terms))
+        (w.texts ∙ x ∙ ap (λ ns. joint ns (scan_texts a.terms)) h.texts ∙ ap (λ ts. joint (texts_after [] js) (scan_texts ts)) (sym w.is.terms))
         (w.covered ∙ ap (λ ns. filter (is_test_covered ns vars.texts) tests) (sym w.times) ∙ ap (λ ns. filter (is_test_covered j.vars.times ns) tests) (sym w.texts));
   };
   times = sym w.times ∙ sym (times_pushed [] js j);

@@ -56,13 +56,13 @@ pub record IsJoinedAtom (names : List Identifier) (a : Atom) (tests : List Test)
   pub covered : j.tests ≡ filter (is_test_covered vars.times vars.texts) tests
 
 -- the variables after atoms
-abbrev pub times_behind : List Identifier → List JoinedAtom → List Identifier
-times_behind times [] = times
-times_behind times (a ∷ more) = times_behind a.vars.times more
+abbrev pub times_after : List Identifier → List JoinedAtom → List Identifier
+times_after times [] = times
+times_after times (a ∷ more) = times_after a.vars.times more
 
-abbrev pub texts_behind : List Identifier → List JoinedAtom → List Identifier
-texts_behind texts [] = texts
-texts_behind texts (a ∷ more) = texts_behind a.vars.texts more
+abbrev pub texts_after : List Identifier → List JoinedAtom → List Identifier
+texts_after texts [] = texts
+texts_after texts (a ∷ more) = texts_after a.vars.texts more
 
 -- the atoms as they are joined one after the other
 pub record AreAllJoined (names : List Identifier) (all : List Atom) (tests : List Test) (js : List JoinedAtom) : Type 0 where

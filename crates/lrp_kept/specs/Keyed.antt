@@ -47,7 +47,7 @@ pub record IsUnlisted (relation place key : ℕ) (old new : List HeldRelation) :
   pub listed : AreRelisted relation (front ++ back) old new
 
 -- a row stands under a new key after the others of its relation
-pub record IsHeldBehind (source : HeldRow) (key : ℕ) (old new : HeldRows) : Type 0 where
+pub record IsHeldAfter (source : HeldRow) (key : ℕ) (old new : HeldRows) : Type 0 where
   pub free : get old.sources key ≡ None
   pub there : get new.sources key ≡ Some source
   pub others : (k : ℕ) → k ≢ key → get new.sources k ≡ get old.sources k

@@ -9,7 +9,7 @@ use Rattle.lrp_model.specs.declared.relations.Row.{Row}
 use Rattle.lrp_store.specs.Tables.{AreTexts}
 use Rattle.lrp_tables.specs.declared.table.Vars.{Vars}
 use Rattle.lrp_systems.specs.Parts.{InPart}
-use Rattle.lrp_algebra.specs.Patterns.{part_of, AreKnown, Suits}
+use Rattle.lrp_algebra.specs.Patterns.{part_of, AreKnown, MatchesPattern}
 use Rattle.lrp_algebra.specs.declared.pattern.Placed.{Placed}
 use Rattle.lrp_algebra.specs.declared.pattern.Pattern.{Pattern}
 use Rattle.lrp_kept.specs.Spans.{AreInSpans}
@@ -34,7 +34,7 @@ pub record Continues (xs : List ℤ) (ns : List ℕ) (times texts : ℕ) (more :
 -- what begins with a tuple of so many times and texts that is as the pattern asks is in the outline
 pub record IsOutlineOf (pattern : Pattern) (times texts : ℕ) (o : Outline) : Type 0 where
   pub full : IsFull o
-  pub is : (xs : List ℤ) (ns : List ℕ) (more : ℕ → ℤ) (further : List ℕ) → Suits pattern xs ns → Continues xs ns times texts more further → IsInOutline o more further
+  pub is : (xs : List ℤ) (ns : List ℕ) (more : ℕ → ℤ) (further : List ℕ) → MatchesPattern pattern xs ns → Continues xs ns times texts more further → IsInOutline o more further
 
 -- what begins with the values of the variables, where those of the terms are a member of the row, is in the outline
 pub record IsOutlineFor (domain : List Text) (vars : Vars) (terms : List Term) (row : Row) (o : Outline) : Type 0 where

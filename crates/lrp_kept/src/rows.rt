@@ -5,7 +5,7 @@ ghost use Rattle.lrp_model.specs.Kept.{AreKept};
 ghost use Rattle.lrp_kept.specs.Keys.{IsSketchOf, keys_at, keys_of};
 ghost use Rattle.lrp_kept.specs.EqualRows.{AreEqualRows};
 ghost use Rattle.lrp_kept.specs.Held.{names_of};
-ghost use Rattle.lrp_kept.specs.Keyed.{AreRelisted, AreSameRows, HasNoEqualRow, IsEmptyOf, IsEmptyRelation, IsFirstEqual, IsHeldBehind, IsLetGoAt, IsUnlisted};
+ghost use Rattle.lrp_kept.specs.Keyed.{AreRelisted, AreSameRows, HasNoEqualRow, IsEmptyOf, IsEmptyRelation, IsFirstEqual, IsHeldAfter, IsLetGoAt, IsUnlisted};
 
 use crate::equal_rows::are_equal;
 use crate::outlines::Outline;
@@ -141,7 +141,7 @@ impl HeldRows {
     /// Puts a row after the others of its relation, and gives its key.
     pub fn hold(&mut self, source: HeldRow) -> Result<usize, Memory>
         requires { source.relation < length self.old.relations.items }
-        ensures held { IfOk result (λ key. IsHeldBehind source key self.old self.new) }
+        ensures held { IfOk result (λ key. IsHeldAfter source key self.old self.new) }
         ensures same { OnErr result (AreSameRows self.old self.new) }
     {
         let relation = source.relation;

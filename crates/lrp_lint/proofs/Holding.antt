@@ -29,13 +29,13 @@ use Rattle.lrp_lint.proofs.Points.{in_parts, one_divides, parts_fit}
 -- ---- a tuple and its times
 
 -- what stands after a front
-at_length : (front : List ℤ) (x : ℤ) (behind : List ℤ) → node (front ++ x ∷ behind) (suc (length front)) ≡ x
-at_length [] x behind = refl
-at_length (y ∷ front) x behind = at_length front x behind
+at_length : (front : List ℤ) (x : ℤ) (after : List ℤ) → node (front ++ x ∷ after) (suc (length front)) ≡ x
+at_length [] x after = refl
+at_length (y ∷ front) x after = at_length front x after
 
-regroup : (front : List ℤ) (x : ℤ) (behind : List ℤ) → front ++ x ∷ behind ≡ (front ++ x ∷ []) ++ behind
-regroup [] x behind = refl
-regroup (y ∷ front) x behind = ap (λ xs. y ∷ xs) (regroup front x behind)
+regroup : (front : List ℤ) (x : ℤ) (after : List ℤ) → front ++ x ∷ after ≡ (front ++ x ∷ []) ++ after
+regroup [] x after = refl
+regroup (y ∷ front) x after = ap (λ xs. y ∷ xs) (regroup front x after)
 
 one_longer : (front : List ℤ) (x : ℤ) → length (front ++ x ∷ []) ≡ suc (length front)
 one_longer [] x = refl

@@ -27,9 +27,9 @@ use Rattle.lrp_cutting.proofs.Lists.{greatest_below}
 use Rattle.lrp_theory.proofs.Members.{from_map, in_map}
 
 -- the time in a column has this residue or a later one
-pub record IsBehind (k column : ℕ) (residue : ℤ) (times : List ℤ) (texts : List ℕ) : Type 0 where
+pub record IsPastResidue (k column : ℕ) (residue : ℤ) (times : List ℤ) (texts : List ℕ) : Type 0 where
   pub own : ℤ
-  pub behind : residue ≤ℤ own
+  pub after : residue ≤ℤ own
   pub high : own <ℤ pos k
   pub is : Divides (pos k) (node times (column + 1) -ℤ own)
 
@@ -166,12 +166,12 @@ module _ (s : StoreView) (is : IsStore s) where
   -- ---- residues
   module _ (column : ℕ) (cell : Cell) (c : IsChosenTo s column cell) (low : column < s.shape.times) where
     -- each time has a residue from nought on
-    pub behind_none : (xs : List ℤ) (ns : List ℕ) → IsAbsentAt s column cell xs ns → IsBehind s.period column (pos 0) xs ns
-    behind_none xs ns h =
+    pub after_none : (xs : List ℤ) (ns : List ℕ) → IsAbsentAt s column cell xs ns → IsPastResidue s.period column (pos 0) xs ns
+    after_none xs ns h =
         let l : 0 < s.period = is.period_low in
         let one : pos 1 ≤ℤ pos s.period = omega (arith, ints) in
         let b = rem_between (pos s.period) (node xs (column + 1)) _ one refl in
-        record { own = _; behind = b.0; high = b.1; is = rem_divides (pos s.period) (node xs (column + 1)) _ one refl }
+        record { own = _; after = b.0; high = b.1; is = rem_divides (pos s.period) (node xs (column + 1)) _ one refl }
 
     module _ (residue : ℤ) where
       abbrev pub next_cell : Cell
@@ -208,8 +208,8 @@ module _ (s : StoreView) (is : IsStore s) where
         none = h.none;
       }
 
-      residue_from : (xs : List ℤ) (ns : List ℕ) → IsAbsentAt s column cell xs ns → IsBehind s.period column residue xs ns → IsAbsentAt s (column + 1) next_cell xs ns ⊎ IsBehind s.period column (residue +ℤ pos 1) xs ns
-      residue_from xs ns h b = elim (cases residue b.own b.behind) [
+      residue_from : (xs : List ℤ) (ns : List ℕ) → IsAbsentAt s column cell xs ns → IsPastResidue s.period column residue xs ns → IsAbsentAt s (column + 1) next_cell xs ns ⊎ IsPastResidue s.period column (residue +ℤ pos 1) xs ns
+      residue_from xs ns h b = elim (cases residue b.own b.after) [
         | inl e ↦ inl (record {
           count = h.count;
           residues = by_place (λ i. Divides (pos s.period) (node xs i -ℤ node (set cell.residues column residue) i)) (λ i l. subst (λ r. Divides (pos s.period) (node xs i -ℤ r)) (sym (elsewhere i l)) (h.residues i l))
@@ -217,27 +217,27 @@ module _ (s : StoreView) (is : IsStore s) where
           named = h.named;
           none = h.none;
         })
-        | inr l ↦ inr (record { own = b.own; behind = l; high = b.high; is = b.is })
+        | inr l ↦ inr (record { own = b.own; after = l; high = b.high; is = b.is })
       ]
         where
           cases : (r t : ℤ) → r ≤ℤ t → (r ≡ t) ⊎ ((r +ℤ pos 1) ≤ℤ t)
           cases r t h = grind (arith, ints)
 
-      module _ (cap high : ℕ) (start out new : StoreView) (next : Cell) (en : next ≡ next_cell) (g : IsGathering (IsAbsentAt s column cell) (IsBehind s.period column residue) cap high start out) where
-        pub residue_more : IsAdded (IsAbsentAt s (column + 1) next) cap high out new → IsGathering (IsAbsentAt s column cell) (IsBehind s.period column (residue +ℤ pos 1)) cap high start new
+      module _ (cap high : ℕ) (start out new : StoreView) (next : Cell) (en : next ≡ next_cell) (g : IsGathering (IsAbsentAt s column cell) (IsPastResidue s.period column residue) cap high start out) where
+        pub residue_more : IsAdded (IsAbsentAt s (column + 1) next) cap high out new → IsGathering (IsAbsentAt s column cell) (IsPastResidue s.period column (residue +ℤ pos 1)) cap high start new
         residue_more a =
-            gathering_more (IsAbsentAt s column cell) cap high start (IsBehind s.period column residue) (IsBehind s.period column (residue +ℤ pos 1)) (IsAbsentAt s (column + 1) next_cell) high out new g (omega arith) residue_to residue_from
+            gathering_more (IsAbsentAt s column cell) cap high start (IsPastResidue s.period column residue) (IsPastResidue s.period column (residue +ℤ pos 1)) (IsAbsentAt s (column + 1) next_cell) high out new g (omega arith) residue_to residue_from
             (subst (λ l. IsAdded (IsAbsentAt s (column + 1) l) cap high out new) en a)
 
         pub residue_refused : IsRefused (IsAbsentAt s (column + 1) next) cap high out new → IsRefused (IsAbsentAt s column cell) cap high start new
         residue_refused r =
-            gathering_refused (IsAbsentAt s column cell) cap high start (IsBehind s.period column residue) (IsAbsentAt s (column + 1) next_cell) high out new g (omega arith) residue_to
+            gathering_refused (IsAbsentAt s column cell) cap high start (IsPastResidue s.period column residue) (IsAbsentAt s (column + 1) next_cell) high out new g (omega arith) residue_to
             (subst (λ l. IsRefused (IsAbsentAt s (column + 1) l) cap high out new) en r)
 
     -- no residue is left
-    pub residues_done : (cap high : ℕ) (residue : ℤ) (start out : StoreView) → pos s.period ≤ℤ residue → IsGathering (IsAbsentAt s column cell) (IsBehind s.period column residue) cap high start out → IsAdded (IsAbsentAt s column cell) cap high start out
+    pub residues_done : (cap high : ℕ) (residue : ℤ) (start out : StoreView) → pos s.period ≤ℤ residue → IsGathering (IsAbsentAt s column cell) (IsPastResidue s.period column residue) cap high start out → IsAdded (IsAbsentAt s column cell) cap high start out
     residues_done cap high residue start out all g =
-        gathered (IsAbsentAt s column cell) cap high start (IsBehind s.period column residue) out g (λ xs ns h b. let l : residue ≤ℤ b.own = b.behind in let m : b.own <ℤ pos s.period = b.high in absurd (omega (arith, ints)))
+        gathered (IsAbsentAt s column cell) cap high start (IsPastResidue s.period column residue) out g (λ xs ns h b. let l : residue ≤ℤ b.own = b.after in let m : b.own <ℤ pos s.period = b.high in absurd (omega (arith, ints)))
 
   -- ---- one cell
   module _ (cell : Cell) (c : IsChosenTo s s.shape.times cell) where

@@ -9,7 +9,7 @@ use Rattle.lrp_store.specs.Growing.{IsAdded, IsRefused}
 use Rattle.lrp_store.proofs.Held.{new_store}
 use Rattle.lrp_tables.specs.declared.table.Table.{Table}
 use Rattle.lrp_tables.specs.Caps.{InhabitsMoreThan}
-use Rattle.lrp_tables.specs.Tables.{Has, HasTexts, IsComplement, IsTableOf}
+use Rattle.lrp_tables.specs.Tables.{HasAssignment, HasTexts, IsComplement, IsTableOf}
 use Rattle.lrp_tables.proofs.CellsNamed.{AreTuplesOf}
 use Rattle.lrp_tables.proofs.Filled.{IsStart, step_table, step_few, step_many, reach_held}
 use Rattle.lrp_tables.proofs.Numbers.{domain_differs, numbers_are}
@@ -31,13 +31,13 @@ module _ (domain : List Text) (ascends : Ascends domain) (table : Table) (size :
   -- the tuples that are absent are those of the assignments that are missing
   are : AreTuplesOf domain table.vars.times table.vars.texts (IsAbsent size table.store 0 chosen) (IsComplement domain table)
   are = same_tuples domain table.vars.times table.vars.texts (λ xs ns. IsAny (length domain) (length table.vars.times) (length table.vars.texts) xs ns × (InStore table.store xs ns → ⊥)) (IsAbsent size table.store 0 chosen)
-      (λ env. HasTexts domain table.vars.texts env × (Has table domain env → ⊥)) (IsComplement domain table)
+      (λ env. HasTexts domain table.vars.texts env × (HasAssignment table domain env → ⊥)) (IsComplement domain table)
       (λ xs ns. (
         λ h. record { times_count = h.0.times_count ∙ table.times_named; texts_count = h.0.texts_count ∙ table.texts_named; known = subst (λ m. All (λ n. n < m) ns) (sym es) h.0.known; same = λ i l. absurd (omega arith); none = h.1 },
         λ h. (record { times_count = h.times_count ∙ sym table.times_named; texts_count = h.texts_count ∙ sym table.texts_named; known = subst (λ m. All (λ n. n < m) ns) es h.known }, h.none),
       ))
       (λ env. (λ h. record { known = h.0; none = h.1 }, λ h. (h.known, h.none)))
-      (tested_tuples domain table.vars.times table.vars.texts (IsAny (length domain) (length table.vars.times) (length table.vars.texts)) (HasTexts domain table.vars.texts) (λ xs ns. InStore table.store xs ns → ⊥) (λ env. Has table domain env → ⊥)
+      (tested_tuples domain table.vars.times table.vars.texts (IsAny (length domain) (length table.vars.times) (length table.vars.texts)) (HasTexts domain table.vars.texts) (λ xs ns. InStore table.store xs ns → ⊥) (λ env. HasAssignment table domain env → ⊥)
       (λ env ns a. (
         λ n m. n (subst (InStore table.store (map env.times table.vars.times)) (numbers_are domain (domain_differs domain ascends) m.0 (map env.texts table.vars.texts) m.1 ∙ sym (numbers_are domain (domain_differs domain ascends) ns (map env.texts table.vars.texts) a)) m.2),
         λ n i. n (ns, a, i),

@@ -18,7 +18,7 @@ use Rattle.lrp_store.proofs.Held.{new_store}
 use Rattle.lrp_tables.specs.declared.table.Table.{Table}
 use Rattle.lrp_tables.specs.Caps.{InhabitsMoreThan}
 use Rattle.lrp_tables.specs.Columns.{ArePlacesOf, IsPlace}
-use Rattle.lrp_tables.specs.Tables.{Has, HasTexts, IsMinus, IsTableOf}
+use Rattle.lrp_tables.specs.Tables.{HasAssignment, HasTexts, IsMinus, IsTableOf}
 use Rattle.lrp_tables.proofs.CellsNamed.{AreTuplesOf}
 use Rattle.lrp_tables.proofs.Filled.{IsStart, step_table, step_few, step_many, reach_held}
 use Rattle.lrp_tables.proofs.Joining.{places_count, place_is, places_are}
@@ -143,7 +143,7 @@ module _ (left right : Table) (right_is : IsStore right.store) (places : Places)
 
     are : AreTuplesOf domain left.vars.times left.vars.texts (IsSpared places left.store right.store) (IsMinus domain left right)
     are = same_tuples domain left.vars.times left.vars.texts (λ xs ns. InStore left.store xs ns × (Wide xs ns → ⊥)) (IsSpared places left.store right.store)
-        (λ env. Has left domain env × (HasTexts domain left.vars.texts env × Has right domain env → ⊥)) (IsMinus domain left right)
+        (λ env. HasAssignment left domain env × (HasTexts domain left.vars.texts env × HasAssignment right domain env → ⊥)) (IsMinus domain left right)
         (λ xs ns. (
           λ h. record {
             held = h.0;
@@ -157,7 +157,7 @@ module _ (left right : Table) (right_is : IsStore right.store) (places : Places)
           λ h. (h.held, λ w. h.none w.held),
         ))
         (λ env. (λ h. record { has = h.0; none = λ r. h.1 (table_texts domain left env h.0, r) }, λ h. (h.has, λ p. h.none p.1)))
-        (less_tuples domain ascends left.vars.times left.vars.texts (InStore left.store) Wide (Has left domain) (λ env. HasTexts domain left.vars.texts env × Has right domain env) (tuples_of domain left left_is numbered)
+        (less_tuples domain ascends left.vars.times left.vars.texts (InStore left.store) Wide (HasAssignment left domain) (λ env. HasTexts domain left.vars.texts env × HasAssignment right domain env) (tuples_of domain left left_is numbered)
         (wider_tuples domain ascends left.vars.times left.vars.texts right places.times places.texts times_at texts_at))
 
     module _ (cap : ℕ) (start out : StoreView) (fresh : start ≡ without_cells left.store.shape k) (valid : IsStore start) where

@@ -26,8 +26,8 @@ use Rattle.lrp_tables.proofs.Gathering.{IsGathering, gathering_none, gathering_m
 use Rattle.lrp_cutting.proofs.Lists.{in_cons, in_map, in_nothing}
 
 -- some of the zones from this number on has the times
-abbrev pub IsBehindZone : List ZoneView → ℕ → List ℤ → List ℕ → Type 0
-IsBehindZone zones i xs ns = InSome (drop i zones) xs
+abbrev pub IsAfterZone : List ZoneView → ℕ → List ℤ → List ℕ → Type 0
+IsAfterZone zones i xs ns = InSome (drop i zones) xs
 
 -- ---- the zones of a cell
 
@@ -35,20 +35,20 @@ module _ (places : Places) (left : StoreView) (cell : Cell) (right : StoreView) 
   abbrev Spared : List ℤ → List ℕ → Type 0
   Spared = IsSparedIn places left cell right
 
-  abbrev Behind : ℕ → List ℤ → List ℕ → Type 0
-  Behind = IsBehindZone (zones_at left cell)
+  abbrev After : ℕ → List ℤ → List ℕ → Type 0
+  After = IsAfterZone (zones_at left cell)
 
   -- no zone was added
-  pub spared_none : (start : StoreView) → IsStore start → IsGathering (IsSparedIn places left cell right) (IsBehindZone (zones_at left cell) 0) cap high start start
-  spared_none start valid = gathering_none (IsSparedIn places left cell right) cap high start (IsBehindZone (zones_at left cell) 0) valid (λ xs ns h. record {
+  pub spared_none : (start : StoreView) → IsStore start → IsGathering (IsSparedIn places left cell right) (IsAfterZone (zones_at left cell) 0) cap high start start
+  spared_none start valid = gathering_none (IsSparedIn places left cell right) cap high start (IsAfterZone (zones_at left cell) 0) valid (λ xs ns h. record {
     zone = zone_of left cell h.held.table;
     listed = in_map (zone_of left cell) (tables_at left cell) h.held.table h.held.held;
     inside = h.held.inside;
   })
 
   -- all were
-  pub spared_all : (start out : StoreView) (i : ℕ) → length (tables_at left cell) ≤ i → IsGathering (IsSparedIn places left cell right) (IsBehindZone (zones_at left cell) i) cap high start out → IsAdded (IsSparedIn places left cell right) cap high start out
-  spared_all start out i le g = gathered (IsSparedIn places left cell right) cap high start (IsBehindZone (zones_at left cell) i) out g
+  pub spared_all : (start out : StoreView) (i : ℕ) → length (tables_at left cell) ≤ i → IsGathering (IsSparedIn places left cell right) (IsAfterZone (zones_at left cell) i) cap high start out → IsAdded (IsSparedIn places left cell right) cap high start out
+  spared_all start out i le g = gathered (IsSparedIn places left cell right) cap high start (IsAfterZone (zones_at left cell) i) out g
       (λ xs ns h b. in_nothing xs (subst (λ l. InSome l xs) (drop_all i (zones_at left cell) (let e : length (zones_at left cell) ≡ length (tables_at left cell) = length-map (tables_at left cell) (zone_of left cell) in omega arith)) b))
 
 module _ (places : Places) (left : StoreView) (left_is : IsStore left) (cell : Cell) (proper : IsCellOf left.shape left.period cell) (right : StoreView) (cutters : List ZoneView) (are : AreCutters places left cell right cutters)
@@ -114,15 +114,15 @@ module _ (places : Places) (left : StoreView) (left_is : IsStore left) (cell : C
         | inr k ↦ inr (record { zone = s.zone; listed = k; inside = s.inside })
       ]
 
-  module _ (cap high : ℕ) (reach : SidesHaveReach left right high) (start out new : StoreView) (shape : out.shape ≡ left.shape) (g : IsGathering (IsSparedIn places left cell right) (IsBehindZone (zones_at left cell) i) cap (high + 2 * left.period) start out) where
-    pub spared_more : IsAdded (IsUncut z cutters (take out.shape.texts cell.texts)) cap (greatest_reach (z ∷ cutters) + z.period) out new → IsGathering (IsSparedIn places left cell right) (IsBehindZone (zones_at left cell) (i + 1)) cap (high + 2 * left.period) start new
+  module _ (cap high : ℕ) (reach : SidesHaveReach left right high) (start out new : StoreView) (shape : out.shape ≡ left.shape) (g : IsGathering (IsSparedIn places left cell right) (IsAfterZone (zones_at left cell) i) cap (high + 2 * left.period) start out) where
+    pub spared_more : IsAdded (IsUncut z cutters (take out.shape.texts cell.texts)) cap (greatest_reach (z ∷ cutters) + z.period) out new → IsGathering (IsSparedIn places left cell right) (IsAfterZone (zones_at left cell) (i + 1)) cap (high + 2 * left.period) start new
     spared_more a =
-        gathering_more (IsSparedIn places left cell right) cap (high + 2 * left.period) start (IsBehindZone (zones_at left cell) i) (IsBehindZone (zones_at left cell) (i + 1)) (IsUncut z cutters (take left.shape.texts cell.texts)) (greatest_reach (z ∷ cutters) + z.period) out new g (left_reach high reach) left_to left_from
+        gathering_more (IsSparedIn places left cell right) cap (high + 2 * left.period) start (IsAfterZone (zones_at left cell) i) (IsAfterZone (zones_at left cell) (i + 1)) (IsUncut z cutters (take left.shape.texts cell.texts)) (greatest_reach (z ∷ cutters) + z.period) out new g (left_reach high reach) left_to left_from
         (subst (λ (q : Shape). IsAdded (IsUncut z cutters (take q.texts cell.texts)) cap (greatest_reach (z ∷ cutters) + z.period) out new) shape a)
 
     pub spared_refused : IsRefused (IsUncut z cutters (take out.shape.texts cell.texts)) cap (greatest_reach (z ∷ cutters) + z.period) out new → IsRefused (IsSparedIn places left cell right) cap (high + 2 * left.period) start new
     spared_refused a =
-        gathering_refused (IsSparedIn places left cell right) cap (high + 2 * left.period) start (IsBehindZone (zones_at left cell) i) (IsUncut z cutters (take left.shape.texts cell.texts)) (greatest_reach (z ∷ cutters) + z.period) out new g (left_reach high reach) left_to
+        gathering_refused (IsSparedIn places left cell right) cap (high + 2 * left.period) start (IsAfterZone (zones_at left cell) i) (IsUncut z cutters (take left.shape.texts cell.texts)) (greatest_reach (z ∷ cutters) + z.period) out new g (left_reach high reach) left_to
         (subst (λ (q : Shape). IsRefused (IsUncut z cutters (take q.texts cell.texts)) cap (greatest_reach (z ∷ cutters) + z.period) out new) shape a)
 
 -- ---- the cells of a store

@@ -17,7 +17,7 @@ use Rattle.lrp_minus.proofs.CutterLaws.{read_at, read_columns, read_period, read
 use Rattle.lrp_minus.proofs.DifferenceLaws.{can_cut}
 use Rattle.lrp_tables.proofs.Gathering.{IsGathering, gathering_more, gathering_refused}
 use Rattle.lrp_cutting.proofs.Lists.{in_cons}
-use Rattle.lrp_minus.proofs.SparedLaws.{IsBehindZone}
+use Rattle.lrp_minus.proofs.SparedLaws.{IsAfterZone}
 
 module _ (places : Places) (left : StoreView) (left_is : IsStore left) (cell : Cell) (proper : IsCellOf left.shape left.period cell) (right : StoreView) (k : ℕ) (can : CanSubtract places left right k)
     (i : ℕ) (z : ZoneView) (e : slice_get (zones_at left cell) i ≡ Some z) where
@@ -61,11 +61,11 @@ module _ (places : Places) (left : StoreView) (left_is : IsStore left) (cell : C
           | inr l ↦ inr (record { zone = s.zone; listed = l; inside = s.inside })
         ]
 
-    module _ (cap high : ℕ) (start new : StoreView) (g : IsGathering (IsSparedIn places left cell right) (IsBehindZone (zones_at left cell) i) cap (high + 2 * k) start out) where
-      pub taken_more : IsAdded (IsLeftOf places z (take out.shape.texts cell.texts) right) cap (high + 2 * out.period) out new → IsGathering (IsSparedIn places left cell right) (IsBehindZone (zones_at left cell) (i + 1)) cap (high + 2 * k) start new
-      taken_more a = gathering_more (IsSparedIn places left cell right) cap (high + 2 * k) start (IsBehindZone (zones_at left cell) i) (IsBehindZone (zones_at left cell) (i + 1)) Left (high + 2 * out.period) out new g (omega arith) left_to left_from
+    module _ (cap high : ℕ) (start new : StoreView) (g : IsGathering (IsSparedIn places left cell right) (IsAfterZone (zones_at left cell) i) cap (high + 2 * k) start out) where
+      pub taken_more : IsAdded (IsLeftOf places z (take out.shape.texts cell.texts) right) cap (high + 2 * out.period) out new → IsGathering (IsSparedIn places left cell right) (IsAfterZone (zones_at left cell) (i + 1)) cap (high + 2 * k) start new
+      taken_more a = gathering_more (IsSparedIn places left cell right) cap (high + 2 * k) start (IsAfterZone (zones_at left cell) i) (IsAfterZone (zones_at left cell) (i + 1)) Left (high + 2 * out.period) out new g (omega arith) left_to left_from
           (subst (λ (q : Shape). IsAdded (IsLeftOf places z (take q.texts cell.texts) right) cap (high + 2 * out.period) out new) shape a)
 
       pub taken_refused : IsRefused (IsLeftOf places z (take out.shape.texts cell.texts) right) cap (high + 2 * out.period) out new → IsRefused (IsSparedIn places left cell right) cap (high + 2 * k) start new
-      taken_refused r = gathering_refused (IsSparedIn places left cell right) cap (high + 2 * k) start (IsBehindZone (zones_at left cell) i) Left (high + 2 * out.period) out new g (omega arith) left_to
+      taken_refused r = gathering_refused (IsSparedIn places left cell right) cap (high + 2 * k) start (IsAfterZone (zones_at left cell) i) Left (high + 2 * out.period) out new g (omega arith) left_to
           (subst (λ (q : Shape). IsRefused (IsLeftOf places z (take q.texts cell.texts) right) cap (high + 2 * out.period) out new) shape r)

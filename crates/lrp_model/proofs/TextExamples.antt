@@ -22,7 +22,7 @@ use Rattle.lrp_model.specs.declared.faults.QueryKind.{QueryKind}
 use Rattle.lrp_model.specs.declared.faults.QueryKind.TheVariants.{Sort as WrongSort, Arity, Rebound, UnknownSort}
 use Rattle.lrp_model.specs.Tokens.{Token, Placed, Tokens, Spells}
 use Rattle.lrp_model.specs.Tokens.Token.{name_token, word_token, symbol_token, end_token}
-use Rattle.lrp_model.specs.Lexing.{tokens, tokens_from, after, skip, run, behind_run, word_or_name, text_from, symbol_from, scan, scan_in, symbol_in, tokens_in_from}
+use Rattle.lrp_model.specs.Lexing.{tokens, tokens_from, after, skip, run, after_run, word_or_name, text_from, symbol_from, scan, scan_in, symbol_in, tokens_in_from}
 use Rattle.lrp_model.specs.Refused.{TextOf}
 use Rattle.lrp_model.specs.Databases.{database_text, FitsDatabase}
 use Rattle.lrp_model.specs.DatabaseReading.{IsDatabase, IsNoDatabaseText, HasDatabaseFault}
@@ -65,7 +65,7 @@ rows_tree =
     } ∷ []
 
 rows_spelled : Spells (database_text rows_tree) (tokens rows_bytes)
-unfolding tokens_in_from after skip run behind_run word_or_name text_from symbol_in scan_in lib.Utf8.encode
+unfolding tokens_in_from after skip run after_run word_or_name text_from symbol_in scan_in lib.Utf8.encode
 rows_spelled = (refl, ((refl, refl), (refl, ((refl, refl), (refl, ((refl, refl), (refl, ((refl, refl), (refl, ((refl, refl), (refl, (refl, ((refl, refl), ((refl, refl), (refl, ((refl, refl), (refl, (refl, ((refl, refl), ((refl, refl), (refl, (refl, (refl, (refl, (refl, ((refl, refl), (refl, (refl, ((refl, refl), (refl, (refl, (refl, (refl, (refl, refl))))))))))))))))))))))))))))))))))
 
 -- the instant 480 is the point 0+1n with its two bounds
@@ -86,7 +86,7 @@ rows_read = record {
 
 -- a second column of one name
 pub twice_named : HasDatabaseFault (codes "relation a(t: time, t: data) { }") (record { kind = Name; place = place 21 })
-unfolding tokens_in_from after skip run behind_run word_or_name text_from symbol_in scan_in lib.Utf8.encode
+unfolding tokens_in_from after skip run after_run word_or_name text_from symbol_in scan_in lib.Utf8.encode
 twice_named = record {
   tree = record { name = here 10 (codes "a"); columns = column (codes "t") 12 Time 15 ∷ column (codes "t") 21 Data 24 ∷ []; rows = [] } ∷ [];
   text = record { utf8 = (codes "relation a(t: time, t: data) { }", (refl, refl)); spelled = (refl, ((refl, refl), (refl, ((refl, refl), (refl, ((refl, refl), (refl, ((refl, refl), (refl, ((refl, refl), (refl, (refl, (refl, (refl, refl)))))))))))))); lawful = (tt, tt) };
@@ -95,7 +95,7 @@ twice_named = record {
 
 -- a bound on a column that is none of times
 pub bound_on_data : HasDatabaseFault (codes "relation a(t: time, l: data) { (1, \"x\") where l <= t + 3; }") (record { kind = Column; place = place 47 })
-unfolding tokens_in_from after skip run behind_run word_or_name text_from symbol_in scan_in lib.Utf8.encode
+unfolding tokens_in_from after skip run after_run word_or_name text_from symbol_in scan_in lib.Utf8.encode
 bound_on_data = record {
   tree = record {
     name = here 10 (codes "a");
@@ -127,7 +127,7 @@ no_end lawful other t = none_of t.0 t.2
 
 -- a lawful text begins with the word `relation`
 pub ended : IsNoDatabaseText (codes "relation") syntax (place 9)
-unfolding tokens_in_from after skip run behind_run word_or_name text_from symbol_in scan_in lib.Utf8.encode
+unfolding tokens_in_from after skip run after_run word_or_name text_from symbol_in scan_in lib.Utf8.encode
 ended = record {
   utf8 = (codes "relation", (refl, refl));
   bad = end_at_9;
@@ -170,7 +170,7 @@ term at t = here at (argument t)
 
 -- the data variable stands in a time column, before the unknown relation
 pub sort_of_a_term : HasSortFault bus (codes "{ d: data | (bus(d) and tram(d)) }") WrongSort (place 18)
-unfolding tokens_in_from after skip run behind_run word_or_name text_from symbol_in scan_in lib.Utf8.encode
+unfolding tokens_in_from after skip run after_run word_or_name text_from symbol_in scan_in lib.Utf8.encode
 sort_of_a_term = record {
   tree = record { head = column (codes "d") 3 Data 6 ∷ []; body = all_of (place 13) (atom_formula (place 14) (codes "bus") (term 18 (variable (codes "d")) ∷ [])) (last (atom_formula (place 25) (codes "tram") (term 30 (variable (codes "d")) ∷ []))); formula = tt };
   text = record { utf8 = (codes "{ d: data | (bus(d) and tram(d)) }", (refl, refl)); spelled = (refl, ((refl, refl), (refl, ((refl, refl), (refl, ((refl, refl), ((refl, refl), (refl, ((refl, refl), (refl, (refl, ((refl, refl), (refl, ((refl, refl), (refl, (refl, (refl, (refl, refl)))))))))))))))))); lawful = record { sizes = ((tt, tt), (tt, tt)); depth = (tt, tt) } };
@@ -179,7 +179,7 @@ sort_of_a_term = record {
 
 -- the name of the head is bound again
 pub bound_twice : HasSortFault bus (codes "{ t: time | exists t: time bus(t, t) }") Rebound (place 20)
-unfolding tokens_in_from after skip run behind_run word_or_name text_from symbol_in scan_in lib.Utf8.encode
+unfolding tokens_in_from after skip run after_run word_or_name text_from symbol_in scan_in lib.Utf8.encode
 bound_twice = record {
   tree = record { head = column (codes "t") 3 Time 6 ∷ []; body = some (place 13) (column (codes "t") 20 Time 23) (atom_formula (place 28) (codes "bus") (term 32 (variable (codes "t")) ∷ term 35 (variable (codes "t")) ∷ [])); formula = tt };
   text = record { utf8 = (codes "{ t: time | exists t: time bus(t, t) }", (refl, refl)); spelled = (refl, ((refl, refl), (refl, ((refl, refl), (refl, ((refl, refl), ((refl, refl), (refl, ((refl, refl), ((refl, refl), (refl, ((refl, refl), (refl, ((refl, refl), (refl, (refl, (refl, refl))))))))))))))))); lawful = record { sizes = (tt, (tt, tt)); depth = tt } };
@@ -188,7 +188,7 @@ bound_twice = record {
 
 -- too many terms, before the unbound variable
 pub terms_too_many : HasSortFault bus (codes "{ t: time | bus(t, x) }") Arity (place 13)
-unfolding tokens_in_from after skip run behind_run word_or_name text_from symbol_in scan_in lib.Utf8.encode
+unfolding tokens_in_from after skip run after_run word_or_name text_from symbol_in scan_in lib.Utf8.encode
 terms_too_many = record {
   tree = record { head = column (codes "t") 3 Time 6 ∷ []; body = atom_formula (place 13) (codes "bus") (term 17 (variable (codes "t")) ∷ term 20 (variable (codes "x")) ∷ []); formula = tt };
   text = record { utf8 = (codes "{ t: time | bus(t, x) }", (refl, refl)); spelled = (refl, ((refl, refl), (refl, ((refl, refl), (refl, ((refl, refl), (refl, ((refl, refl), (refl, ((refl, refl), (refl, (refl, (refl, refl))))))))))))); lawful = record { sizes = (tt, (tt, tt)); depth = tt } };
@@ -197,7 +197,7 @@ terms_too_many = record {
 
 -- a variable of sort line in a column of sort city; the text before it has any data sort
 pub lines_and_cities : HasSortFault trip (codes "{ l: line | exists t: time trip(t, \"x\", l) }") WrongSort (place 41)
-unfolding tokens_in_from after skip run behind_run word_or_name text_from symbol_in scan_in lib.Utf8.encode
+unfolding tokens_in_from after skip run after_run word_or_name text_from symbol_in scan_in lib.Utf8.encode
 lines_and_cities = record {
   tree = record { head = column (codes "l") 3 (Named (codes "line")) 6 ∷ []; body = some (place 13) (column (codes "t") 20 Time 23) (atom_formula (place 28) (codes "trip") (term 33 (variable (codes "t")) ∷ term 36 (text_term (codes "x")) ∷ term 41 (variable (codes "l")) ∷ [])); formula = tt };
   text = record { utf8 = (codes "{ l: line | exists t: time trip(t, \"x\", l) }", (refl, refl)); spelled = (refl, ((refl, refl), (refl, ((refl, refl), (refl, ((refl, refl), ((refl, refl), (refl, ((refl, refl), ((refl, refl), (refl, ((refl, refl), (refl, ((refl, refl), (refl, ((refl, refl), (refl, (refl, (refl, refl))))))))))))))))))); lawful = record { sizes = (tt, (omega arith, (tt, tt))); depth = tt } };
@@ -206,7 +206,7 @@ lines_and_cities = record {
 
 -- no column has the sort lime
 pub limes : HasSortFault trip (codes "{ l: lime | l = l }") UnknownSort (place 6)
-unfolding tokens_in_from after skip run behind_run word_or_name text_from symbol_in scan_in lib.Utf8.encode
+unfolding tokens_in_from after skip run after_run word_or_name text_from symbol_in scan_in lib.Utf8.encode
 limes = record {
   tree = record { head = column (codes "l") 3 (Named (codes "lime")) 6 ∷ []; body = compared (name 13 (codes "l")) Eq (name 17 (codes "l")); formula = tt };
   text = record { utf8 = (codes "{ l: lime | l = l }", (refl, refl)); spelled = (refl, ((refl, refl), (refl, ((refl, refl), (refl, ((refl, refl), (refl, ((refl, refl), (refl, (refl, refl)))))))))); lawful = record { sizes = (tt, tt); depth = tt } };

@@ -36,12 +36,12 @@ after p [] = p
 after p (b ∷ bs) = after (moved p b) bs
 
 -- the bytes that are left, and the place where they begin
-pub record At : Type 0 where
+pub record Remainder : Type 0 where
   pub place : Place
   pub bytes : List ℕ
 
 -- after blanks and comments; the flag says that a comment has begun
-unfoldable pub skip : Bool → Place → List ℕ → At
+unfoldable pub skip : Bool → Place → List ℕ → Remainder
 skip comment p [] = record { place = p; bytes = [] }
 skip true p (b ∷ bs) = if b == 10 then skip false (moved p b) bs else skip true (moved p b) bs
 skip false p (b ∷ bs) = if b == 35 then skip true (moved p b) bs else if is_blank b then skip false (moved p b) bs else record { place = p; bytes = b ∷ bs }
@@ -52,9 +52,9 @@ run test [] = []
 run test (b ∷ bs) = if test b then b ∷ run test bs else []
 
 -- the bytes after that run
-unfoldable pub behind_run : (ℕ → Bool) → List ℕ → List ℕ
-behind_run test [] = []
-behind_run test (b ∷ bs) = if test b then behind_run test bs else b ∷ bs
+unfoldable pub after_run : (ℕ → Bool) → List ℕ → List ℕ
+after_run test [] = []
+after_run test (b ∷ bs) = if test b then after_run test bs else b ∷ bs
 
 -- a token, the bytes that it takes, and those after it; at a bad byte, the bytes before it
 pub record Scanned : Type 0 where
@@ -151,8 +151,8 @@ symbol_in wide b bs =
 unfoldable pub scan_in : Bool → List ℕ → Scanned
 scan_in wide [] = record { token = end_token; taken = []; left = [] }
 scan_in wide (b ∷ bs) =
-    if is_letter b then record { token = word_or_name (run is_name_byte (b ∷ bs)); taken = run is_name_byte (b ∷ bs); left = behind_run is_name_byte (b ∷ bs) } else
-    if is_ascii_digit b then record { token = number_token (digits_value 10 (run is_ascii_digit (b ∷ bs))); taken = run is_ascii_digit (b ∷ bs); left = behind_run is_ascii_digit (b ∷ bs) } else
+    if is_letter b then record { token = word_or_name (run is_name_byte (b ∷ bs)); taken = run is_name_byte (b ∷ bs); left = after_run is_name_byte (b ∷ bs) } else
+    if is_ascii_digit b then record { token = number_token (digits_value 10 (run is_ascii_digit (b ∷ bs))); taken = run is_ascii_digit (b ∷ bs); left = after_run is_ascii_digit (b ∷ bs) } else
     if b == 34 then text_scanned (text_from false bs) else
     symbol_in wide b bs
 

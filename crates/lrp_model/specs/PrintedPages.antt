@@ -86,7 +86,7 @@ end_line true None = codes "{\"more\":null}\n"
 end_line true (Some token) = codes "{\"more\":\"" ++ (token ++ codes "\"}\n")
 
 -- the token of the last tuple, where the flag says that more is to come; a page with more to come has a last tuple
-abbrev pub token_behind : List ℕ → Bool → Option Tuple → Option (List ℕ)
-token_behind digest false last = None
-token_behind digest true None = None
-token_behind digest true (Some tuple) = Some (token_of digest tuple)
+abbrev pub token_after : List ℕ → Bool → Option Tuple → Option (List ℕ)
+token_after digest false last = None
+token_after digest true None = None
+token_after digest true (Some tuple) = Some (token_of digest tuple)

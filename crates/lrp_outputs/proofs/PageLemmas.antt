@@ -5,7 +5,7 @@ use Rattle.std.specs.List.{AllByRecursion}
 use Rattle.std.proofs.lemmas.List.{length-map, length-take-le}
 use Rattle.lrp_model.specs.Pages.{last_of}
 use Rattle.lrp_model.specs.Rows.{Tuple}
-use Rattle.lrp_model.specs.PrintedPages.{token_behind, token_of, token_text}
+use Rattle.lrp_model.specs.PrintedPages.{token_after, token_of, token_text}
 use Rattle.lrp_model.specs.Tuples.{texts_at}
 use Rattle.lrp_model.specs.declared.tuples.Spot.{Spot}
 use Rattle.lrp_store.specs.Stores.{IsStore}
@@ -45,8 +45,8 @@ pub lines_mapped : (civil json : Bool) (f : Spot → Tuple) (spots : List Spot) 
 lines_mapped civil json f [] = refl
 lines_mapped civil json f (x ∷ xs) = ap (λ bytes. line_as civil json (f x) ++ bytes) (lines_mapped civil json f xs)
 
-pub is_more : (files : List ℕ) (more : Bool) (last : Option Tuple) (tuple : Tuple) → more ≡ true → last ≡ Some tuple → token_behind files more last ≡ Some (token_of files tuple)
-is_more files more last tuple e f = ap₂ (token_behind files) e f
+pub is_more : (files : List ℕ) (more : Bool) (last : Option Tuple) (tuple : Tuple) → more ≡ true → last ≡ Some tuple → token_after files more last ≡ Some (token_of files tuple)
+is_more files more last tuple e f = ap₂ (token_after files) e f
 
 -- ---- dates
 

@@ -36,8 +36,8 @@ pub spot_prop : (a : Answer) (spot : Option Spot) → IsProp (IsKnownLeast a spo
 spot_prop a None = Unit-prop
 spot_prop a (Some spot) = numbers_prop (length a.domain) (take a.store.shape.texts spot.texts)
 
-pub leasts_prop : (a : Answer) (spots : List (Option Spot)) → IsProp (AllByRecursion (IsKnownLeast a) spots)
-leasts_prop a = AllByRecursion-prop (IsKnownLeast a) (spot_prop a)
+pub least_answers_prop : (a : Answer) (spots : List (Option Spot)) → IsProp (AllByRecursion (IsKnownLeast a) spots)
+least_answers_prop a = AllByRecursion-prop (IsKnownLeast a) (spot_prop a)
 
 times_prop : (xs : List ℤ) → IsProp (AllByRecursion IsSmall xs)
 times_prop = AllByRecursion-prop IsSmall (λ x. Prim.hlevel (le_prop))

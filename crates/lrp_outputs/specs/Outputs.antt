@@ -17,7 +17,7 @@ use Rattle.lrp_outputs.specs.RangeLines.{count_line, ranges_bytes}
 use Rattle.lrp_outputs.specs.declared.output.Output.{Output}
 use Rattle.lrp_outputs.specs.declared.output.Output.TheVariants as output
 use Rattle.lrp_outputs.specs.declared.refusal.Refusal.{Refusal}
-use Rattle.lrp_outputs.specs.declared.leasts.Leasts.{Leasts}
+use Rattle.lrp_outputs.specs.declared.leasts.LeastAnswers.{LeastAnswers}
 use Rattle.lrp_outputs.specs.declared.page.Page.{Page}
 use Rattle.lrp_outputs.specs.declared.ranges.RangeLines.{RangeLines}
 use Rattle.lrp_outputs.specs.declared.report.Report.{Report}
@@ -48,8 +48,8 @@ abbrev pub ranges_text : RangeLines → List ℕ
 ranges_text lines = ranges_bytes lines.civil lines.json lines.found.ranges lines.found.more
 
 -- the lines of the least answers
-abbrev pub leasts_text : Leasts → List ℕ
-leasts_text l = flat_map (λ least. first_line (option_map (answer_tuple l.answer) least)) l.spots
+abbrev pub least_answers_text : LeastAnswers → List ℕ
+least_answers_text l = flat_map (λ least. first_line (option_map (answer_tuple l.answer) least)) l.spots
 
 -- of each output
 abbrev pub output_text : Output → List ℕ
@@ -60,7 +60,7 @@ output_text (output.Witness w) = witness_text w
 output_text (output.Page page) = page_text page
 output_text (output.Count number) = count_line number
 output_text (output.Ranges lines) = ranges_text lines
-output_text (output.Leasts leasts) = leasts_text leasts
+output_text (output.LeastAnswers leasts) = least_answers_text leasts
 output_text (output.Lint lint) = report_text lint
 output_text (output.Sample report) = sample_text report
 

@@ -1,6 +1,6 @@
 // The least answers of a query as they are written.
 ghost use Rattle.std.specs.List.{AllByRecursion};
-ghost use Rattle.lrp_outputs.specs.Carried.{leasts_prop};
+ghost use Rattle.lrp_outputs.specs.Carried.{least_answers_prop};
 ghost use Rattle.lrp_outputs.specs.Spots.{IsKnownLeast};
 
 use crate::first::write_first;
@@ -10,16 +10,16 @@ use lrp_model::{List, Spot};
 
 /// The least answers of one query over some databases, one after the other, by the numbers of one answer's domain.
 #[derive(Drop)]
-pub struct Leasts {
+pub struct LeastAnswers {
     pub answer: Answer,
     pub spots: List<Option<Spot>>,
-    ghost known: { AllByRecursion (IsKnownLeast answer) spots } by { leasts_prop answer spots },
+    ghost known: { AllByRecursion (IsKnownLeast answer) spots } by { least_answers_prop answer spots },
 }
 
-impl Text for Leasts {
-    ghost use Rattle.lrp_outputs.specs.Outputs.{leasts_text};
+impl Text for LeastAnswers {
+    ghost use Rattle.lrp_outputs.specs.Outputs.{least_answers_text};
 
-    ghost text = { λ l. leasts_text l };
+    ghost text = { λ l. least_answers_text l };
 
     fn write_to<S: Sink>(&self, out: &mut S) -> Result<(), Failed> {
         let spots = self.spots.as_slice();

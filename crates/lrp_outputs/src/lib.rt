@@ -23,7 +23,7 @@ mod writing;
 pub use answer::WholeAnswer;
 pub use head::HeadNeed;
 pub use laws::{small_answers_have_room, spots_stand_for_tuples};
-pub use leasts::Leasts;
+pub use leasts::LeastAnswers;
 pub use output::Output;
 pub use page::Page;
 pub use plan::WritablePlan;

@@ -5,7 +5,7 @@ ghost use Rattle.lrp_io.specs.Causes.{HasCause};
 ghost use Rattle.lrp_io.specs.Pieces.{IsWritten};
 ghost use Rattle.lrp_answer_text.specs.Lines.{is_json};
 ghost use Rattle.lrp_model.specs.Pages.{last_of};
-ghost use Rattle.lrp_model.specs.PrintedPages.{end_line, token_behind, token_of};
+ghost use Rattle.lrp_model.specs.PrintedPages.{end_line, token_after, token_of};
 ghost use Rattle.lrp_outputs.specs.Known.{HaveCivilTimes, IsKnownSpot};
 ghost use Rattle.lrp_outputs.specs.Spots.{answer_tuple};
 ghost use Rattle.lrp_outputs.specs.Outputs.{page_text};
@@ -62,7 +62,7 @@ fn write_spot<S: Sink>(out: &mut S, page: &Page, spot: &Spot) -> Result<(), Fail
 fn write_end<S: Sink>(out: &mut S, page: &Page) -> Result<(), Failed>
     ensures text { IsWritten (S.written out.old) (S.written out.new)
         (end_line (is_json page.now.form)
-        (token_behind page.now.files page.now.more
+        (token_after page.now.files page.now.more
         (last_of (map (answer_tuple page.now.answer) page.now.spots)))) result }
     ensures cause { HasCause (S.faults out.old) (S.faults out.new) result }
 {
@@ -108,17 +108,17 @@ fn write_between<S: Sink>(
     before: &[u8],
     page: &Page,
     last: &Spot,
-    behind: &[u8],
+    after: &[u8],
 ) -> Result<(), Failed>
     requires { IsKnownSpot page.now.answer last.now }
     ensures text { IsWritten (S.written out.old) (S.written out.new)
         (before.now ++ (token_of page.now.files (answer_tuple page.now.answer last.now)
-        ++ behind.now)) result }
+        ++ after.now)) result }
     ensures cause { HasCause (S.faults out.old) (S.faults out.new) result }
 {
     write_bytes(out, before)?;
     write_last(out, page, last)?;
-    write_bytes(out, behind)
+    write_bytes(out, after)
 }
 
 /// The token of a spot.

@@ -1,6 +1,6 @@
 // What a command writes.
 use crate::answer::WholeAnswer;
-use crate::leasts::Leasts;
+use crate::leasts::LeastAnswers;
 use crate::page::Page;
 use crate::plan::WritablePlan;
 use crate::ranges::RangeLines;
@@ -26,7 +26,7 @@ pub enum Output {
     /// The answers of a query in a window, as ranges.
     Ranges(RangeLines),
     /// The least answers of a query while rows are added and taken out.
-    Leasts(Leasts),
+    LeastAnswers(LeastAnswers),
     /// What is silently wrong in a database, and in a query over it.
     Lint(LintReport),
     /// What is told of the sample.
@@ -44,7 +44,7 @@ impl Drop for Output {
             Output::Page(page) => drop(page),
             Output::Count(_) => {}
             Output::Ranges(lines) => drop(lines),
-            Output::Leasts(leasts) => drop(leasts),
+            Output::LeastAnswers(leasts) => drop(leasts),
             Output::Lint(lint) => drop(lint),
             Output::Sample(report) => drop(report),
         }

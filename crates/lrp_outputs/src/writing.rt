@@ -31,7 +31,7 @@ pub fn write_outcome<S: Sink>(out: &mut S, outcome: &Result<Output, Refusal>) ->
         Ok(Output::Page(page)) => write_buffered(out, page),
         Ok(Output::Count(number)) => write_number(out, *number),
         Ok(Output::Ranges(lines)) => write_buffered(out, lines),
-        Ok(Output::Leasts(leasts)) => write_buffered(out, leasts),
+        Ok(Output::LeastAnswers(leasts)) => write_buffered(out, leasts),
         Ok(Output::Lint(lint)) => write_buffered(out, lint),
         Ok(Output::Sample(report)) => write_buffered(out, report),
         Err(refusal) => write_refusal(out, refusal),

@@ -167,9 +167,9 @@ no_rest : (xs : List Piece) → xs ++ [] ≡ xs
 no_rest [] = refl
 no_rest (x ∷ xs) = ap (λ ys. x ∷ ys) (no_rest xs)
 
-in_behind : (xs ys : List Piece) (y : Piece) → Contains ys y → Contains (xs ++ ys) y
-in_behind [] ys y h = h
-in_behind (x ∷ xs) ys y h = later_in x y (xs ++ ys) (in_behind xs ys y h)
+in_after : (xs ys : List Piece) (y : Piece) → Contains ys y → Contains (xs ++ ys) y
+in_after [] ys y h = h
+in_after (x ∷ xs) ys y h = later_in x y (xs ++ ys) (in_after xs ys y h)
 
 some_list : (o : Option (List Table)) (t : Table) → Contains (unwrap_or o []) t → IsSome o
 some_list None t h = absurd (none_in t h)
@@ -194,7 +194,7 @@ module _ (s : StoreView) where
   -- a piece that is left is full size
   pub sizes_of : IsStore s → (list rest : List Piece) (piece : Piece) (zs : List CellZone) → list ≡ piece ∷ rest → IsPacking s list zs → IsFullSize piece.cell piece.zone.bounds
   sizes_of valid list rest piece zs e p =
-      let is = p.are.each piece (in_behind p.done list piece (subst (λ l. Contains l piece) (sym e) (first_in piece rest))) in
+      let is = p.are.each piece (in_after p.done list piece (subst (λ l. Contains l piece) (sym e) (first_in piece rest))) in
       let cell = cell_held s valid piece.cell is.table is.held in
       record {
         texts = cell.texts.size;

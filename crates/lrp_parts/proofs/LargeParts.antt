@@ -25,7 +25,7 @@ use Rattle.lrp_kept.specs.declared.disjuncts.Disjunct.{Disjunct}
 use Rattle.lrp_kept.specs.declared.disjuncts.JoinedAtom.{JoinedAtom}
 use Rattle.lrp_kept.specs.declared.rows.HeldRows.{HeldRows}
 use Rattle.lrp_kept.specs.declared.rows.HeldRow.{HeldRow}
-use Rattle.lrp_parts.proofs.Behind.{in_kept, kept_test, own_tests, own_texts, own_times, rises, some_terms}
+use Rattle.lrp_parts.proofs.After.{in_kept, kept_test, own_tests, own_texts, own_times, rises, some_terms}
 use Rattle.lrp_parts.proofs.Narrow.{some_times}
 use Rattle.lrp_kept.proofs.PartVariables.{IsNamed, covered_from, covered_to, in_named, named_in, term_named, text_named, time_named}
 use Rattle.lrp_kept.proofs.SameCells.{many_there}
@@ -97,8 +97,8 @@ module _ (names : List Identifier) (f : Form) (d : Disjunct) (is : IsDisjunctOf 
       let a = from_flat (λ (x : Atom). flat_map variables_of_term x.terms) front v i in
       let z = zip_find (IsAtomOf names) front joined a.0 zipped a.1 in
       let le : z.0 ≤ count - 1 = (let l : z.0 < length joined = z.3 in let m : length joined ≤ count = small count d.atoms.items in omega (arith, l, m)) in
-      let behind = rises d.tests [] [] joined up z.0 (count - 1) z.1 b le z.2 last_at in
-      by v z.0 z.1 z.2 behind.times behind.texts (term_named z.1.terms v (subst (λ ts. Contains (flat_map variables_of_term ts) v) (sym z.4.terms) a.2))
+      let after = rises d.tests [] [] joined up z.0 (count - 1) z.1 b le z.2 last_at in
+      by v z.0 z.1 z.2 after.times after.texts (term_named z.1.terms v (subst (λ ts. Contains (flat_map variables_of_term ts) v) (sym z.4.terms) a.2))
     where
       by : (v : Variable) (i : ℕ) (j : JoinedAtom) → slice_get joined i ≡ Some j → (more : List Identifier) × (b.vars.times ≡ j.vars.times ++ more) → (more : List Identifier) × (b.vars.texts ≡ j.vars.texts ++ more) → IsNamed (flat_map times_of_term j.terms) (flat_map texts_of_term j.terms) v → IsNamed b.vars.times b.vars.texts v
       by (time_variable n) i j e t x h = subst (λ ns. Contains ns n) (sym t.1) (in_left j.vars.times t.0 n (own_times d.tests [] [] joined up i j e n h))

@@ -4,7 +4,7 @@ pub mod Both
 pub mod Conjoined
 pub mod Parted
 pub mod Growing
-pub mod Behind
+pub mod After
 pub mod Extended
 pub mod Without
 pub mod Added

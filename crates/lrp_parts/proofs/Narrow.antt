@@ -30,7 +30,7 @@ use Rattle.lrp_kept.specs.Disjuncts.{AreJoined, IsAtomOf, IsDisjunctOf, bound_co
 use Rattle.lrp_kept.specs.KeptForm.{bound_variables, kept_elements, is_neither, some_passes}
 use Rattle.lrp_kept.specs.declared.disjuncts.Disjunct.{Disjunct}
 use Rattle.lrp_kept.specs.declared.disjuncts.JoinedAtom.{JoinedAtom}
-use Rattle.lrp_parts.proofs.Behind.{in_kept, own_tests, own_texts, own_times, some_terms}
+use Rattle.lrp_parts.proofs.After.{in_kept, own_tests, own_texts, own_times, some_terms}
 use Rattle.lrp_kept.proofs.DisjunctAtoms.{atoms_are}
 use Rattle.lrp_kept.proofs.PartVariables.{found_name, text_named, time_named}
 use Rattle.lrp_holdings.proofs.Chained.{some_is}

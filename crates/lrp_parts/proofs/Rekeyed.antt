@@ -6,7 +6,7 @@ use Rattle.lrp_plan_laws.proofs.Members.{in_left, in_right, in_one}
 use Rattle.lrp_zone.proofs.Cases.{eq_or}
 use Rattle.lrp_parts.specs.Derivations.{Ground, IsLastKey, IsWithoutKey}
 use Rattle.lrp_kept.specs.Keys.{keys_in, keys_of}
-use Rattle.lrp_kept.specs.Keyed.{AreHeldRows, AreRelisted, IsHeldBehind, IsLetGoAt, HaveOwnKeys}
+use Rattle.lrp_kept.specs.Keyed.{AreHeldRows, AreRelisted, IsHeldAfter, IsLetGoAt, HaveOwnKeys}
 use Rattle.lrp_kept.specs.declared.rows.HeldRows.{HeldRows}
 use Rattle.lrp_kept.specs.declared.rows.HeldRow.{HeldRow}
 use Rattle.lrp_parts.proofs.Without.{with_rows}
@@ -59,7 +59,7 @@ module _ (number : ℕ) (keys : List ℕ) (old new : HeldRows) (x : AreRelisted 
 
 -- ---- a row more
 
-module _ (source : HeldRow) (key : ℕ) (old new : HeldRows) (low : source.relation < length old.relations.items) (rows : AreHeldRows old) (w : IsHeldBehind source key old new) where
+module _ (source : HeldRow) (key : ℕ) (old new : HeldRows) (low : source.relation < length old.relations.items) (rows : AreHeldRows old) (w : IsHeldAfter source key old new) where
   abbrev own : ℕ
   own = source.relation
 

@@ -165,9 +165,9 @@ module _ (g : Ground) (others : HeldRows) (key : ℕ) (w : IsWithoutKey g.rows o
         by : HasChoicesBut g d key → (keys : List ℕ) → AreKeysBut g d key keys → ((env : Assignment) → IsOfPart (with_rows g others) d keys env → IsHeldFor levels keys) × (HasManyKeyedCells (with_rows g others) d keys → ⊥)
         by some [] k = absurd (let l : 0 < 0 = k.some in omega (arith, l))
         by some (first ∷ more) k =
-            let behind = h.whole (choices_from d.atoms.items some) first in
+            let afterwards = h.whole (choices_from d.atoms.items some) first in
             let rows = keys_from d.atoms.items (first ∷ more) k.rows k.none in
-            (behind.held more rows, behind.few more rows)
+            (afterwards.held more rows, afterwards.few more rows)
 
     -- where the row goes, what is held for it goes
     pub derived_after : (after : Levels) → AreReleased key levels after → IsDerivedBut g d key levels → IsDerivedFrom (with_rows g others) d after
@@ -206,4 +206,4 @@ derived_but g d key levels h = record {
   where
     by : HasChoicesBut g d key → (keys : List ℕ) → AreKeysBut g d key keys → ((env : Assignment) → IsOfPart g d keys env → IsHeldFor levels keys) × (HasManyKeyedCells g d keys → ⊥)
     by some [] k = absurd (let l : 0 < 0 = k.some in omega (arith, l))
-    by some (first ∷ more) k = let behind = h.whole (some_but g key d.atoms.items some) first in (behind.held more k.rows, behind.few more k.rows)
+    by some (first ∷ more) k = let afterwards = h.whole (some_but g key d.atoms.items some) first in (afterwards.held more k.rows, afterwards.few more k.rows)

@@ -15,7 +15,7 @@ use Rattle.lrp_tables.specs.declared.table.Table.{Table}
 use Rattle.lrp_tables.specs.Caps.{InhabitsMoreThan}
 use Rattle.lrp_tables.specs.Columns.{joint}
 use Rattle.lrp_tables.specs.Steps.{CanUnite, IsUnionResult}
-use Rattle.lrp_tables.specs.Tables.{Has, HasTexts, IsTableOf, IsUnited}
+use Rattle.lrp_tables.specs.Tables.{HasAssignment, HasTexts, IsTableOf, IsUnited}
 use Rattle.lrp_tables.proofs.TableLaws.{table_texts}
 use Rattle.lrp_algebra.proofs.Steps.{farther}
 use Rattle.lrp_periods.specs.Combining.{IsNothingOver}
@@ -98,11 +98,11 @@ module _ {domain : List Text} {period : ℤ} {parts : List Table} (cap : ℕ) (c
       to : (env : Assignment) → IsUnited domain made part env → HasSome domain (take n parts ++ part ∷ []) env
       to env h = ⊎_elim (λ a. some_left domain (take n parts) (part ∷ []) env (w.is.sound env a)) (λ b. some_last domain (take n parts) part env b) h.has
 
-      known : (env : Assignment) → Has made domain env ⊎ Has part domain env → HasTexts domain (joint made.vars.texts part.vars.texts) env
+      known : (env : Assignment) → HasAssignment made domain env ⊎ HasAssignment part domain env → HasTexts domain (joint made.vars.texts part.vars.texts) env
       known env h = subst (λ ns. HasTexts domain ns env) (sym (joint_texts made part w.valid times_same texts_same)) (⊎_elim (λ a. table_texts domain made env a) (λ b. subst (λ ns. HasTexts domain ns env) texts_same (table_texts domain part env b)) h)
 
       from : (env : Assignment) → HasSome domain (take n parts ++ part ∷ []) env → IsUnited domain made part env
-      from env h = let either : Has made domain env ⊎ Has part domain env = ⊎_elim (λ a. inl (w.is.whole env a)) (λ b. inr b) (some_split domain (take n parts) part env h) in record { known = known env either; has = either }
+      from env h = let either : HasAssignment made domain env ⊎ HasAssignment part domain env = ⊎_elim (λ a. inl (w.is.whole env a)) (λ b. inr b) (some_split domain (take n parts) part env h) in record { known = known env either; has = either }
 
       front : take (n + 1) parts ≡ take n parts ++ part ∷ []
       front = front_more parts n part low at

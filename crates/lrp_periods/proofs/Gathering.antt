@@ -7,7 +7,7 @@ use Rattle.lrp_theory.proofs.Members.{front_more, head_in, in_none, in_one, one_
 use Rattle.lrp_model.specs.Texts.{Identifier, Text}
 use Rattle.lrp_model.specs.Satisfaction.{Assignment}
 use Rattle.lrp_tables.specs.declared.table.Table.{Table}
-use Rattle.lrp_tables.specs.Tables.{Has}
+use Rattle.lrp_tables.specs.Tables.{HasAssignment}
 use Rattle.lrp_periods.specs.Combining.{AreAllParts, CanAddPart, IsMadeOfSome}
 use Rattle.lrp_periods.specs.declared.parts.PartsFault.{PartsFault}
 use Rattle.lrp_periods.proofs.PeriodLaws.{of_word}
@@ -18,7 +18,7 @@ Set = Assignment → Type 0
 
 -- ---- one of some tables
 
-pub in_some : (domain : List Text) (parts : List Table) (part : Table) (env : Assignment) → Contains parts part → Has part domain env → HasSome domain parts env
+pub in_some : (domain : List Text) (parts : List Table) (part : Table) (env : Assignment) → Contains parts part → HasAssignment part domain env → HasSome domain parts env
 in_some domain parts part env listed has = record { part = part; listed = listed; has = has }
 
 pub some_none : (domain : List Text) (env : Assignment) → HasSome domain [] env → ⊥
@@ -27,13 +27,13 @@ some_none domain env h = in_none h.part h.listed
 pub some_left : (domain : List Text) (xs ys : List Table) (env : Assignment) → HasSome domain xs env → HasSome domain (xs ++ ys) env
 some_left domain xs ys env h = record { part = h.part; listed = Contains-append_left xs ys h.part h.listed; has = h.has }
 
-pub some_last : (domain : List Text) (xs : List Table) (y : Table) (env : Assignment) → Has y domain env → HasSome domain (xs ++ y ∷ []) env
+pub some_last : (domain : List Text) (xs : List Table) (y : Table) (env : Assignment) → HasAssignment y domain env → HasSome domain (xs ++ y ∷ []) env
 some_last domain xs y env h = record { part = y; listed = Contains-append_right xs (y ∷ []) y (one_in y); has = h }
 
-pub some_split : (domain : List Text) (xs : List Table) (y : Table) (env : Assignment) → HasSome domain (xs ++ y ∷ []) env → HasSome domain xs env ⊎ Has y domain env
+pub some_split : (domain : List Text) (xs : List Table) (y : Table) (env : Assignment) → HasSome domain (xs ++ y ∷ []) env → HasSome domain xs env ⊎ HasAssignment y domain env
 some_split domain xs y env h = elim (Contains-append_cases xs (y ∷ []) h.part h.listed) [
   | inl a ↦ inl (record { part = h.part; listed = a; has = h.has })
-  | inr b ↦ inr (subst (λ t. Has t domain env) (sym (in_one y h.part b)) h.has)
+  | inr b ↦ inr (subst (λ t. HasAssignment t domain env) (sym (in_one y h.part b)) h.has)
 ]
 
 -- ---- one after another
@@ -61,11 +61,11 @@ module _ {domain : List Text} {times texts : List Identifier} {period : ℤ} whe
   }
 
   -- a part that has just the assignments of a set is put to others
-  pub added_part : {set : Set} {old new : List Table} {made : Table} → IsPartOfSet domain times texts period set made → ArePartsAdded domain made.vars.times made.vars.texts period (Has made domain) old new → ArePartsAdded domain times texts period set old new
+  pub added_part : {set : Set} {old new : List Table} {made : Table} → IsPartOfSet domain times texts period set made → ArePartsAdded domain made.vars.times made.vars.texts period (HasAssignment made domain) old new → ArePartsAdded domain times texts period set old new
   added_part {set} {old} {new} {made} is a =
       added_as is.sound is.whole
-      (subst (λ ns. ArePartsAdded domain times ns period (Has made domain) old new) is.part.texts_are
-      (subst (λ ns. ArePartsAdded domain ns made.vars.texts period (Has made domain) old new) is.part.times_are a))
+      (subst (λ ns. ArePartsAdded domain times ns period (HasAssignment made domain) old new) is.part.texts_are
+      (subst (λ ns. ArePartsAdded domain ns made.vars.texts period (HasAssignment made domain) old new) is.part.times_are a))
 
   pub can_add : {set : Set} {old : List Table} {made : Table} → IsSmallPeriod period → AreAllParts domain times texts period old → IsPartOfSet domain times texts period set made → CanAddPart domain period old made
   can_add {set} {old} {made} small are is = record {
@@ -137,7 +137,7 @@ module _ {domain : List Text} {times texts : List Identifier} {period : ℤ} (ea
   put_none {new} e = subst (ArePartsAdded domain times texts period (IsMadeOfSome each (take 0 parts)) []) (sym e) (made_none each parts [] 0 refl)
 
   pub put_more : {mid new : List Table} {made : Table} (i : ℕ) (part : Table) → i < length parts → part ≡ get_or parts i part → ArePartsAdded domain times texts period (IsMadeOfSome each (take i parts)) [] mid → IsPartOfSet domain times texts period (each part) made
-      → ArePartsAdded domain made.vars.times made.vars.texts period (Has made domain) mid new → ArePartsAdded domain times texts period (IsMadeOfSome each (take (i + 1) parts)) [] new
+      → ArePartsAdded domain made.vars.times made.vars.texts period (HasAssignment made domain) mid new → ArePartsAdded domain times texts period (IsMadeOfSome each (take (i + 1) parts)) [] new
   put_more i part low at first is own = made_more each parts i part low at first (added_part is own)
 
 -- the further part can be put to those so far

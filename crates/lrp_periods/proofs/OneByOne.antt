@@ -14,7 +14,7 @@ use Rattle.lrp_tables.specs.declared.table.Table.{Table}
 use Rattle.lrp_tables.specs.Calls.{test_period}
 use Rattle.lrp_tables.specs.Columns.{head_times, head_texts, texts_of_test, times_of_test}
 use Rattle.lrp_tables.specs.Steps.{CanSelect}
-use Rattle.lrp_tables.specs.Tables.{AreNamesAmong, Has, IsExtended, IsSelected, IsTableOf}
+use Rattle.lrp_tables.specs.Tables.{AreNamesAmong, HasAssignment, IsExtended, IsSelected, IsTableOf}
 use Rattle.lrp_algebra.specs.Tables.{IsTextDropped, IsTimeDropped}
 use Rattle.lrp_algebra.proofs.Steps.{farther}
 use Rattle.lrp_dropping.specs.Without.{IsTimeCompleted}
@@ -32,7 +32,7 @@ use Rattle.lrp_periods.proofs.PeriodLaws.{own_high, own_within}
 
 module _ {domain : List Text} {period : ℤ} {of : List Table} (can : AreOperand domain period of) (name : Identifier) where
   abbrev pub time_each : Table → Set
-  time_each part = IsTimeCompleted name (Has part domain)
+  time_each part = IsTimeCompleted name (HasAssignment part domain)
 
   pub drop_room : {part : Table} → Contains of part → HasReach part.store (2 ^ 61)
   drop_room {part} k = farther part.store (2 ^ 59) _ (omega arith) (can.parts_are.each part k).reach
@@ -64,7 +64,7 @@ module _ {domain : List Text} {period : ℤ} {of : List Table} (can : AreOperand
   -- ---- data variables
 
   abbrev pub text_each : Table → Set
-  text_each part = IsTextCompleted domain name (Has part domain)
+  text_each part = IsTextCompleted domain name (HasAssignment part domain)
 
   pub text_part : {part made : Table} → Contains of part → IsTextDropped domain name part made → IsStore made.store → HasReach made.store (2 ^ 59) → IsPartOfSet domain (part_times of) (without name (part_texts of)) period (text_each part) made
   text_part {part} {made} k d valid reach =
@@ -107,12 +107,12 @@ module _ {domain : List Text} {period : ℤ} {part : Table} {test : Test} (can :
 
   pub selected_part : {made : Table} (r : Result Table PartsFault) → IsTableOf domain part.vars.times part.vars.texts (nat_abs k) (IsSelected domain part test) made
       → IfOk r (λ m. m ≡ made) → IfOk r (λ m. IsStore m.store) → IfOk r (λ m. HasReach m.store (2 ^ 59))
-      → IfOk r (IsPartOfSet domain part.vars.times part.vars.texts period (IsSelectionOf (Has part domain) test))
+      → IfOk r (IsPartOfSet domain part.vars.times part.vars.texts period (IsSelectionOf (HasAssignment part domain) test))
   selected_part r table same valid reach = if_part _ _ _ _ _ _ r (λ env h. record { has = h.has; passes = h.passes }) (λ env h. record { has = h.has; passes = h.passes }) (checked_part r table is.own.low is.own.divides same valid reach)
 
 module _ {domain : List Text} {period : ℤ} {of : List Table} {test : Test} (can : CanSelectInParts domain period of test) where
   abbrev pub select_each : Table → Set
-  select_each part = IsSelectionOf (Has part domain) test
+  select_each part = IsSelectionOf (HasAssignment part domain) test
 
   pub can_select_part : {part : Table} → Contains of part → CanSelectPart domain period part test
   can_select_part {part} k =

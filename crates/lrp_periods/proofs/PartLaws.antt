@@ -17,7 +17,7 @@ use Rattle.lrp_tables.specs.declared.table.Table.{Table}
 use Rattle.lrp_tables.specs.Calls.{CanMeet}
 use Rattle.lrp_tables.specs.Columns.{joint}
 use Rattle.lrp_tables.specs.Steps.{BothReach, CanCombine, CanUnite, IsUnionResult}
-use Rattle.lrp_tables.specs.Tables.{Has, HasTexts, IsTableOf, IsUnited}
+use Rattle.lrp_tables.specs.Tables.{HasAssignment, HasTexts, IsTableOf, IsUnited}
 use Rattle.lrp_tables.proofs.Joining.{at_place, joint_within}
 use Rattle.lrp_tables.proofs.TableLaws.{table_texts}
 use Rattle.lrp_algebra.proofs.Steps.{farther}
@@ -116,12 +116,12 @@ module _ {domain : List Text} {times texts : List Identifier} {period : ℤ} whe
 
     -- and their union is a part
     pub united_part : {k : ℤ} {made : Table} → k ≡ pos right.store.period → IsTableOf domain (joint left.vars.times right.vars.times) (joint left.vars.texts right.vars.texts) (nat_abs k) (IsUnited domain left right) made → IsStore made.store → HasReach made.store (2 ^ 59)
-        → IsPartOfSet domain times texts period (λ env. Has left domain env ⊎ Has right domain env) made
-    united_part {k} {made} e is valid reach = subst (λ ns. IsPartOfSet domain times ns period (λ env. Has left domain env ⊎ Has right domain env) made) (joint_texts left right l.valid same_times same_texts ∙ l.texts_are)
-        (subst (λ ns. IsPartOfSet domain ns (joint left.vars.texts right.vars.texts) period (λ env. Has left domain env ⊎ Has right domain env) made) (joint_times left right l.valid same_times same_texts ∙ l.times_are)
+        → IsPartOfSet domain times texts period (λ env. HasAssignment left domain env ⊎ HasAssignment right domain env) made
+    united_part {k} {made} e is valid reach = subst (λ ns. IsPartOfSet domain times ns period (λ env. HasAssignment left domain env ⊎ HasAssignment right domain env) made) (joint_texts left right l.valid same_times same_texts ∙ l.texts_are)
+        (subst (λ ns. IsPartOfSet domain ns (joint left.vars.texts right.vars.texts) period (λ env. HasAssignment left domain env ⊎ HasAssignment right domain env) made) (joint_times left right l.valid same_times same_texts ∙ l.times_are)
         (part_as (λ env h. h.has) (λ env h. record { known = known env h; has = h }) (part_of_table is valid reach (let v : 0 < right.store.period = r.valid.period_low in omega (arith, ints)) (subst (λ z. Divides z period) (sym e) r.divides))))
       where
-        known : (env : Assignment) → Has left domain env ⊎ Has right domain env → HasTexts domain (joint left.vars.texts right.vars.texts) env
+        known : (env : Assignment) → HasAssignment left domain env ⊎ HasAssignment right domain env → HasTexts domain (joint left.vars.texts right.vars.texts) env
         known env h = subst (λ ns. HasTexts domain ns env) (sym (joint_texts left right l.valid same_times same_texts)) (⊎_elim (λ a. table_texts domain left env a) (λ b. subst (λ ns. HasTexts domain ns env) same_texts (table_texts domain right env b)) h)
 
   all_push : (kept : List Table) (part : Table) → AreAllParts domain times texts period kept → IsPeriodPart domain times texts period part → AreAllParts domain times texts period (kept ++ part ∷ [])
@@ -131,8 +131,8 @@ module _ {domain : List Text} {times texts : List Identifier} {period : ℤ} whe
   ]
 
 -- the part is put after the others
-pub pushed_part : {domain : List Text} {period : ℤ} {old new : List Table} {made : Table} → CanAddPart domain period old made → length old < 16 → new ≡ old ++ made ∷ [] → ArePartsAdded domain made.vars.times made.vars.texts period (Has made domain) old new
-pushed_part {domain} {period} {old} {new} {made} can low e = subst (ArePartsAdded domain made.vars.times made.vars.texts period (Has made domain) old) (sym e) (record {
+pub pushed_part : {domain : List Text} {period : ℤ} {old new : List Table} {made : Table} → CanAddPart domain period old made → length old < 16 → new ≡ old ++ made ∷ [] → ArePartsAdded domain made.vars.times made.vars.texts period (HasAssignment made domain) old new
+pushed_part {domain} {period} {old} {new} {made} can low e = subst (ArePartsAdded domain made.vars.times made.vars.texts period (HasAssignment made domain) old) (sym e) (record {
   few = λ h. (let a : length (old ++ made ∷ []) ≡ length old + 1 = length-append old (made ∷ []) in omega arith);
   each = λ h. all_push old made h can.made_is;
   sound = λ env h. some_split domain old made env h;
@@ -164,16 +164,16 @@ set_in xs i y low = (i, (let s : length (slice_set xs i y) ≡ length xs = lengt
 
 -- the part at a place becomes one with the further one
 pub joined_at : {domain : List Text} {period : ℤ} {old new : List Table} {made joined : Table} {place : ℕ} → CanAddPart domain period old made → (at : IsPlaceWith old (pos made.store.period) place)
-    → IsPartOfSet domain made.vars.times made.vars.texts period (λ env. Has at.part domain env ⊎ Has made domain env) joined → new ≡ slice_set old place joined → ArePartsAdded domain made.vars.times made.vars.texts period (Has made domain) old new
-joined_at {domain} {period} {old} {new} {made} {joined} {place} can at is e = subst (ArePartsAdded domain made.vars.times made.vars.texts period (Has made domain) old) (sym e) (record {
+    → IsPartOfSet domain made.vars.times made.vars.texts period (λ env. HasAssignment at.part domain env ⊎ HasAssignment made domain env) joined → new ≡ slice_set old place joined → ArePartsAdded domain made.vars.times made.vars.texts period (HasAssignment made domain) old new
+joined_at {domain} {period} {old} {new} {made} {joined} {place} can at is e = subst (ArePartsAdded domain made.vars.times made.vars.texts period (HasAssignment made domain) old) (sym e) (record {
   few = λ h. (let s : length (slice_set old place joined) ≡ length old = length-set old place joined in omega arith);
   each = λ h part k. ⊎_elim (λ same. subst (IsPeriodPart domain made.vars.times made.vars.texts period) same is.part) (λ o. h part o) (set_cases old place joined part at.within k);
   sound = λ env h. ⊎_elim
-      (λ same. ⊎_elim (λ a. inl (record { part = at.part; listed = at_place old place at.part at.at; has = a })) (λ b. inr b) (is.sound env (subst (λ t. Has t domain env) (sym same) h.has)))
+      (λ same. ⊎_elim (λ a. inl (record { part = at.part; listed = at_place old place at.part at.at; has = a })) (λ b. inr b) (is.sound env (subst (λ t. HasAssignment t domain env) (sym same) h.has)))
       (λ o. inl (record { part = h.part; listed = o; has = h.has }))
       (set_cases old place joined h.part at.within h.listed);
   from_old = λ env h. ⊎_elim
-      (λ same. record { part = joined; listed = set_in old place joined at.within; has = is.whole env (inl (subst (λ t. Has t domain env) (sym same) h.has)) })
+      (λ same. record { part = joined; listed = set_in old place joined at.within; has = is.whole env (inl (subst (λ t. HasAssignment t domain env) (sym same) h.has)) })
       (λ k. record { part = h.part; listed = k; has = h.has })
       (cases_set old place at.part joined h.part at.at at.within h.listed);
   from_set = λ env h. record { part = joined; listed = set_in old place joined at.within; has = is.whole env (inr h) };
@@ -194,7 +194,7 @@ if_part domain times texts period set other (Err fault) to from is = tt
 pub period_word : {domain : List Text} {times texts : List Identifier} {period r : ℤ} {part : Table} → IsSmallPeriod period → IsPeriodPart domain times texts period part → r ≡ pos part.store.period → to_z w64 (of_z w64 r) ≡ pos part.store.period
 period_word {domain} {times} {texts} {period} {r} {part} small is e = ap (λ z. to_z w64 (of_z w64 z)) e ∙ own_word small (part_own is)
 
-pub all_pushed : (domain : List Text) (old : List Table) (made : Table) (r : Result (List Table) PartsFault) → IfOk r (λ new. length old < 16) → IfOk r (λ new. new ≡ old ++ made ∷ []) → IfOk r (λ new. (period : ℤ) → CanAddPart domain period old made → ArePartsAdded domain made.vars.times made.vars.texts period (Has made domain) old new)
+pub all_pushed : (domain : List Text) (old : List Table) (made : Table) (r : Result (List Table) PartsFault) → IfOk r (λ new. length old < 16) → IfOk r (λ new. new ≡ old ++ made ∷ []) → IfOk r (λ new. (period : ℤ) → CanAddPart domain period old made → ArePartsAdded domain made.vars.times made.vars.texts period (HasAssignment made domain) old new)
 all_pushed domain old made (Ok new) low e = λ period can. pushed_part can low e
 all_pushed domain old made (Err fault) low e = tt
 
@@ -207,7 +207,7 @@ can_join_at {domain} {period} {k} {old} {made} {part} {place} can at e f = subst
 
 pub joined_new : {domain : List Text} {period k : ℤ} {old new : List Table} {made part both joined : Table} {place : ℕ} → CanAddPart domain period old made → (at : IsPlaceWith old (pos made.store.period) place) → slice_get old place ≡ Some part → k ≡ pos made.store.period
     → IsTableOf domain (joint part.vars.times made.vars.times) (joint part.vars.texts made.vars.texts) (nat_abs k) (IsUnited domain part made) both → joined ≡ both → IsStore joined.store → HasReach joined.store (2 ^ 59) → new ≡ slice_set old place joined
-    → ArePartsAdded domain made.vars.times made.vars.texts period (Has made domain) old new
+    → ArePartsAdded domain made.vars.times made.vars.texts period (HasAssignment made domain) old new
 joined_new {domain} {period} {k} {old} {new} {made} {part} {both} {joined} {place} can at e f table same valid reach g =
     joined_at can at
     (united_part can.period_is (can.old_are at.part (at_place old place at.part at.at)) can.made_is f

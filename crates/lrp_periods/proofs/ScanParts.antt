@@ -25,7 +25,7 @@ use Rattle.lrp_tables.specs.declared.table.Table.{Table}
 use Rattle.lrp_tables.specs.Calls.{CanBeRow, CanStand}
 use Rattle.lrp_tables.specs.Columns.{scan_times, scan_texts}
 use Rattle.lrp_tables.specs.Steps.{CanScan}
-use Rattle.lrp_tables.specs.Tables.{Has, IsScanned, IsTableOf}
+use Rattle.lrp_tables.specs.Tables.{HasAssignment, IsScanned, IsTableOf}
 use Rattle.lrp_algebra.specs.Rows.{DividesPeriod}
 use Rattle.lrp_plan_laws.proofs.Members.{all_by, all_of}
 use Rattle.lrp_periods.specs.Combining.{AreAllParts}

@@ -24,7 +24,7 @@ use Rattle.lrp_tables.specs.Calls.{CanMeet}
 use Rattle.lrp_tables.specs.Caps.{InhabitsMoreThan}
 use Rattle.lrp_tables.specs.Columns.{joint}
 use Rattle.lrp_tables.specs.Steps.{BothReach, CanUnite, IsUnionResult}
-use Rattle.lrp_tables.specs.Tables.{Has, HasTexts, IsTableOf, IsUnited}
+use Rattle.lrp_tables.specs.Tables.{HasAssignment, HasTexts, IsTableOf, IsUnited}
 use Rattle.lrp_tables.proofs.TableLaws.{table_texts}
 use Rattle.lrp_algebra.proofs.Steps.{farther}
 use Rattle.lrp_periods.specs.Combining.{AreAllParts, CanStandBeside, IsMadeOfSome, IsNothingOver, IsSomePart}
@@ -40,7 +40,7 @@ use Rattle.lrp_periods.proofs.Summing.{more_of, nothing_inhabits}
 -- ---- a table that has nothing
 
 module _ {table nothing : Table} {k : ℕ} (is : IsNothingOver table k nothing) where
-  pub has_nothing : (domain : List Text) (env : Assignment) → Has nothing domain env → ⊥
+  pub has_nothing : (domain : List Text) (env : Assignment) → HasAssignment nothing domain env → ⊥
   has_nothing domain env h = nothing_held nothing.store is.none _ h.0 h.2
 
   pub nothing_reach : (high : ℕ) → HasReach nothing.store high
@@ -87,7 +87,7 @@ module _ {domain : List Text} {period : ℤ} {left right : Table} (can : CanStan
 
     pub left_widened : {made : Table} (r : Result Table PartsFault) → IsTableOf domain (joint left.vars.times nothing.vars.times) (joint left.vars.texts nothing.vars.texts) (nat_abs k) (IsUnited domain left nothing) made
         → IfOk r (λ m. m ≡ made) → IfOk r (λ m. IsStore m.store) → IfOk r (λ m. HasReach m.store (2 ^ 59))
-        → IfOk r (IsPartOfSet domain (joint left.vars.times right.vars.times) (joint left.vars.texts right.vars.texts) period (IsExtensionOf domain (joint left.vars.texts right.vars.texts) (Has left domain)))
+        → IfOk r (IsPartOfSet domain (joint left.vars.times right.vars.times) (joint left.vars.texts right.vars.texts) period (IsExtensionOf domain (joint left.vars.texts right.vars.texts) (HasAssignment left domain)))
     left_widened {made} r table same valid reach = if_part _ _ _ _ _ _ r
         (λ env h. record { known = subst (λ ns. HasTexts domain (joint left.vars.texts ns) env) (nothing_texts is) h.known; has = ⊎_elim (λ a. a) (λ b. absurd (has_nothing is domain env b)) h.has })
         (λ env h. record { known = subst (λ ns. HasTexts domain (joint left.vars.texts ns) env) (sym (nothing_texts is)) h.known; has = inl h.has })
@@ -122,7 +122,7 @@ module _ {domain : List Text} {period : ℤ} {left right : Table} (can : CanStan
 
     pub right_widened : {made : Table} (r : Result Table PartsFault) → IsTableOf domain (joint nothing.vars.times right.vars.times) (joint nothing.vars.texts right.vars.texts) (nat_abs k) (IsUnited domain nothing right) made
         → IfOk r (λ m. m ≡ made) → IfOk r (λ m. IsStore m.store) → IfOk r (λ m. HasReach m.store (2 ^ 59))
-        → IfOk r (IsPartOfSet domain (joint left.vars.times right.vars.times) (joint left.vars.texts right.vars.texts) period (IsExtensionOf domain (joint left.vars.texts right.vars.texts) (Has right domain)))
+        → IfOk r (IsPartOfSet domain (joint left.vars.times right.vars.times) (joint left.vars.texts right.vars.texts) period (IsExtensionOf domain (joint left.vars.texts right.vars.texts) (HasAssignment right domain)))
     right_widened {made} r table same valid reach = if_part _ _ _ _ _ _ r
         (λ env h. record { known = subst (λ ns. HasTexts domain (joint ns right.vars.texts) env) (nothing_texts is) h.known; has = ⊎_elim (λ b. absurd (has_nothing is domain env b)) (λ a. a) h.has })
         (λ env h. record { known = subst (λ ns. HasTexts domain (joint ns right.vars.texts) env) (sym (nothing_texts is)) h.known; has = inr h.has })
@@ -138,18 +138,18 @@ module _ {domain : List Text} {period : ℤ} {lefts rights : List Table} (can : 
   both_texts = joint (part_texts lefts) (part_texts rights)
 
   abbrev pub wide_each : Table → Set
-  wide_each part = IsExtensionOf domain (joint (part_texts lefts) (part_texts rights)) (Has part domain)
+  wide_each part = IsExtensionOf domain (joint (part_texts lefts) (part_texts rights)) (HasAssignment part domain)
 
   pub can_stand_beside : {left right : Table} → Contains lefts left → Contains rights right → CanStandBeside domain period left right
   can_stand_beside {left} {right} k q = record { period_is = can.period_is; left_is = own_part (can.lefts_are.each left k); right_is = own_part (can.rights_are.each right q); columns = can.columns left right k q }
 
-  pub wide_part : (left right part : Table) {made : Table} → Contains lefts left → Contains rights right → IsPartOfSet domain (joint left.vars.times right.vars.times) (joint left.vars.texts right.vars.texts) period (IsExtensionOf domain (joint left.vars.texts right.vars.texts) (Has part domain)) made
+  pub wide_part : (left right part : Table) {made : Table} → Contains lefts left → Contains rights right → IsPartOfSet domain (joint left.vars.times right.vars.times) (joint left.vars.texts right.vars.texts) period (IsExtensionOf domain (joint left.vars.texts right.vars.texts) (HasAssignment part domain)) made
       → IsPartOfSet domain (joint (part_times lefts) (part_times rights)) (joint (part_texts lefts) (part_texts rights)) period (wide_each part) made
   wide_part left right part {made} k q is =
       let l = can.lefts_are.each left k in
       let r = can.rights_are.each right q in
-      subst (λ ns. IsPartOfSet domain (joint (part_times lefts) (part_times rights)) ns period (IsExtensionOf domain ns (Has part domain)) made) (ap (λ ns. joint ns right.vars.texts) l.texts_are ∙ ap (joint (part_texts lefts)) r.texts_are)
-      (subst (λ ns. IsPartOfSet domain ns (joint left.vars.texts right.vars.texts) period (IsExtensionOf domain (joint left.vars.texts right.vars.texts) (Has part domain)) made) (ap (λ ns. joint ns right.vars.times) l.times_are ∙ ap (joint (part_times lefts)) r.times_are) is)
+      subst (λ ns. IsPartOfSet domain (joint (part_times lefts) (part_times rights)) ns period (IsExtensionOf domain ns (HasAssignment part domain)) made) (ap (λ ns. joint ns right.vars.texts) l.texts_are ∙ ap (joint (part_texts lefts)) r.texts_are)
+      (subst (λ ns. IsPartOfSet domain ns (joint left.vars.texts right.vars.texts) period (IsExtensionOf domain (joint left.vars.texts right.vars.texts) (HasAssignment part domain)) made) (ap (λ ns. joint ns right.vars.times) l.times_are ∙ ap (joint (part_times lefts)) r.times_are) is)
 
   -- those of the left table, and some of the right one's
   pub both_begun : {times texts : List Identifier} {parts : List Table} → ArePartsAdded domain times texts period (IsMadeOfSome wide_each lefts) [] parts
@@ -157,7 +157,7 @@ module _ {domain : List Text} {period : ℤ} {lefts rights : List Table} (can : 
   both_begun a = added_as (λ env h. inl h) (λ env h. ⊎_elim (λ l. l) (λ r. absurd (in_none r.part r.listed)) h) a
 
   pub both_more : {times texts : List Identifier} {mid new : List Table} {made : Table} (n : ℕ) (right : Table) → n < length rights → right ≡ get_or rights n right
-      → ArePartsAdded domain times texts period (λ env. IsMadeOfSome wide_each lefts env ⊎ IsMadeOfSome wide_each (take n rights) env) [] mid → IsPartOfSet domain times texts period (wide_each right) made → ArePartsAdded domain made.vars.times made.vars.texts period (Has made domain) mid new
+      → ArePartsAdded domain times texts period (λ env. IsMadeOfSome wide_each lefts env ⊎ IsMadeOfSome wide_each (take n rights) env) [] mid → IsPartOfSet domain times texts period (wide_each right) made → ArePartsAdded domain made.vars.times made.vars.texts period (HasAssignment made domain) mid new
       → ArePartsAdded domain times texts period (λ env. IsMadeOfSome wide_each lefts env ⊎ IsMadeOfSome wide_each (take (n + 1) rights) env) [] new
   both_more {times} {texts} {mid} {new} {made} n right low at first is own =
       subst (λ ps. ArePartsAdded domain times texts period (λ env. IsMadeOfSome wide_each lefts env ⊎ IsMadeOfSome wide_each ps env) [] new) (sym (front_more rights n right low at))

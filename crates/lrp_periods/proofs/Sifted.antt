@@ -11,7 +11,7 @@ use Rattle.lrp_store.specs.Growing.{IsAdded}
 use Rattle.lrp_store.specs.Stores.{HasReach, InStore, IsStore, StoreView}
 use Rattle.lrp_store.specs.Tables.{AreTexts}
 use Rattle.lrp_tables.specs.declared.table.Table.{Table}
-use Rattle.lrp_tables.specs.Tables.{Has, HasTexts, IsTableOf}
+use Rattle.lrp_tables.specs.Tables.{HasAssignment, HasTexts, IsTableOf}
 use Rattle.lrp_tables.proofs.CellsNamed.{AreTuplesOf}
 use Rattle.lrp_algebra.proofs.Steps.{empty_store, farther, positive, step_reach, step_table}
 use Rattle.lrp_periods.specs.Operations.{AreOperand}
@@ -47,13 +47,13 @@ module _ {domain : List Text} {period : ℤ} {parts : List Table} (can : AreOper
     texts = sym part.texts_named ∙ ap length (is.texts_are ∙ none);
   }
 
-  has_number : (part : Table) → Contains parts part → (env : Assignment) → Has part domain env → InStore part.store (env.times v ∷ []) []
+  has_number : (part : Table) → Contains parts part → (env : Assignment) → HasAssignment part domain env → InStore part.store (env.times v ∷ []) []
   has_number part k env h =
       let is = can.parts_are.each part k in
       let e : h.0 ≡ [] = no_texts domain env h.0 part.vars.texts (is.texts_are ∙ none) h.1 in
       subst (λ ns. InStore part.store (env.times v ∷ []) ns) e (subst (λ ts. InStore part.store (map env.times ts) h.0) (is.times_are ∙ times_is) h.2)
 
-  number_has : (part : Table) → Contains parts part → (env : Assignment) → InStore part.store (env.times v ∷ []) [] → Has part domain env
+  number_has : (part : Table) → Contains parts part → (env : Assignment) → InStore part.store (env.times v ∷ []) [] → HasAssignment part domain env
   number_has part k env h =
       let is = can.parts_are.each part k in
       ([], subst (λ ts. AreTexts domain [] (map env.texts ts)) (sym (is.texts_are ∙ none)) tt, subst (λ ts. InStore part.store (map env.times ts) []) (sym (is.times_are ∙ times_is)) h)

@@ -9,7 +9,7 @@ use Rattle.lrp_model.specs.Texts.{Ascends, Identifier, Text}
 use Rattle.lrp_model.specs.Satisfaction.{Assignment}
 use Rattle.lrp_tables.specs.declared.table.Table.{Table}
 use Rattle.lrp_tables.specs.Caps.{Inhabits, InhabitsMoreThan}
-use Rattle.lrp_tables.specs.Tables.{Has, named_variables}
+use Rattle.lrp_tables.specs.Tables.{HasAssignment, named_variables}
 use Rattle.lrp_tables.proofs.Mapped.{many_map}
 use Rattle.lrp_tables.proofs.Named.{pairs_left}
 use Rattle.lrp_periods.specs.Bounding.{HaveFewCells, TableHasFewCells}
@@ -129,10 +129,10 @@ first_none count period parts n e domain ascends are m = nothing_inhabits domain
 pub first_more_parts : (count more new period : ℕ) (parts : List Table) (n : ℕ) (part : Table) → n < length parts → part ≡ get_or parts n part → Contains parts part → FirstHaveFew count period parts n → TableHasFewCells more period part → new ≡ count + more → FirstHaveFew new period parts (n + 1)
 first_more_parts count more new period parts n part low at listed first own e domain ascends are m =
     let is = are.each part listed in
-    either_inhabits domain period (part_times parts) (part_texts parts) (HasSome domain (take n parts)) (Has part domain) (HasSome domain (take (n + 1) parts)) count more
+    either_inhabits domain period (part_times parts) (part_texts parts) (HasSome domain (take n parts)) (HasAssignment part domain) (HasSome domain (take (n + 1) parts)) count more
     (λ env h. some_split domain (take n parts) part env (subst (λ ps. HasSome domain ps env) (front_more parts n part low at) h))
     (first domain ascends are)
-    (λ k. own domain ascends is.numbered (subst (λ ns. InhabitsMoreThan more domain period part.vars.times ns (Has part domain)) (sym is.texts_are) (subst (λ ns. InhabitsMoreThan more domain period ns (part_texts parts) (Has part domain)) (sym is.times_are) k)))
+    (λ k. own domain ascends is.numbered (subst (λ ns. InhabitsMoreThan more domain period part.vars.times ns (HasAssignment part domain)) (sym is.texts_are) (subst (λ ns. InhabitsMoreThan more domain period ns (part_texts parts) (HasAssignment part domain)) (sym is.times_are) k)))
     (subst (λ c. InhabitsMoreThan c domain period (part_times parts) (part_texts parts) (HasSome domain (take (n + 1) parts))) e m)
 
 pub first_all : (count period : ℕ) (parts : List Table) (n : ℕ) → length parts ≤ n → FirstHaveFew count period parts n → HaveFewCells count period parts
@@ -148,4 +148,4 @@ have_fewer count cap period parts low few domain ascends are m =
 
 pub table_fewer : (count cap period : ℕ) (table : Table) → count ≤ cap → TableHasFewCells count period table → TableHasFewCells cap period table
 table_fewer count cap period table low few domain ascends numbered m =
-    few domain ascends numbered (many_fewer (Differ (named_variables table.vars.times table.vars.texts)) (Inhabits domain period (named_variables table.vars.times table.vars.texts) (Has table domain)) count cap low m)
+    few domain ascends numbered (many_fewer (Differ (named_variables table.vars.times table.vars.texts)) (Inhabits domain period (named_variables table.vars.times table.vars.texts) (HasAssignment table domain)) count cap low m)

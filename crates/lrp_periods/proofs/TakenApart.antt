@@ -16,7 +16,7 @@ use Rattle.lrp_tables.specs.declared.table.Table.{Table}
 use Rattle.lrp_tables.specs.Calls.{AreVariablesOf, CanBeCarried, tests_reach}
 use Rattle.lrp_tables.specs.Columns.{joint}
 use Rattle.lrp_tables.specs.Steps.{CanComplement, CanJoin, CanMinus, IsMinusResult}
-use Rattle.lrp_tables.specs.Tables.{Has, HasTexts, IsComplement, IsJoined, IsMinus, IsTableOf}
+use Rattle.lrp_tables.specs.Tables.{HasAssignment, HasTexts, IsComplement, IsJoined, IsMinus, IsTableOf}
 use Rattle.lrp_algebra.proofs.Steps.{farther}
 use Rattle.lrp_periods.specs.Combining.{AreAllParts, CanTakeAll, CanTakeAway, IsMadeOfSome, IsSomePart}
 use Rattle.lrp_periods.specs.Operations.{AreOperand, CanBePart, CanMinusInParts}
@@ -48,7 +48,7 @@ module _ {domain : List Text} {period : ℤ} {of : List Table} (can : AreOperand
 
   -- what one part lacks, over the variables of all
   pub outside_part : (part : Table) {made : Table} → Contains of part → IsPartOfSet domain part.vars.times part.vars.texts period (IsComplement domain part) made
-      → IsPartOfSet domain (part_times of) (part_texts of) period (IsComplementOf domain (part_texts of) (Has part domain)) made
+      → IsPartOfSet domain (part_times of) (part_texts of) period (IsComplementOf domain (part_texts of) (HasAssignment part domain)) made
   outside_part part {made} k own =
       let is = can.parts_are.each part k in
       part_as (λ env h. record { known = subst (λ ns. HasTexts domain ns env) is.texts_are h.known; none = h.none }) (λ env h. record { known = subst (λ ns. HasTexts domain ns env) (sym is.texts_are) h.known; none = h.none })
@@ -58,11 +58,11 @@ module _ {domain : List Text} {period : ℤ} {of : List Table} (can : AreOperand
   abbrev pub LacksFirst : ℕ → Table → Type 0
   LacksFirst n made = IsPartOfSet domain (part_times of) (part_texts of) period (IsComplementOf domain (part_texts of) (HasSome domain (take n of))) made
 
-  pub lacks_one : (part : Table) {made : Table} → 0 < length of → part ≡ get_or of 0 part → IsPartOfSet domain (part_times of) (part_texts of) period (IsComplementOf domain (part_texts of) (Has part domain)) made → LacksFirst 1 made
+  pub lacks_one : (part : Table) {made : Table} → 0 < length of → part ≡ get_or of 0 part → IsPartOfSet domain (part_times of) (part_texts of) period (IsComplementOf domain (part_texts of) (HasAssignment part domain)) made → LacksFirst 1 made
   lacks_one part {made} low at is =
       let e : take 1 of ≡ part ∷ [] = front_more of 0 part low at in
       subst (λ ps. IsPartOfSet domain (part_times of) (part_texts of) period (IsComplementOf domain (part_texts of) (HasSome domain ps)) made) (sym e)
-      (part_as (λ env h. record { known = h.known; none = λ s. h.none (subst (λ t. Has t domain env) (sym (in_one part s.part s.listed)) s.has) }) (λ env h. record { known = h.known; none = λ x. h.none (record { part = part; listed = one_in part; has = x }) }) is)
+      (part_as (λ env h. record { known = h.known; none = λ s. h.none (subst (λ t. HasAssignment t domain env) (sym (in_one part s.part s.listed)) s.has) }) (λ env h. record { known = h.known; none = λ x. h.none (record { part = part; listed = one_in part; has = x }) }) is)
 
   -- the next part can be taken from what the first ones lack
   pub can_take_lacked : {part made : Table} {set : Set} → Ascends domain → Contains of part → IsPartOfSet domain (part_times of) (part_texts of) period set made → CanTakeAway domain period made part
@@ -79,18 +79,18 @@ module _ {domain : List Text} {period : ℤ} {of : List Table} (can : AreOperand
       }
 
   pub lacks_more : (n : ℕ) (part : Table) {made new : Table} → n < length of → part ≡ get_or of n part → LacksFirst n made
-      → IsPartOfSet domain made.vars.times made.vars.texts period (IsDifferenceOf (Has made domain) (Has part domain)) new → LacksFirst (n + 1) new
+      → IsPartOfSet domain made.vars.times made.vars.texts period (IsDifferenceOf (HasAssignment made domain) (HasAssignment part domain)) new → LacksFirst (n + 1) new
   lacks_more n part {made} {new} low at first less =
       subst (λ ps. IsPartOfSet domain (part_times of) (part_texts of) period (IsComplementOf domain (part_texts of) (HasSome domain ps)) new) (sym (front_more of n part low at))
-      (part_as to from (subst (λ ns. IsPartOfSet domain (part_times of) ns period (IsDifferenceOf (Has made domain) (Has part domain)) new) first.part.texts_are (subst (λ ns. IsPartOfSet domain ns made.vars.texts period (IsDifferenceOf (Has made domain) (Has part domain)) new) first.part.times_are less)))
+      (part_as to from (subst (λ ns. IsPartOfSet domain (part_times of) ns period (IsDifferenceOf (HasAssignment made domain) (HasAssignment part domain)) new) first.part.texts_are (subst (λ ns. IsPartOfSet domain ns made.vars.texts period (IsDifferenceOf (HasAssignment made domain) (HasAssignment part domain)) new) first.part.times_are less)))
     where
-      to : (env : Assignment) → IsDifferenceOf (Has made domain) (Has part domain) env → IsComplementOf domain (part_texts of) (HasSome domain (take n of ++ part ∷ [])) env
+      to : (env : Assignment) → IsDifferenceOf (HasAssignment made domain) (HasAssignment part domain) env → IsComplementOf domain (part_texts of) (HasSome domain (take n of ++ part ∷ [])) env
       to env h = record {
         known = (first.sound env h.has).known;
         none = λ s. ⊎_elim (λ a. (first.sound env h.has).none a) (λ b. h.none b) (some_split domain (take n of) part env s);
       }
 
-      from : (env : Assignment) → IsComplementOf domain (part_texts of) (HasSome domain (take n of ++ part ∷ [])) env → IsDifferenceOf (Has made domain) (Has part domain) env
+      from : (env : Assignment) → IsComplementOf domain (part_texts of) (HasSome domain (take n of ++ part ∷ [])) env → IsDifferenceOf (HasAssignment made domain) (HasAssignment part domain) env
       from env h = record {
         has = first.whole env (record { known = h.known; none = λ s. h.none (some_left domain (take n of) (part ∷ []) env s) });
         none = λ x. h.none (some_last domain (take n of) part env x);
@@ -105,7 +105,7 @@ one_part {domain} {times} {texts} {period} {set} {made} {parts} e is = subst (Ar
   parts = record { some = omega arith; few = omega arith; each = λ part k. subst (IsPeriodPart domain made.vars.times made.vars.texts period) (in_one made part k) (own_part is.part) };
   times_are = is.part.times_are;
   texts_are = is.part.texts_are;
-  sound = λ env h. is.sound env (subst (λ t. Has t domain env) (sym (in_one made h.part h.listed)) h.has);
+  sound = λ env h. is.sound env (subst (λ t. HasAssignment t domain env) (sym (in_one made h.part h.listed)) h.has);
   whole = λ env h. record { part = made; listed = one_in made; has = is.whole env h };
 })
 
@@ -127,13 +127,13 @@ module _ {domain : List Text} {period : ℤ} {left right : Table} (can : CanTake
   }
 
   pub taken_part : {cap : ℕ} {made : Table} (r : Result Table PartsFault) → IsMinusResult cap k left right (Ok made) → IfOk r (λ m. m ≡ made) → IfOk r (λ m. IsStore m.store) → IfOk r (λ m. HasReach m.store (2 ^ 59))
-      → IfOk r (IsPartOfSet domain left.vars.times left.vars.texts period (IsDifferenceOf (Has left domain) (Has right domain)))
+      → IfOk r (IsPartOfSet domain left.vars.times left.vars.texts period (IsDifferenceOf (HasAssignment left domain) (HasAssignment right domain)))
   taken_part r m same valid reach = if_part _ _ _ _ _ _ r (λ env h. record { has = h.has; none = h.none }) (λ env h. record { has = h.has; none = h.none }) (checked_part r (m.step domain can.ascends can.left_is.numbered).table is.own.low is.own.divides same valid reach)
 
 module _ {domain : List Text} {period : ℤ} {left : Table} {rights : List Table} (can : CanTakeAll domain period left rights) where
   -- what the first parts leave, and one more
   abbrev pub LeavesFirst : ℕ → Table → Type 0
-  LeavesFirst n made = IsPartOfSet domain left.vars.times left.vars.texts period (IsDifferenceOf (Has left domain) (HasSome domain (take n rights))) made
+  LeavesFirst n made = IsPartOfSet domain left.vars.times left.vars.texts period (IsDifferenceOf (HasAssignment left domain) (HasSome domain (take n rights))) made
 
   pub can_take_first : {right : Table} → Contains rights right → CanTakeAway domain period left right
   can_take_first {right} k = record { period_is = can.period_is; ascends = can.ascends; left_is = can.left_is; right_is = own_part (can.rights_are.each right k); columns = can.columns right k }
@@ -150,35 +150,35 @@ module _ {domain : List Text} {period : ℤ} {left : Table} {rights : List Table
     };
   }
 
-  pub leaves_one : (right : Table) {made : Table} → 0 < length rights → right ≡ get_or rights 0 right → IsPartOfSet domain left.vars.times left.vars.texts period (IsDifferenceOf (Has left domain) (Has right domain)) made → LeavesFirst 1 made
+  pub leaves_one : (right : Table) {made : Table} → 0 < length rights → right ≡ get_or rights 0 right → IsPartOfSet domain left.vars.times left.vars.texts period (IsDifferenceOf (HasAssignment left domain) (HasAssignment right domain)) made → LeavesFirst 1 made
   leaves_one right {made} low at is =
       let e : take 1 rights ≡ right ∷ [] = front_more rights 0 right low at in
-      subst (λ ps. IsPartOfSet domain left.vars.times left.vars.texts period (IsDifferenceOf (Has left domain) (HasSome domain ps)) made) (sym e)
-      (part_as (λ env h. record { has = h.has; none = λ s. h.none (subst (λ t. Has t domain env) (sym (in_one right s.part s.listed)) s.has) }) (λ env h. record { has = h.has; none = λ x. h.none (record { part = right; listed = one_in right; has = x }) }) is)
+      subst (λ ps. IsPartOfSet domain left.vars.times left.vars.texts period (IsDifferenceOf (HasAssignment left domain) (HasSome domain ps)) made) (sym e)
+      (part_as (λ env h. record { has = h.has; none = λ s. h.none (subst (λ t. HasAssignment t domain env) (sym (in_one right s.part s.listed)) s.has) }) (λ env h. record { has = h.has; none = λ x. h.none (record { part = right; listed = one_in right; has = x }) }) is)
 
-  pub leaves_more : (n : ℕ) (right : Table) {made new : Table} → n < length rights → right ≡ get_or rights n right → LeavesFirst n made → IsPartOfSet domain made.vars.times made.vars.texts period (IsDifferenceOf (Has made domain) (Has right domain)) new → LeavesFirst (n + 1) new
+  pub leaves_more : (n : ℕ) (right : Table) {made new : Table} → n < length rights → right ≡ get_or rights n right → LeavesFirst n made → IsPartOfSet domain made.vars.times made.vars.texts period (IsDifferenceOf (HasAssignment made domain) (HasAssignment right domain)) new → LeavesFirst (n + 1) new
   leaves_more n right {made} {new} low at first own =
-      subst (λ ps. IsPartOfSet domain left.vars.times left.vars.texts period (IsDifferenceOf (Has left domain) (HasSome domain ps)) new) (sym (front_more rights n right low at))
-      (part_as to from (subst (λ ns. IsPartOfSet domain left.vars.times ns period (IsDifferenceOf (Has made domain) (Has right domain)) new) first.part.texts_are (subst (λ ns. IsPartOfSet domain ns made.vars.texts period (IsDifferenceOf (Has made domain) (Has right domain)) new) first.part.times_are own)))
+      subst (λ ps. IsPartOfSet domain left.vars.times left.vars.texts period (IsDifferenceOf (HasAssignment left domain) (HasSome domain ps)) new) (sym (front_more rights n right low at))
+      (part_as to from (subst (λ ns. IsPartOfSet domain left.vars.times ns period (IsDifferenceOf (HasAssignment made domain) (HasAssignment right domain)) new) first.part.texts_are (subst (λ ns. IsPartOfSet domain ns made.vars.texts period (IsDifferenceOf (HasAssignment made domain) (HasAssignment right domain)) new) first.part.times_are own)))
     where
-      to : (env : Assignment) → IsDifferenceOf (Has made domain) (Has right domain) env → IsDifferenceOf (Has left domain) (HasSome domain (take n rights ++ right ∷ [])) env
+      to : (env : Assignment) → IsDifferenceOf (HasAssignment made domain) (HasAssignment right domain) env → IsDifferenceOf (HasAssignment left domain) (HasSome domain (take n rights ++ right ∷ [])) env
       to env h = record {
         has = (first.sound env h.has).has;
         none = λ s. ⊎_elim (λ a. (first.sound env h.has).none a) (λ b. h.none b) (some_split domain (take n rights) right env s);
       }
 
-      from : (env : Assignment) → IsDifferenceOf (Has left domain) (HasSome domain (take n rights ++ right ∷ [])) env → IsDifferenceOf (Has made domain) (Has right domain) env
+      from : (env : Assignment) → IsDifferenceOf (HasAssignment left domain) (HasSome domain (take n rights ++ right ∷ [])) env → IsDifferenceOf (HasAssignment made domain) (HasAssignment right domain) env
       from env h = record {
         has = first.whole env (record { has = h.has; none = λ s. h.none (some_left domain (take n rights) (right ∷ []) env s) });
         none = λ x. h.none (some_last domain (take n rights) right env x);
       }
 
-  pub leaves_all : (n : ℕ) {made : Table} → length rights ≤ n → LeavesFirst n made → IsPartOfSet domain left.vars.times left.vars.texts period (IsDifferenceOf (Has left domain) (HasSome domain rights)) made
-  leaves_all n {made} high is = subst (λ ps. IsPartOfSet domain left.vars.times left.vars.texts period (IsDifferenceOf (Has left domain) (HasSome domain ps)) made) (take_all n rights high) is
+  pub leaves_all : (n : ℕ) {made : Table} → length rights ≤ n → LeavesFirst n made → IsPartOfSet domain left.vars.times left.vars.texts period (IsDifferenceOf (HasAssignment left domain) (HasSome domain rights)) made
+  leaves_all n {made} high is = subst (λ ps. IsPartOfSet domain left.vars.times left.vars.texts period (IsDifferenceOf (HasAssignment left domain) (HasSome domain ps)) made) (take_all n rights high) is
 
 module _ {domain : List Text} {period : ℤ} {lefts rights : List Table} (can : CanMinusInParts domain period lefts rights) where
   abbrev pub minus_each : Table → Set
-  minus_each left = IsDifferenceOf (Has left domain) (HasSome domain rights)
+  minus_each left = IsDifferenceOf (HasAssignment left domain) (HasSome domain rights)
 
   pub can_take_all : {left : Table} → Contains lefts left → CanTakeAll domain period left rights
   can_take_all {left} k = record { period_is = can.period_is; ascends = can.ascends; left_is = own_part (can.lefts_are.each left k); rights_are = can.rights_are; columns = λ right q. can.columns left right k q }

@@ -26,7 +26,7 @@ use Rattle.lrp_store.specs.Tables.{AreNumbered}
 use Rattle.lrp_tables.specs.declared.table.Table.{Table}
 use Rattle.lrp_store.proofs.Counted.{lies_in}
 use Rattle.lrp_tables.specs.Caps.{InhabitsMoreThan}
-use Rattle.lrp_tables.specs.Tables.{Has}
+use Rattle.lrp_tables.specs.Tables.{HasAssignment}
 use Rattle.lrp_tables.proofs.CellsNamed.{many_placed, same_padded}
 use Rattle.lrp_tables.proofs.Named.{pairs_left, pairs_right}
 use Rattle.lrp_tables.proofs.TableMade.{tuples_of}
@@ -184,16 +184,16 @@ module _ (s : StoreView) (is : IsStore s) (ways : ℕ) where
 
 -- what the tuples of a store inhabit, its assignments do
 pub few_named : (domain : List Text) → Ascends domain → (table : Table) → IsStore table.store → AreNumbered domain table.store → (ways cap : ℕ) → 0 < ways → (InhabitsMany table.store.shape (ways * table.store.period) (InStore table.store) cap → ⊥)
-    → InhabitsMoreThan cap domain (ways * table.store.period) table.vars.times table.vars.texts (Has table domain) → ⊥
+    → InhabitsMoreThan cap domain (ways * table.store.period) table.vars.times table.vars.texts (HasAssignment table domain) → ⊥
 few_named domain ascends table is numbered ways cap some few m =
     let times_differ : AllPairs ◌≢◌ table.vars.times = pairs_left ◌≢◌ table.vars.times table.vars.texts table.names_differ in
     let texts_differ : AllPairs ◌≢◌ table.vars.texts = pairs_right ◌≢◌ table.vars.times table.vars.texts table.names_differ in
-    few (many_placed domain ascends table.vars.times table.vars.texts times_differ texts_differ (ways * table.store.period) (mul-pos some is.period_low) table.store.shape (sym table.times_named) (sym table.texts_named) is.times is.texts (InStore table.store) (Has table domain)
+    few (many_placed domain ascends table.vars.times table.vars.texts times_differ texts_differ (ways * table.store.period) (mul-pos some is.period_low) table.store.shape (sym table.times_named) (sym table.texts_named) is.times is.texts (InStore table.store) (HasAssignment table domain)
     (tuples_of domain table is numbered) cap m)
 
 -- so the assignments of a table inhabit no more
 pub few_of_table : (domain : List Text) → Ascends domain → (table : Table) → IsStore table.store → AreNumbered domain table.store → (ways cap : ℕ) → 0 < ways → finite.len table.store.tables * ways ^ table.store.shape.times ≤ cap
-    → InhabitsMoreThan cap domain (ways * table.store.period) table.vars.times table.vars.texts (Has table domain) → ⊥
+    → InhabitsMoreThan cap domain (ways * table.store.period) table.vars.times table.vars.texts (HasAssignment table domain) → ⊥
 few_of_table domain ascends table is numbered ways cap some enough m = few_named domain ascends table is numbered ways cap some (few_cells table.store is ways cap enough) m
 
 -- ---- the number of ways

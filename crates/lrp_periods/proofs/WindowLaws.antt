@@ -23,7 +23,7 @@ use Rattle.lrp_tables.proofs.CellsNamed.{same_padded}
 use Rattle.lrp_tables.proofs.Pieced.{piece_fits}
 use Rattle.lrp_tables.proofs.Mapped.{Known, many_known, many_map}
 use Rattle.lrp_tables.specs.Caps.{InhabitsMoreThan}
-use Rattle.lrp_tables.specs.Tables.{Has}
+use Rattle.lrp_tables.specs.Tables.{HasAssignment}
 use Rattle.lrp_tables.specs.declared.table.Table.{Table}
 use Rattle.lrp_periods.specs.Bounding.{TableHasFewCells}
 use Rattle.lrp_periods.specs.Windows.{AreWays, IsWaysLeft, IsWindowBetween}
@@ -208,14 +208,14 @@ module _ (shape : Shape) (piece : Piece) (is : IsZone piece.zone) (columns : col
 pub record IsCounting (s : StoreView) (period total : ℕ) (left : List Piece) : Type 0 where
   pub counted : List Piece
   pub few : InhabitsMany s.shape period (InPieces s.shape.texts counted) total → ⊥
-  pub behind : (xs : List ℤ) (ns : List ℕ) → InStore s xs ns → InPieces s.shape.texts counted xs ns ⊎ InPieces s.shape.texts left xs ns
+  pub after : (xs : List ℤ) (ns : List ℕ) → InStore s xs ns → InPieces s.shape.texts counted xs ns ⊎ InPieces s.shape.texts left xs ns
   pub each : (piece : Piece) → Contains left piece → IsPieceOf s piece
 
 pub counting_none : {s : StoreView} {period total : ℕ} {left : List Piece} → ArePieces s left → total ≡ 0 → IsCounting s period total left
 counting_none {s} {period} {total} {left} are e = subst (λ n. IsCounting s period n left) (sym e) (record {
   counted = [];
   few = λ m. many_none ◌≢◌ (IsInhabitedCell s.shape period (InPieces s.shape.texts [])) 0 (λ c h. in_none h.is.piece h.is.listed) m;
-  behind = λ xs ns h. inr (are.all xs ns h);
+  after = λ xs ns h. inr (are.all xs ns h);
   each = are.each;
 })
 
@@ -229,7 +229,7 @@ counting_more s ways period total more new {left} {rest} {piece} is some e first
   counted = piece ∷ c.counted;
   few = λ m. many_either ◌≢◌ (IsInhabitedCell s.shape period (InPieces s.shape.texts c.counted)) (IsInhabitedCell s.shape period (InPiece s.shape.texts piece)) total more c.few own
       (many_map (λ x. x) ◌≢◌ ◌≢◌ (IsInhabitedCell s.shape period (InPieces s.shape.texts (piece ∷ c.counted))) _ (λ x h. cases x h) (λ a b p q d. d) (total + more) m);
-  behind = λ xs ns h. ⊎_elim (λ a. inl (later_piece xs ns a)) (λ b. moved xs ns b) (c.behind xs ns h);
+  after = λ xs ns h. ⊎_elim (λ a. inl (later_piece xs ns a)) (λ b. moved xs ns b) (c.after xs ns h);
   each = λ other k. c.each other (subst (λ ps. Contains ps other) (sym first) (later piece rest other k));
 })
   where
@@ -257,7 +257,7 @@ counting_more s ways period total more new {left} {rest} {piece} is some e first
 pub counting_done : {s : StoreView} {period total : ℕ} {left : List Piece} → left ≡ [] → IsCounting s period total left → InhabitsMany s.shape period (InStore s) total → ⊥
 counting_done {s} {period} {total} {left} e c m = c.few
     (many_map (λ x. x) ◌≢◌ ◌≢◌ (IsInhabitedCell s.shape period (InStore s)) (IsInhabitedCell s.shape period (InPieces s.shape.texts c.counted))
-    (λ x h. record { proper = h.proper; times = h.times; texts = h.texts; is = ⊎_elim (λ a. a) (λ b. absurd (in_none b.piece (subst (λ ps. Contains ps b.piece) e b.listed))) (c.behind h.times h.texts h.is); inside = h.inside }) (λ a b p q d. d) total m)
+    (λ x h. record { proper = h.proper; times = h.times; texts = h.texts; is = ⊎_elim (λ a. a) (λ b. absurd (in_none b.piece (subst (λ ps. Contains ps b.piece) e b.listed))) (c.after h.times h.texts h.is); inside = h.inside }) (λ a b p q d. d) total m)
 
 -- ---- one column more, and one window more
 
@@ -328,4 +328,4 @@ steps_enough width period steps low high e =
 pub few_at : (table : Table) → IsStore table.store → (ways period count : ℕ) → 0 < ways → ways * table.store.period ≡ period → (InhabitsMany table.store.shape period (InStore table.store) count → ⊥) → TableHasFewCells count period table
 few_at table is ways period count some e few domain ascends numbered m =
     few_named domain ascends table is numbered ways count some (λ k. few (subst (λ p. InhabitsMany table.store.shape p (InStore table.store) count) e k))
-    (subst (λ p. InhabitsMoreThan count domain p table.vars.times table.vars.texts (Has table domain)) (sym e) m)
+    (subst (λ p. InhabitsMoreThan count domain p table.vars.times table.vars.texts (HasAssignment table domain)) (sym e) m)

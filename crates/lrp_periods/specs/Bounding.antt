@@ -8,7 +8,7 @@ use Rattle.lrp_store.specs.Stores.{StoreView, tables_at, zone_of}
 use Rattle.lrp_store.specs.Tables.{AreNumbered}
 use Rattle.lrp_tables.specs.declared.table.Table.{Table}
 use Rattle.lrp_tables.specs.Caps.{InhabitsMoreThan}
-use Rattle.lrp_tables.specs.Tables.{Has}
+use Rattle.lrp_tables.specs.Tables.{HasAssignment}
 use Rattle.lrp_periods.specs.Parts.{AreParts, HasSome, part_times, part_texts}
 
 -- each zone of the cell has at most this reach
@@ -21,7 +21,7 @@ IsRowWithin z column reach = (other : ℕ) → other ≤ columns_of z → AtMost
 
 -- the table's assignments inhabit no more than cap cells of the period, by each domain whose texts its numbers are
 abbrev pub TableHasFewCells : ℕ → ℕ → Table → Type 0
-TableHasFewCells cap period table = (domain : List Text) → Ascends domain → AreNumbered domain table.store → InhabitsMoreThan cap domain period table.vars.times table.vars.texts (Has table domain) → ⊥
+TableHasFewCells cap period table = (domain : List Text) → Ascends domain → AreNumbered domain table.store → InhabitsMoreThan cap domain period table.vars.times table.vars.texts (HasAssignment table domain) → ⊥
 
 -- the assignments of the parts do
 abbrev pub HaveFewCells : ℕ → ℕ → List Table → Type 0

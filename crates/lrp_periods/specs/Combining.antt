@@ -10,7 +10,7 @@ use Rattle.lrp_model.specs.declared.formulas.Test.{Test}
 use Rattle.lrp_tables.specs.declared.table.Table.{Table}
 use Rattle.lrp_tables.specs.Calls.{AreVariablesOf, CanBeCarried, CanMeet, test_period, tests_reach}
 use Rattle.lrp_tables.specs.Columns.{joint}
-use Rattle.lrp_tables.specs.Tables.{Has}
+use Rattle.lrp_tables.specs.Tables.{HasAssignment}
 use Rattle.lrp_periods.specs.Parts.{AreParts, IsPeriodPart, IsSmallPeriod, part_times, part_texts}
 use Rattle.lrp_periods.specs.Periods.{IsOwnPeriod}
 use Rattle.lrp_periods.specs.declared.joins.Rights.{Rights}

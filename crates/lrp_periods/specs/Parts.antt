@@ -6,7 +6,7 @@ use Rattle.lrp_model.specs.Satisfaction.{Assignment}
 use Rattle.lrp_store.specs.Stores.{HasReach, IsStore}
 use Rattle.lrp_store.specs.Tables.{AreNumbered}
 use Rattle.lrp_tables.specs.declared.table.Table.{Table}
-use Rattle.lrp_tables.specs.Tables.{Has}
+use Rattle.lrp_tables.specs.Tables.{HasAssignment}
 
 -- the names of the time columns of all parts, and those of their data columns
 abbrev pub part_times : List Table → List Identifier
@@ -21,7 +21,7 @@ part_texts (part ∷ parts) = part.vars.texts
 pub record HasSome (domain : List Text) (parts : List Table) (env : Assignment) : Type 0 where
   pub part : Table
   pub listed : Contains parts part
-  pub has : Has part domain env
+  pub has : HasAssignment part domain env
 
 -- the period of a step in parts is from 1 to 2^56
 pub record IsSmallPeriod (period : ℤ) : Type 0 where
@@ -54,8 +54,8 @@ pub record ArePartsOf (domain : List Text) (times texts : List Identifier) (peri
 -- one part that has just the assignments of the set
 pub record IsPartOfSet (domain : List Text) (times texts : List Identifier) (period : ℤ) (set : Assignment → Type 0) (made : Table) : Type 0 where
   pub part : IsPeriodPart domain times texts period made
-  pub sound : (env : Assignment) → Has made domain env → set env
-  pub whole : (env : Assignment) → set env → Has made domain env
+  pub sound : (env : Assignment) → HasAssignment made domain env → set env
+  pub whole : (env : Assignment) → set env → HasAssignment made domain env
 
 -- each of the new tables is a part over these variables, where each old one is; together they have the old ones' assignments and those of the set
 pub record ArePartsAdded (domain : List Text) (times texts : List Identifier) (period : ℤ) (set : Assignment → Type 0) (old new : List Table) : Type 0 where

@@ -1,6 +1,6 @@
 // Differences of parts: from each part of the left table each part of the right one is taken away.
 ghost use Rattle.std.specs.Prelude.{IfOk};
-ghost use Rattle.lrp_tables.specs.Tables.{Has};
+ghost use Rattle.lrp_tables.specs.Tables.{HasAssignment};
 ghost use Rattle.lrp_periods.specs.Combining.{CanTakeAll, CanTakeAway};
 ghost use Rattle.lrp_periods.specs.Operations.{CanMinusInParts};
 ghost use Rattle.lrp_periods.specs.Parts.{ArePartsOf, HasSome, IsPartOfSet, part_times, part_texts};
@@ -43,7 +43,7 @@ fn left_of(
 ) -> Result<Table, PartsFault>
     requires { CanTakeAll setting.now.domain.now period left.now rights.now }
     ensures { IfOk result (IsPartOfSet setting.now.domain.now left.now.vars.times
-        left.now.vars.texts period (IsDifferenceOf (Has left.now setting.now.domain.now)
+        left.now.vars.texts period (IsDifferenceOf (HasAssignment left.now setting.now.domain.now)
         (HasSome setting.now.domain.now rights.now))) }
 {
     let mut made = take_away(setting, left, &rights[0], period)?;
@@ -63,8 +63,8 @@ pub(crate) fn take_away(
 ) -> Result<Table, PartsFault>
     requires { CanTakeAway setting.now.domain.now period left.now right.now }
     ensures { IfOk result (IsPartOfSet setting.now.domain.now left.now.vars.times
-        left.now.vars.texts period (IsDifferenceOf (Has left.now setting.now.domain.now)
-        (Has right.now setting.now.domain.now))) }
+        left.now.vars.texts period (IsDifferenceOf (HasAssignment left.now setting.now.domain.now)
+        (HasAssignment right.now setting.now.domain.now))) }
 {
     let own = common_period(left.store.period(), right.store.period(), period);
     let made = minus(setting, left, right, own)?;

@@ -1,7 +1,7 @@
 // Parts of tables, one for each period.
 ghost use Rattle.std.specs.Prelude.{◌≡◌, ◌<◌, ◌^◌, ◌++◌, ◌∷◌, [], ℤ, pos, IfOk, IfSome, length};
 ghost use Rattle.lrp_store.specs.Stores.{HasReach, IsStore};
-ghost use Rattle.lrp_tables.specs.Tables.{Has};
+ghost use Rattle.lrp_tables.specs.Tables.{HasAssignment};
 ghost use Rattle.lrp_periods.specs.Combining.{CanAddPart, IsPlaceWith};
 ghost use Rattle.lrp_periods.specs.Parts.{ArePartsAdded};
 
@@ -88,7 +88,7 @@ pub(crate) fn add_part(
     ensures { IfOk result (λ new. (period : ℤ)
         → CanAddPart setting.now.domain.now period parts made
         → ArePartsAdded setting.now.domain.now made.vars.times made.vars.texts period
-        (Has made setting.now.domain.now) parts new) }
+        (HasAssignment made setting.now.domain.now) parts new) }
 {
     match place_with(parts.as_slice(), &made) {
         Some(place) => join_part(setting, parts, made, place),
@@ -136,7 +136,7 @@ fn join_part(
     ensures { IfOk result (λ new. (period : ℤ)
         → CanAddPart setting.now.domain.now period parts made
         → ArePartsAdded setting.now.domain.now made.vars.times made.vars.texts period
-        (Has made setting.now.domain.now) parts new) }
+        (HasAssignment made setting.now.domain.now) parts new) }
 {
     let both = union(setting, parts.at(place), &made, made.store.period())?;
     let joined = small(both)?;

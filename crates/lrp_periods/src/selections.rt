@@ -1,6 +1,6 @@
 // Selections from parts.
 ghost use Rattle.std.specs.Prelude.{IfOk};
-ghost use Rattle.lrp_tables.specs.Tables.{Has};
+ghost use Rattle.lrp_tables.specs.Tables.{HasAssignment};
 ghost use Rattle.lrp_periods.specs.Combining.{CanSelectPart};
 ghost use Rattle.lrp_periods.specs.Operations.{CanSelectInParts};
 ghost use Rattle.lrp_periods.specs.Parts.{ArePartsOf, HasSome, IsPartOfSet, part_times, part_texts};
@@ -43,7 +43,7 @@ fn select_part(
     requires { CanSelectPart setting.now.domain.now period part.now test.now }
     ensures { IfOk result (IsPartOfSet setting.now.domain.now part.now.vars.times
         part.now.vars.texts period
-        (IsSelectionOf (Has part.now setting.now.domain.now) test.now)) }
+        (IsSelectionOf (HasAssignment part.now setting.now.domain.now) test.now)) }
 {
     let own = with_test(part.store.period(), test, period);
     let made = select(setting, part, test, own)?;

@@ -2,7 +2,7 @@
 ghost use Rattle.std.specs.Prelude.{◌≡◌, ◌≤◌, ◌≤ℤ◌, ◌^◌, ℤ, pos, nat_abs, IfOk};
 ghost use Rattle.lrp_store.specs.Stores.{IsStore};
 ghost use Rattle.lrp_tables.specs.Columns.{joint};
-ghost use Rattle.lrp_tables.specs.Tables.{Has};
+ghost use Rattle.lrp_tables.specs.Tables.{HasAssignment};
 ghost use Rattle.lrp_periods.specs.Combining.{CanStandBeside, IsNothingOver};
 ghost use Rattle.lrp_periods.specs.Operations.{CanCombineInParts};
 ghost use Rattle.lrp_periods.specs.Parts.{ArePartsOf, HasSome, IsPartOfSet, part_times, part_texts};
@@ -50,7 +50,7 @@ fn left_beside(setting: &Setting<'_>, left: &Table, right: &Table) -> Result<Tab
         → IsPartOfSet setting.now.domain.now (joint left.now.vars.times right.now.vars.times)
         (joint left.now.vars.texts right.now.vars.texts) period
         (IsExtensionOf setting.now.domain.now (joint left.now.vars.texts right.now.vars.texts)
-        (Has left.now setting.now.domain.now)) made) }
+        (HasAssignment left.now setting.now.domain.now)) made) }
 {
     let nothing = nothing_over(setting, right, 1)?;
     let made = union(setting, left, &nothing, left.store.period())?;
@@ -65,7 +65,7 @@ fn right_beside(setting: &Setting<'_>, left: &Table, right: &Table) -> Result<Ta
         → IsPartOfSet setting.now.domain.now (joint left.now.vars.times right.now.vars.times)
         (joint left.now.vars.texts right.now.vars.texts) period
         (IsExtensionOf setting.now.domain.now (joint left.now.vars.texts right.now.vars.texts)
-        (Has right.now setting.now.domain.now)) made) }
+        (HasAssignment right.now setting.now.domain.now)) made) }
 {
     let nothing = nothing_over(setting, left, 1)?;
     let made = union(setting, &nothing, right, right.store.period())?;

@@ -8,7 +8,7 @@ use Rattle.lrp_model.specs.Satisfaction.{Structure}
 use Rattle.lrp_theory.specs.Divides.{IsCommon}
 use Rattle.lrp_model.specs.Periods.{period, periods, periods_each, test_periods}
 use Rattle.lrp_model.specs.Reach.{greatest, step_reach, test_reach, term_magnitudes}
-use Rattle.lrp_model.specs.Steps.{Steps, formula_at, reach_at, made, step_behind, tests_as_forms, scan_of, leaf, sort_texts, join, select, union, minus, complement, drop_of}
+use Rattle.lrp_model.specs.Steps.{Steps, formula_at, reach_at, made, step_after, tests_as_forms, scan_of, leaf, sort_texts, join, select, union, minus, complement, drop_of}
 use Rattle.lrp_model.specs.Conjunctions.{is_test}
 use Rattle.lrp_model.specs.declared.relations.Relation.{Relation}
 use Rattle.lrp_model.specs.Sorts.{is_time}
@@ -37,7 +37,7 @@ get_last [] x = refl
 get_last (y ∷ ys) x = get_last ys x
 
 reach_made : (M : Structure) (kind : StepKind) (f : Form) (steps : Steps) → reach_at (made M kind f steps) (length (made M kind f steps)) ≡ step_reach M.relations (reach_at steps) (period M.relations f) kind
-reach_made M kind f steps = ap (reach_at (made M kind f steps)) (length_made M kind f steps) ∙ ap (λ o. unwrap_or (option_map (λ step. step.reach) o) 0) (get_last steps (step_behind M kind f steps))
+reach_made M kind f steps = ap (reach_at (made M kind f steps)) (length_made M kind f steps) ∙ ap (λ o. unwrap_or (option_map (λ step. step.reach) o) 0) (get_last steps (step_after M kind f steps))
 
 pub zip_push : {A B : Type 0} (R : A → B → Type 0) (xs : List A) (ys : List B) (x : A) (y : B) → AllZip R xs ys → R x y → AllZip R (xs ++ x ∷ []) (ys ++ y ∷ [])
 zip_push R [] [] x y h r = (r, tt)
@@ -56,7 +56,7 @@ made_follows M K kind code f k reach old new planned d a same least divides far 
     record {
       whole = d.whole;
       steps = subst (λ xs. AllZip IsDraftOf xs n) (sym a.steps)
-          (zip_push IsDraftOf old.steps planned (record { kind = code; period = pos k; reach = pos reach }) (step_behind M kind f planned) d.steps (record { kind = same; period = ap pos e; reach = ap pos r }));
+          (zip_push IsDraftOf old.steps planned (record { kind = code; period = pos k; reach = pos reach }) (step_after M kind f planned) d.steps (record { kind = same; period = ap pos e; reach = ap pos r }));
       last = record {
         within = omega arith;
         number = (let l : length n ≡ suc (length planned) = length_made M kind f planned in let m : old.last.number ≡ length planned = d.last.number in let s : new.last.number ≡ old.last.number + 1 = a.number in omega arith);

@@ -9,9 +9,9 @@ or_with : (a b : Bool) → a ≡ true → (a || b) ≡ true
 or_with true b e = refl
 or_with false b e = cc
 
-or_behind : (a b : Bool) → b ≡ true → (a || b) ≡ true
-or_behind true b e = refl
-or_behind false b e = e
+or_after : (a b : Bool) → b ≡ true → (a || b) ≡ true
+or_after true b e = refl
+or_after false b e = e
 
 or_none : (a b : Bool) → a ≡ false → b ≡ false → (a || b) ≡ false
 or_none true b e f = cc
@@ -28,7 +28,7 @@ any_push p (x ∷ xs) r e f = first_no (p x) (list_any p xs) (list_any p (xs ++ 
 any_at : (p : Relation → Bool) (xs : List Relation) (i : ℕ) (r : Relation) → slice_get xs i ≡ Some r → p r ≡ true → list_any p xs ≡ true
 any_at p [] i r e h = cc
 any_at p (x ∷ xs) zero r e h = let d : x ≡ r = cc in or_with (p x) (list_any p xs) (ap p d ∙ h)
-any_at p (x ∷ xs) (suc i) r e h = or_behind (p x) (list_any p xs) (any_at p xs i r e h)
+any_at p (x ∷ xs) (suc i) r e h = or_after (p x) (list_any p xs) (any_at p xs i r e h)
 
 pub one_names : (db : List Relation) (i : ℕ) (r : Relation) (b : Bool) → slice_get db i ≡ Some r → b ≡ list_any (λ column. is_named column.sort) r.columns → b ≡ true → true ≡ has_named_sort db
 one_names db i r b e h t = sym (any_at (λ relation. list_any (λ column. is_named column.sort) relation.columns) db i r e (sym h ∙ t))

@@ -8,7 +8,7 @@ use Rattle.lrp_model.specs.Variables.{Variable, free, are_among}
 use Rattle.lrp_model.specs.Satisfaction.{Structure}
 use Rattle.lrp_theory.specs.Divides.{IsCommon}
 use Rattle.lrp_model.specs.Periods.{periods, test_periods}
-use Rattle.lrp_model.specs.Steps.{Steps, formula_at, reach_at, join, select, minus, complement, leaf, step_behind}
+use Rattle.lrp_model.specs.Steps.{Steps, formula_at, reach_at, join, select, minus, complement, leaf, step_after}
 use Rattle.lrp_model.specs.Conjunctions.{Taken, is_test, select_each, take_in}
 use Rattle.lrp_model.specs.declared.relations.Relation.{Relation}
 use Rattle.lrp_model.specs.declared.formulas.Test.{Test}
@@ -127,7 +127,7 @@ takes_test t vs old new before mid after same h k = record {
   follows = λ M K state ts d w a.
       k.follows M K (test t) (leaf t M state.steps) (record state { tests = ts }) same
       ((h M K (subst (λ ks. IsCommon ks K) (sym (no_period t a.0)) tt)).follows state.steps d)
-      (taking_grows M.relations K state.steps (step_behind M _ (test t) state.steps ∷ []) old state.taken ts w);
+      (taking_grows M.relations K state.steps (step_after M _ (test t) state.steps ∷ []) old state.taken ts w);
 }
 
 -- ---- what is taken off
@@ -146,7 +146,7 @@ pub subtract_joined : {T E : Type 0} (r : Result T E) (result : Option PlannedOp
 subtract_joined (Ok x) result o covered none old mid new e c n g h = record {
   follows = λ M K steps taken d w.
       let v : IsSoFar M.relations K steps (Some o) taken = subst (λ z. IsSoFar M.relations K steps z taken) e w in
-      let j : IsDraft M.relations K new (join taken.result none M (complement M steps)) = (h M K (subst AreTests (sym n) tt)).follows (complement M steps) taken.result ((g M K).follows steps d) (operand_grows M.relations K steps (step_behind M _ _ steps ∷ []) taken.result o v.1) in
+      let j : IsDraft M.relations K new (join taken.result none M (complement M steps)) = (h M K (subst AreTests (sym n) tt)).follows (complement M steps) taken.result ((g M K).follows steps d) (operand_grows M.relations K steps (step_after M _ _ steps ∷ []) taken.result o v.1) in
       subst (λ b. IsDraft M.relations K new (cond (b && covered) (minus taken.result M steps) (cond b (join taken.result [] M (complement M steps)) (complement M steps)))) (sym v.0)
       (subst (λ b. IsDraft M.relations K new (cond b (minus taken.result M steps) (join taken.result [] M (complement M steps)))) (sym c) (subst (λ us. IsDraft M.relations K new (join taken.result us M (complement M steps))) n j));
 }

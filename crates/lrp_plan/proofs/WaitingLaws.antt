@@ -11,13 +11,13 @@ use Rattle.lrp_model.specs.Conjunctions.{first_or_0}
 use Rattle.lrp_plan.specs.declared.elements.Element.{Element}
 use Rattle.lrp_plan.specs.declared.waiting.Turn.{Turn}
 use Rattle.lrp_plan.specs.Elements.{TakesAt}
-use Rattle.lrp_plan.specs.Waiting.{goes_first, FallBehind}
+use Rattle.lrp_plan.specs.Waiting.{goes_first, FallAfter}
 
 module _ {X : Type 0} (p : X → Bool) where
-  behind : (xs ys : List X) (x : X) → AllByRecursion (λ y. p y ≡ false) xs → p x ≡ true → position_or_len p (xs ++ x ∷ ys) ≡ length xs
-  behind [] ys x h e = ap (λ b. cond (not b) (1 + position_or_len p ys) 0) e
-  behind (z ∷ xs) ys x h e =
-      let n : position_or_len p (xs ++ x ∷ ys) ≡ length xs = behind xs ys x h.1 e in
+  after : (xs ys : List X) (x : X) → AllByRecursion (λ y. p y ≡ false) xs → p x ≡ true → position_or_len p (xs ++ x ∷ ys) ≡ length xs
+  after [] ys x h e = ap (λ b. cond (not b) (1 + position_or_len p ys) 0) e
+  after (z ∷ xs) ys x h e =
+      let n : position_or_len p (xs ++ x ∷ ys) ≡ length xs = after xs ys x h.1 e in
       ap (λ b. cond (not b) (1 + position_or_len p (xs ++ x ∷ ys)) 0) h.0 ∙ (omega arith)
 
   none : (xs : List X) → AllByRecursion (λ y. p y ≡ false) xs → position_or_len p xs ≡ length xs
@@ -34,9 +34,9 @@ module _ {X : Type 0} (p : X → Bool) where
   longer (z ∷ xs) ys x = let h : length xs < length (xs ++ x ∷ ys) = longer xs ys x in omega arith
 
   -- one that passes, after those that do not
-  pub first_behind : (xs ys : List X) (x : X) → AllByRecursion (λ y. p y ≡ false) xs → p x ≡ true → first_or_0 p (xs ++ x ∷ ys) ≡ length xs
-  first_behind xs ys x h e =
-      ap (λ n. unwrap_or (cond (nat_lt n (length (xs ++ x ∷ ys))) (Some n) None) 0) (behind xs ys x h e)
+  pub first_after : (xs ys : List X) (x : X) → AllByRecursion (λ y. p y ≡ false) xs → p x ≡ true → first_or_0 p (xs ++ x ∷ ys) ≡ length xs
+  first_after xs ys x h e =
+      ap (λ n. unwrap_or (cond (nat_lt n (length (xs ++ x ∷ ys))) (Some n) None) 0) (after xs ys x h e)
       ∙ chosen (length xs) (length (xs ++ x ∷ ys)) true (lt-ltb (length xs) (length (xs ++ x ∷ ys)) (longer xs ys x))
 
   -- where none passes
@@ -46,19 +46,19 @@ module _ {X : Type 0} (p : X → Bool) where
       ∙ chosen (length xs) (length xs) false (le-ltb (length xs) (length xs) (omega arith))
 
 module _ {X : Type 0} where
-  get_behind : (xs ys : List X) (x : X) → slice_get (xs ++ x ∷ ys) (length xs) ≡ Some x
-  get_behind [] ys x = refl
-  get_behind (z ∷ xs) ys x = get_behind xs ys x
+  get_after : (xs ys : List X) (x : X) → slice_get (xs ++ x ∷ ys) (length xs) ≡ Some x
+  get_after [] ys x = refl
+  get_after (z ∷ xs) ys x = get_after xs ys x
 
-  remove_behind : (xs ys : List X) (x : X) → remove (xs ++ x ∷ ys) (length xs) ≡ xs ++ ys
-  remove_behind [] ys x = refl
-  remove_behind (z ∷ xs) ys x = ap (λ zs. z ∷ zs) (remove_behind xs ys x)
+  remove_after : (xs ys : List X) (x : X) → remove (xs ++ x ∷ ys) (length xs) ≡ xs ++ ys
+  remove_after [] ys x = refl
+  remove_after (z ∷ xs) ys x = ap (λ zs. z ∷ zs) (remove_after xs ys x)
 
 -- one that goes before the others is taken from after those that do not
-pub takes_behind : (p : Element → Bool) (all xs ys : List Element) (e : Element) → all ≡ xs ++ e ∷ ys → AllByRecursion (λ y. p y ≡ false) xs → p e ≡ true → TakesAt (first_or_0 p all) all (xs ++ ys) (Some e)
-takes_behind p all xs ys e is h t =
+pub takes_after : (p : Element → Bool) (all xs ys : List Element) (e : Element) → all ≡ xs ++ e ∷ ys → AllByRecursion (λ y. p y ≡ false) xs → p e ≡ true → TakesAt (first_or_0 p all) all (xs ++ ys) (Some e)
+takes_after p all xs ys e is h t =
     subst (λ zs. TakesAt (first_or_0 p zs) zs (xs ++ ys) (Some e)) (sym is)
-    (subst (λ n. TakesAt n (xs ++ e ∷ ys) (xs ++ ys) (Some e)) (sym (first_behind p xs ys e h t)) (get_behind xs ys e, sym (remove_behind xs ys e)))
+    (subst (λ n. TakesAt n (xs ++ e ∷ ys) (xs ++ ys) (Some e)) (sym (first_after p xs ys e h t)) (get_after xs ys e, sym (remove_after xs ys e)))
 
 -- the first is taken
 takes_zero : (all xs : List Element) (r : Option Element) → all ≡ option_to_list r ++ xs → IsSome r ↔ (0 < length all) → TakesAt 0 all xs r
@@ -74,7 +74,7 @@ takes_front p all passed rest left r is none zero out v =
 
 -- one that is alone is the first
 alone_by : (p : Element → Bool) (e : Element) (b : Bool) → p e ≡ b → first_or_0 p (e ∷ []) ≡ 0
-alone_by p e true h = first_behind p [] [] e tt h
+alone_by p e true h = first_after p [] [] e tt h
 alone_by p e false h = first_of_none p (e ∷ []) (h, tt)
 
 pub alone : (p : Element → Bool) (es : List Element) → length es ≤ 1 → first_or_0 p es ≡ 0
@@ -108,35 +108,35 @@ takes_first p all xs (Some e) is v h =
     subst (λ i. TakesAt i all xs (Some e)) (sym (first_of_none p all h))
     (subst (λ zs. TakesAt 0 zs xs (Some e)) (sym is) (refl, refl))
 
-nothing_behind : (xs ys : List Element) → ys ≡ [] → xs ++ ys ≡ xs
-nothing_behind xs ys e = ap (λ zs. xs ++ zs) e ∙ append-nil xs
+nothing_after : (xs ys : List Element) → ys ≡ [] → xs ++ ys ≡ xs
+nothing_after xs ys e = ap (λ zs. xs ++ zs) e ∙ append-nil xs
 
 -- the same, where all were passed over
 pub takes_left : (p : Element → Bool) (all passed rest left gone : List Element) (r : Option Element) → all ≡ passed ++ rest → rest ≡ [] → gone ≡ [] → passed ≡ option_to_list r ++ left → IsSome r ↔ (0 < length passed) → AllByRecursion (λ y. p y ≡ false) passed → TakesAt (first_or_0 p all) all (left ++ gone) r
 takes_left p all passed rest left gone r is none empty out v h =
-    subst (λ zs. TakesAt (first_or_0 p zs) zs (left ++ gone) r) (sym (is ∙ nothing_behind passed rest none))
-    (subst (λ zs. TakesAt (first_or_0 p passed) passed zs r) (sym (nothing_behind left gone empty)) (takes_first p passed left r out v h))
+    subst (λ zs. TakesAt (first_or_0 p zs) zs (left ++ gone) r) (sym (is ∙ nothing_after passed rest none))
+    (subst (λ zs. TakesAt (first_or_0 p passed) passed zs r) (sym (nothing_after left gone empty)) (takes_first p passed left r out v h))
 
 -- one more that does not go before the others
-pub one_behind : (turn : Turn) (vs : List ProgramVariable) (es : List Element) (e : Element) → FallBehind turn vs es → goes_first turn vs e ≡ false → FallBehind turn vs (es ++ e ∷ [])
-one_behind turn vs es e h t = (all_append (λ x. goes_first turn vs x ≡ false) es (e ∷ [])).1 (h, (t, tt))
+pub one_after : (turn : Turn) (vs : List ProgramVariable) (es : List Element) (e : Element) → FallAfter turn vs es → goes_first turn vs e ≡ false → FallAfter turn vs (es ++ e ∷ [])
+one_after turn vs es e h t = (all_append (λ x. goes_first turn vs x ≡ false) es (e ∷ [])).1 (h, (t, tt))
 
 -- what is left of them
-pub left_behind : (turn : Turn) (vs : List ProgramVariable) (es xs : List Element) (r : Option Element) → es ≡ option_to_list r ++ xs → FallBehind turn vs es → FallBehind turn vs xs
-left_behind turn vs es xs r is h = ((all_append (λ x. goes_first turn vs x ≡ false) (option_to_list r) xs).0 (subst (FallBehind turn vs) is h)).1
+pub left_after : (turn : Turn) (vs : List ProgramVariable) (es xs : List Element) (r : Option Element) → es ≡ option_to_list r ++ xs → FallAfter turn vs es → FallAfter turn vs xs
+left_after turn vs es xs r is h = ((all_append (λ x. goes_first turn vs x ≡ false) (option_to_list r) xs).0 (subst (FallAfter turn vs) is h)).1
 
 -- none was passed over yet
-pub none_behind : (turn : Turn) (vs : List ProgramVariable) (es : List Element) → es ≡ [] → FallBehind turn vs es
-none_behind turn vs es is = subst (FallBehind turn vs) (sym is) tt
+pub none_after : (turn : Turn) (vs : List ProgramVariable) (es : List Element) → es ≡ [] → FallAfter turn vs es
+none_after turn vs es is = subst (FallAfter turn vs) (sym is) tt
 
 -- those that were passed over in a turn are after in the same turn
-pub still_behind : (before turn : Turn) (seen vs : List ProgramVariable) (es : List Element) → before ≡ turn → seen ≡ vs → FallBehind before seen es → FallBehind turn vs es
-still_behind before turn seen vs es t s h = subst (λ ws. FallBehind turn ws es) s (subst (λ u. FallBehind u seen es) t h)
+pub still_after : (before turn : Turn) (seen vs : List ProgramVariable) (es : List Element) → before ≡ turn → seen ≡ vs → FallAfter before seen es → FallAfter turn vs es
+still_after before turn seen vs es t s h = subst (λ ws. FallAfter turn ws es) s (subst (λ u. FallAfter u seen es) t h)
 
 -- what is taken out of all that wait
-pub takes_next : {E : Type 0} (r : Result (Option Element) E) (turn : Turn) (vs ws : List ProgramVariable) (old passed rest new : List Element) → vs ≡ ws → passed ++ rest ≡ old → FallBehind turn ws passed
-    → IfOk r (λ taken. FallBehind turn vs passed → TakesAt (first_or_0 (goes_first turn vs) (passed ++ rest)) (passed ++ rest) new taken) → IfOk r (λ taken. TakesAt (first_or_0 (goes_first turn ws) old) old new taken)
+pub takes_next : {E : Type 0} (r : Result (Option Element) E) (turn : Turn) (vs ws : List ProgramVariable) (old passed rest new : List Element) → vs ≡ ws → passed ++ rest ≡ old → FallAfter turn ws passed
+    → IfOk r (λ taken. FallAfter turn vs passed → TakesAt (first_or_0 (goes_first turn vs) (passed ++ rest)) (passed ++ rest) new taken) → IfOk r (λ taken. TakesAt (first_or_0 (goes_first turn ws) old) old new taken)
 takes_next (Ok t) turn vs ws old passed rest new s e h k =
     subst (λ us. TakesAt (first_or_0 (goes_first turn us) old) old new t) s
-    (subst (λ xs. TakesAt (first_or_0 (goes_first turn vs) xs) xs new t) e (k (subst (λ us. FallBehind turn us passed) (sym s) h)))
+    (subst (λ xs. TakesAt (first_or_0 (goes_first turn vs) xs) xs new t) e (k (subst (λ us. FallAfter turn us passed) (sym s) h)))
 takes_next (Err x) turn vs ws old passed rest new s e h k = tt

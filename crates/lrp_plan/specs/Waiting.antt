@@ -22,5 +22,5 @@ goes_first Meeting vs e = meet (element_variables e) (map variable_of vs)
 goes_first (Covered some) vs e = some && are_among (element_variables e) (map variable_of vs)
 
 -- none of the elements goes before the others
-abbrev pub FallBehind : Turn → List ProgramVariable → List Element → Type 0
-FallBehind turn vs es = AllByRecursion (λ e. goes_first turn vs e ≡ false) es
+abbrev pub FallAfter : Turn → List ProgramVariable → List Element → Type 0
+FallAfter turn vs es = AllByRecursion (λ e. goes_first turn vs e ≡ false) es

@@ -3,7 +3,7 @@ ghost use Rattle.std.specs.Prelude.{◌≡◌, ◌++◌, [], true, false, IfOk, 
 ghost use Rattle.lrp_model.specs.Conjunctions.{first_or_0};
 ghost use Rattle.lrp_plan.specs.Elements.{TakesAt};
 ghost use Rattle.lrp_plan.specs.declared.elements.Element.{Element as ElementOf};
-ghost use Rattle.lrp_plan.specs.Waiting.{goes_first, FallBehind};
+ghost use Rattle.lrp_plan.specs.Waiting.{goes_first, FallAfter};
 
 use crate::elements::Element;
 use lrp_core::{Variable, are_among, are_same, meet};
@@ -48,7 +48,7 @@ impl<'a> Model for Waiting<'a> {
 
     ghost Value = { List ElementOf };
 
-    ghost use Rattle.lrp_plan.specs.Waiting.{FallBehind};
+    ghost use Rattle.lrp_plan.specs.Waiting.{FallAfter};
 
     ghost view = { λ w. w.passed.items ++ w.rest.items };
 
@@ -57,7 +57,7 @@ impl<'a> Model for Waiting<'a> {
 
     ghost coded = { Prim.hlevel (codes, trees.the_row.coded) };
 
-    ghost invariant = { λ w. FallBehind w.turn w.seen w.passed.items };
+    ghost invariant = { λ w. FallAfter w.turn w.seen w.passed.items };
 }
 
 impl<'a> Waiting<'a> {
@@ -149,9 +149,9 @@ fn take_first<'a>(
     turn: Turn,
     variables: &[Variable],
 ) -> Result<Option<Element<'a>>, Memory>
-    ensures behind { FallBehind turn variables.now passed.old.items
-        → FallBehind turn variables.now passed.new.items }
-    ensures taken { IfOk result (λ taken. FallBehind turn variables.now passed.old.items
+    ensures after { FallAfter turn variables.now passed.old.items
+        → FallAfter turn variables.now passed.new.items }
+    ensures taken { IfOk result (λ taken. FallAfter turn variables.now passed.old.items
         → TakesAt (first_or_0 (goes_first turn variables.now) (passed.old.items ++ rest.old.items))
         (passed.old.items ++ rest.old.items) (passed.new.items ++ rest.new.items) taken) }
 {

@@ -7,7 +7,7 @@ use Rattle.lrp_model.specs.Formulas.{Form, test, negation, conjunction, disjunct
 use Rattle.lrp_model.specs.Variables.{Variable, variables_of_test, free}
 use Rattle.lrp_model.specs.Satisfaction.{Structure}
 use Rattle.lrp_model.specs.Reach.{step_reach, greatest, test_reach}
-use Rattle.lrp_model.specs.Steps.{PlanStep, Steps, step_at, formula_at, reach_at, step_behind, made, tests_as_forms}
+use Rattle.lrp_model.specs.Steps.{PlanStep, Steps, step_at, formula_at, reach_at, step_after, made, tests_as_forms}
 use Rattle.lrp_model.specs.declared.relations.Sort.{Sort}
 use Rattle.lrp_model.specs.declared.relations.Sort.TheVariants.{Time}
 use Rattle.lrp_model.specs.declared.relations.Relation.{Relation}
@@ -105,11 +105,11 @@ pub record CanMake (M : Structure) (head : HeadStep) (rules : Rules) (steps : St
 -- a step that can be made is made of earlier ones, and so is each before it
 pub made_more : (M : Structure) (head : HeadStep) (rules : Rules) (steps : Steps) (kind : StepKind) (f : Form) → CanMake M head rules steps kind f → AreMade M head rules steps → AreMade M head rules (made M kind f steps)
 made_more M head rules steps kind f can all s step e =
-    ⊎_elim (λ h. let le : s ≤ length steps = h.0 in moved M head rules steps (step_behind M kind f steps ∷ []) s step (omega arith) (all s step h.1))
+    ⊎_elim (λ h. let le : s ≤ length steps = h.0 in moved M head rules steps (step_after M kind f steps ∷ []) s step (omega arith) (all s step h.1))
     (λ h. subst (λ n. IsRuled M head rules (made M kind f steps) n step) (sym h.0) (subst (IsRuled M head rules (made M kind f steps) (suc (length steps))) h.1
-    (moved M head rules steps (step_behind M kind f steps ∷ []) (suc (length steps)) (step_behind M kind f steps) (omega arith)
+    (moved M head rules steps (step_after M kind f steps ∷ []) (suc (length steps)) (step_after M kind f steps) (omega arith)
     (record { made = record { earlier = can.operands; formula = can.formula; variables = can.variables; period = refl; reach = refl }; drop = can.drop }))))
-    (step_one_more steps (step_behind M kind f steps) step s e)
+    (step_one_more steps (step_after M kind f steps) step s e)
 
 -- ---- no step before the last one is above it
 
@@ -150,19 +150,19 @@ module _ (M : Structure) (head : HeadStep) (rules : Rules) (fits : List Variable
   -- one step after steps that were built before
   pub by_step : (before steps : Steps) (kind : StepKind) (f : Form) (p : Saying) (more : Steps) → steps ≡ before ++ more → length before ≤ length steps
       → (AreMade M head rules before → AreMade M head rules steps) → (AreFitting fits guard before → AreFitting fits guard steps)
-      → ((b : ℕ) (ks : List Mark) → IsUnder M.relations b ks f (step_behind M kind f steps).reach → AreUnder M.relations b ks before → AreUnder M.relations b ks steps)
+      → ((b : ℕ) (ks : List Mark) → IsUnder M.relations b ks f (step_after M kind f steps).reach → AreUnder M.relations b ks before → AreUnder M.relations b ks steps)
       → CanMake M head rules steps kind f → fits (free f) → Kept guard f → ((ws : List Variable) (ks : List Mark) → Names M.relations f ws ks ↔ p ws ks) → Builds M head rules fits guard before (made M kind f steps) p
   by_step before steps kind f p more is le old fit low can good kept names = record {
-    more = more ++ step_behind M kind f steps ∷ [];
-    is = ap (λ s. s ++ step_behind M kind f steps ∷ []) is ∙ append_assoc before more (step_behind M kind f steps ∷ []);
+    more = more ++ step_after M kind f steps ∷ [];
+    is = ap (λ s. s ++ step_after M kind f steps ∷ []) is ∙ append_assoc before more (step_after M kind f steps ∷ []);
     grown = let l : length (made M kind f steps) ≡ suc (length steps) = length_made M kind f steps in omega arith;
     names = λ ws ks. subst (λ g. Names M.relations g ws ks ↔ p ws ks) (sym (formula_made M kind f steps)) (names ws ks);
     made = λ h. made_more M head rules steps kind f can (old h);
     under = λ b ks last h.
-        let new : IsUnder M.relations b ks f (step_behind M kind f steps).reach =
+        let new : IsUnder M.relations b ks f (step_after M kind f steps).reach =
         (subst (λ r. r ≤ b) (reach_made M kind f steps) last.0, subst (λ g. AllByRecursion (Contains ks) (marks g M.relations)) (formula_made M kind f steps) last.1) in
-        (all_append (λ step. IsUnder M.relations b ks step.formula step.reach) steps (step_behind M kind f steps ∷ [])).1 (low b ks new h, (new, tt));
-    fitting = λ h. (all_append (λ step. fits (free step.formula) × Kept guard step.formula) steps (step_behind M kind f steps ∷ [])).1 (fit h, ((good, kept), tt));
+        (all_append (λ step. IsUnder M.relations b ks step.formula step.reach) steps (step_after M kind f steps ∷ [])).1 (low b ks new h, (new, tt));
+    fitting = λ h. (all_append (λ step. fits (free step.formula) × Kept guard step.formula) steps (step_after M kind f steps ∷ [])).1 (fit h, ((good, kept), tt));
   }
 
   -- a step that reads none
@@ -172,7 +172,7 @@ module _ (M : Structure) (head : HeadStep) (rules : Rules) (fits : List Variable
 
   -- a step that reads the last one
   pub by_next : (before steps : Steps) (p q : Saying) (kind : StepKind) (f : Form) → Builds M head rules fits guard before steps p
-      → ((b : ℕ) (ks : List Mark) → IsUnder M.relations b ks f (step_behind M kind f steps).reach → LastIsUnder M.relations b ks steps)
+      → ((b : ℕ) (ks : List Mark) → IsUnder M.relations b ks f (step_after M kind f steps).reach → LastIsUnder M.relations b ks steps)
       → CanMake M head rules steps kind f → fits (free f) → Kept guard f → ((ws : List Variable) (ks : List Mark) → Names M.relations f ws ks ↔ q ws ks) → Builds M head rules fits guard before (made M kind f steps) q
   by_next before steps p q kind f m low can good kept names =
       by_step before steps kind f q m.more m.is (let g : length before < length steps = m.grown in omega arith) m.made m.fitting (λ b ks new h. m.under b ks (low b ks new) h) can good kept names
@@ -191,7 +191,7 @@ module _ (M : Structure) (head : HeadStep) (rules : Rules) (fits : List Variable
 
   -- a step that reads the last steps of two lists, of which the second goes on from the first
   pub by_both : (before mid steps : Steps) (p q r : Saying) (kind : StepKind) (f : Form) → Builds M head rules fits guard before mid p → Builds M head rules fits guard mid steps q
-      → ((b : ℕ) (ks : List Mark) → IsUnder M.relations b ks f (step_behind M kind f steps).reach → IsUnder M.relations b ks (formula_at steps (length mid)) (reach_at steps (length mid)) × LastIsUnder M.relations b ks steps)
+      → ((b : ℕ) (ks : List Mark) → IsUnder M.relations b ks f (step_after M kind f steps).reach → IsUnder M.relations b ks (formula_at steps (length mid)) (reach_at steps (length mid)) × LastIsUnder M.relations b ks steps)
       → CanMake M head rules steps kind f → fits (free f) → Kept guard f → ((ws : List Variable) (ks : List Mark) → Names M.relations f ws ks ↔ r ws ks) → Builds M head rules fits guard before (made M kind f steps) r
   by_both before mid steps p q r kind f m n low can good kept names =
       by_step before steps kind f r (m.more ++ n.more) (n.is ∙ ap (λ s. s ++ n.more) m.is ∙ append_assoc before m.more n.more)

@@ -4,7 +4,7 @@ use Rattle.std.specs.List.{AllByRecursion, position_or_len}
 use Rattle.std.proofs.lemmas.Bool.{ltb-true}
 use Rattle.lrp_model.specs.Formulas.{Form, conjunction, no_forms}
 use Rattle.lrp_model.specs.Satisfaction.{Structure}
-use Rattle.lrp_model.specs.Steps.{PlanStep, Steps, step_at, formula_at, reach_at, step_behind, made}
+use Rattle.lrp_model.specs.Steps.{PlanStep, Steps, step_at, formula_at, reach_at, step_after, made}
 use Rattle.lrp_model.specs.Conjunctions.{first_or_0}
 use Rattle.lrp_model.specs.Periods.{period}
 use Rattle.lrp_plan_laws.specs.Rising.{period_at}
@@ -46,11 +46,11 @@ pub reach_front : (steps more : Steps) (s : ℕ) → s ≤ length steps → reac
 reach_front steps more s le = ap (λ o. unwrap_or (option_map (λ step. step.reach) o) 0) (step_front steps more s le)
 
 -- the step that was made is the last
-pub step_made : (M : Structure) (kind : StepKind) (f : Form) (steps : Steps) → step_at (made M kind f steps) (length (made M kind f steps)) ≡ Some (step_behind M kind f steps)
+pub step_made : (M : Structure) (kind : StepKind) (f : Form) (steps : Steps) → step_at (made M kind f steps) (length (made M kind f steps)) ≡ Some (step_after M kind f steps)
 step_made M kind f steps = ap (step_at (made M kind f steps)) (length_made M kind f steps) ∙ get_last steps _
 
 -- it has its reach
-pub reach_made : (M : Structure) (kind : StepKind) (f : Form) (steps : Steps) → reach_at (made M kind f steps) (length (made M kind f steps)) ≡ (step_behind M kind f steps).reach
+pub reach_made : (M : Structure) (kind : StepKind) (f : Form) (steps : Steps) → reach_at (made M kind f steps) (length (made M kind f steps)) ≡ (step_after M kind f steps).reach
 reach_made M kind f steps = ap (reach_at (made M kind f steps)) (length_made M kind f steps) ∙ ap (λ o. unwrap_or (option_map (λ step. step.reach) o) 0) (get_last steps _)
 
 -- and the period of its formula

@@ -7,7 +7,7 @@ use Rattle.lrp_model.specs.Variables.{free}
 use Rattle.lrp_model.specs.Satisfaction.{Structure, Assignment, Satisfies, ForSome, IsOfSort, with_value, structure}
 use Rattle.lrp_model.specs.Domains.{domain, constants, all_texts, same_sort}
 use Rattle.lrp_model.specs.Core.{conjuncts, disjuncts, all_conjuncts, all_disjuncts, and_list, or_list, and_two, positive_test, negative_test, with_sort, positive, negative, positives, negatives, column_elements, head_elements, core_form, has_named_sort, is_named, HasElements}
-use Rattle.lrp_model.specs.Steps.{PlanStep, Steps, step_at, formula_at, step_behind}
+use Rattle.lrp_model.specs.Steps.{PlanStep, Steps, step_at, formula_at, step_after}
 use Rattle.lrp_model.specs.Plans.{plan, core_steps, HasNoNamedSorts}
 use Rattle.lrp_model.specs.declared.relations.Sort.{Sort}
 use Rattle.lrp_model.specs.declared.relations.Sort.TheVariants.{Time, Data, Named}
@@ -198,7 +198,7 @@ guards_core db q true plain b =
 -- ---- each drop of a plan
 
 -- `head` drops nothing
-pub not_head : (M : Structure) (f : Form) (steps : Steps) (step : PlanStep) (of : ℕ) (v : Identifier) → step_behind M (Extend (length steps)) f steps ≡ step → step.kind ≡ DropData of v → ⊥
+pub not_head : (M : Structure) (f : Form) (steps : Steps) (step : PlanStep) (of : ℕ) (v : Identifier) → step_after M (Extend (length steps)) f steps ≡ step → step.kind ≡ DropData of v → ⊥
 not_head M f steps step of v e k = let x : Extend (length steps) ≡ DropData of v = ap (λ x. x.kind) e ∙ k in cc
 
 -- a text of the sort is a value of it

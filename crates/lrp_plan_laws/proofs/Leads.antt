@@ -8,7 +8,7 @@ use Rattle.lrp_model.specs.Variables.{Variable, time_variable, data_variable, va
 use Rattle.lrp_model.specs.Satisfaction.{Structure}
 use Rattle.lrp_model.specs.Periods.{period}
 use Rattle.lrp_model.specs.Reach.{greatest, test_reach}
-use Rattle.lrp_model.specs.Steps.{Steps, formula_at, reach_at, step_behind, made, tests_as_forms, join, union, minus, complement}
+use Rattle.lrp_model.specs.Steps.{Steps, formula_at, reach_at, step_after, made, tests_as_forms, join, union, minus, complement}
 use Rattle.lrp_model.specs.declared.formulas.Test.{Test}
 use Rattle.lrp_model.specs.declared.relations.Relation.{Relation}
 use Rattle.lrp_model.specs.declared.relations.Sort.TheVariants.{Time, Data}
@@ -55,22 +55,22 @@ module _ (M : Structure) (head : HeadStep) (rules : Rules) (fits : List Variable
 
   -- one step more
   one_more : (before steps : Steps) (guard : Option ℕ) (kind : StepKind) (f : Form) (more : Steps) → steps ≡ before ++ more → (AreMade M head rules before → AreMade M head rules steps) → AllByRecursion (λ step. fits (free step.formula)) more
-      → ((b : ℕ) (ks : List Mark) → IsUnder M.relations b ks f (step_behind M kind f steps).reach → GuardUnder M.relations b ks before guard × AreUnder M.relations b ks more)
+      → ((b : ℕ) (ks : List Mark) → IsUnder M.relations b ks f (step_after M kind f steps).reach → GuardUnder M.relations b ks before guard × AreUnder M.relations b ks more)
       → CanMake M head rules steps kind f → fits (free f) → Leads M head rules fits before guard (made M kind f steps) (length (made M kind f steps))
   one_more before steps guard kind f more is old fit low can good =
       let e : length (made M kind f steps) ≡ suc (length steps) = length_made M kind f steps in
       record {
-        more = more ++ step_behind M kind f steps ∷ [];
-        is = ap (λ s. s ++ step_behind M kind f steps ∷ []) is ∙ append_assoc before more (step_behind M kind f steps ∷ []);
+        more = more ++ step_after M kind f steps ∷ [];
+        is = ap (λ s. s ++ step_after M kind f steps ∷ []) is ∙ append_assoc before more (step_after M kind f steps ∷ []);
         first = omega arith;
         there = omega arith;
         made = λ h. made_more M head rules steps kind f can (old h);
         under = λ b ks last.
-            let new : IsUnder M.relations b ks f (step_behind M kind f steps).reach =
+            let new : IsUnder M.relations b ks f (step_after M kind f steps).reach =
             (subst (λ r. r ≤ b) (reach_made M kind f steps) last.0, subst (λ g. AllByRecursion (Contains ks) (marks g M.relations)) (formula_made M kind f steps) last.1) in
             let l = low b ks new in
-            (l.0, (all_append (λ step. IsUnder M.relations b ks step.formula step.reach) more (step_behind M kind f steps ∷ [])).1 (l.1, (new, tt)));
-        fitting = (all_append (λ step. fits (free step.formula)) more (step_behind M kind f steps ∷ [])).1 (fit, (good, tt));
+            (l.0, (all_append (λ step. IsUnder M.relations b ks step.formula step.reach) more (step_after M kind f steps ∷ [])).1 (l.1, (new, tt)));
+        fitting = (all_append (λ step. fits (free step.formula)) more (step_after M kind f steps ∷ [])).1 (fit, (good, tt));
       }
 
   -- a step that reads none
@@ -79,13 +79,13 @@ module _ (M : Structure) (head : HeadStep) (rules : Rules) (fits : List Variable
 
   -- a step that reads the one that others lead to
   pub next_leads : (before steps : Steps) (guard : Option ℕ) (of : ℕ) (kind : StepKind) (f : Form) → Leads M head rules fits before guard steps of
-      → ((b : ℕ) (ks : List Mark) → IsUnder M.relations b ks f (step_behind M kind f steps).reach → IsUnder M.relations b ks (formula_at steps of) (reach_at steps of))
+      → ((b : ℕ) (ks : List Mark) → IsUnder M.relations b ks f (step_after M kind f steps).reach → IsUnder M.relations b ks (formula_at steps of) (reach_at steps of))
       → CanMake M head rules steps kind f → fits (free f) → Leads M head rules fits before guard (made M kind f steps) (length (made M kind f steps))
   next_leads before steps guard of kind f l low can good = one_more before steps guard kind f l.more l.is l.made l.fitting (λ b ks new. l.under b ks (low b ks new)) can good
 
   -- a step that reads the two that others lead to, of which the second go on from the first
   pub both_leads : (before mid steps : Steps) (guard other : Option ℕ) (n m : ℕ) (kind : StepKind) (f : Form) → Leads M head rules fits before guard mid n → Leads M head rules fits mid other steps m
-      → ((b : ℕ) (ks : List Mark) → IsUnder M.relations b ks f (step_behind M kind f steps).reach → IsUnder M.relations b ks (formula_at steps n) (reach_at steps n) × IsUnder M.relations b ks (formula_at steps m) (reach_at steps m))
+      → ((b : ℕ) (ks : List Mark) → IsUnder M.relations b ks f (step_after M kind f steps).reach → IsUnder M.relations b ks (formula_at steps n) (reach_at steps n) × IsUnder M.relations b ks (formula_at steps m) (reach_at steps m))
       → CanMake M head rules steps kind f → fits (free f) → Leads M head rules fits before guard (made M kind f steps) (length (made M kind f steps))
   both_leads before mid steps guard other n m kind f l k low can good =
       one_more before steps guard kind f (l.more ++ k.more) (k.is ∙ ap (λ s. s ++ k.more) l.is ∙ append_assoc before l.more k.more) (λ h. k.made (l.made h))

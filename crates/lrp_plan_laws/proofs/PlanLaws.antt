@@ -4,7 +4,7 @@ use Rattle.std.specs.List.{AllByRecursion}
 use Rattle.lrp_model.specs.Formulas.{Form, test}
 use Rattle.lrp_model.specs.Variables.{Variable, free, are_among}
 use Rattle.lrp_model.specs.Satisfaction.{Structure, Assignment, Satisfies, SatisfiesAll, Passes}
-use Rattle.lrp_model.specs.Steps.{Steps, formula_at, step_behind, made, tests_as_forms, join, select, minus, complement}
+use Rattle.lrp_model.specs.Steps.{Steps, formula_at, step_after, made, tests_as_forms, join, select, minus, complement}
 use Rattle.lrp_model.specs.Conjunctions.{Element, State, select_each, is_covered, take_in, take_positive, take_test, take_negation, take_all}
 use Rattle.lrp_model.specs.declared.formulas.Test.{Test}
 use Rattle.lrp_model.specs.declared.plans.StepKind.{StepKind}
@@ -26,8 +26,8 @@ pub record Makes (M : Structure) (before after : Steps) (p : Saying) : Type 0 wh
 pub by_made : (M : Structure) (before steps : Steps) (kind : StepKind) (f : Form) (p : Saying) (more : Steps) → steps ≡ before ++ more → length before ≤ length steps
     → ((env : Assignment) → Satisfies f M env ↔ p env) → Makes M before (made M kind f steps) p
 by_made M before steps kind f p more is le says = record {
-  more = more ++ step_behind M kind f steps ∷ [];
-  is = ap (λ s. s ++ step_behind M kind f steps ∷ []) is ∙ append_assoc before more (step_behind M kind f steps ∷ []);
+  more = more ++ step_after M kind f steps ∷ [];
+  is = ap (λ s. s ++ step_after M kind f steps ∷ []) is ∙ append_assoc before more (step_after M kind f steps ∷ []);
   grown = let l : length (made M kind f steps) ≡ suc (length steps) = length_made M kind f steps in omega arith;
   says = λ env. subst (λ g. Satisfies g M env ↔ p env) (sym (formula_made M kind f steps)) (says env);
 }

@@ -10,7 +10,7 @@ use Rattle.lrp_model.specs.Core.{guarded, has_named_sort, column_elements, head_
 use Rattle.lrp_theory.specs.Divides.{IsMultiple}
 use Rattle.lrp_model.specs.Periods.{lcm_all, test_periods, periods, periods_each, period}
 use Rattle.lrp_model.specs.Reach.{step_reach, greatest, test_reach}
-use Rattle.lrp_model.specs.Steps.{PlanStep, Steps, step_at, formula_at, reach_at, step_behind, made, tests_as_forms}
+use Rattle.lrp_model.specs.Steps.{PlanStep, Steps, step_at, formula_at, reach_at, step_after, made, tests_as_forms}
 use Rattle.lrp_model.specs.Plans.{plan, core_steps, query_reach}
 use Rattle.lrp_model.specs.declared.relations.Sort.{Sort}
 use Rattle.lrp_model.specs.declared.relations.Sort.TheVariants.{Time, Data, Named}
@@ -101,7 +101,7 @@ plan_under db q rules fits front w =
     let b : ℕ = query_reach (closed db q front) in
     let e : b ≡ reach_at steps (length steps) = reach_made M (Extend (length steps)) f steps in
     let last : LastIsUnder db b (marks q.body db) steps = ((omega arith), last_marks db q rules fits front w) in
-    (all_append (λ step. IsUnder db b (marks q.body db) step.formula step.reach) steps (step_behind M (Extend (length steps)) f steps ∷ [])).1
+    (all_append (λ step. IsUnder db b (marks q.body db) step.formula step.reach) steps (step_after M (Extend (length steps)) f steps ∷ [])).1
     (w.under b (marks q.body db) last, ((omega arith, head_marks db q), tt))
 
 -- ---- steps by their numbers
@@ -299,7 +299,7 @@ module _ (db : List Relation) (q : Question) (rules : Rules) (fits : List Variab
 
   -- the step before `head` is the last core step
   before_head : formula_at (closed db q front) (length front) ≡ formula_at front (length front)
-  before_head = formula_front front (step_behind (structure db q) (Extend (length front)) (guarded (has_named_sort db) q.head q.body) front ∷ []) (length front) (omega arith)
+  before_head = formula_front front (step_after (structure db q) (Extend (length front)) (guarded (has_named_sort db) q.head q.body) front ∷ []) (length front) (omega arith)
 
   -- the step before `head` names what `head` names
   top_periods : AllByRecursion (Contains (periods (guarded (has_named_sort db) q.head q.body) db)) (periods (formula_at (closed db q front) (length front)) db)

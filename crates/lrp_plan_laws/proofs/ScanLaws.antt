@@ -38,8 +38,8 @@ all_before : (xs ys : List (Sort × Text)) (zs : List (Sort × Text)) → AllByR
 all_before xs ys zs h = all_map (Contains xs) (Contains (xs ++ ys)) zs (λ z c. in_left xs ys z c) h
 
 -- and after
-all_behind : (xs ys : List (Sort × Text)) (zs : List (Sort × Text)) → AllByRecursion (Contains ys) zs → AllByRecursion (Contains (xs ++ ys)) zs
-all_behind xs ys zs h = all_map (Contains ys) (Contains (xs ++ ys)) zs (λ z c. in_right xs ys z c) h
+all_after : (xs ys : List (Sort × Text)) (zs : List (Sort × Text)) → AllByRecursion (Contains ys) zs → AllByRecursion (Contains (xs ++ ys)) zs
+all_after xs ys zs h = all_map (Contains ys) (Contains (xs ++ ys)) zs (λ z c. in_right xs ys z c) h
 
 mutual
   -- the texts of an atom's terms are among those of the formula
@@ -53,7 +53,7 @@ mutual
   atom_in (conjunction fs) db columns a c = atoms_in fs db columns a c
   atom_in (disjunction fs) db columns a c = atoms_in fs db columns a c
   atom_in (implication f g) db columns a c =
-      ⊎_elim (λ d. all_before (form_texts f db columns) (form_texts g db columns) (atom_texts db a) (atom_in f db columns a d)) (λ d. all_behind (form_texts f db columns) (form_texts g db columns) (atom_texts db a) (atom_in g db columns a d)) (in_one (atoms f) (atoms g) a c)
+      ⊎_elim (λ d. all_before (form_texts f db columns) (form_texts g db columns) (atom_texts db a) (atom_in f db columns a d)) (λ d. all_after (form_texts f db columns) (form_texts g db columns) (atom_texts db a) (atom_in g db columns a d)) (in_one (atoms f) (atoms g) a c)
   atom_in (exists v s f) db columns a c = atom_in f db (record { name = v; sort = s } ∷ columns) a c
   atom_in (forall v s f) db columns a c = atom_in f db (record { name = v; sort = s } ∷ columns) a c
 
@@ -61,7 +61,7 @@ mutual
   atoms_in : (fs : Forms) (db : List Relation) (columns : List Column) (a : Atom) → Contains (atoms_each fs) a → AllByRecursion (Contains (forms_texts fs db columns)) (atom_texts db a)
   atoms_in no_forms db columns a c = absurd (contains_none a c)
   atoms_in (form f fs) db columns a c =
-      ⊎_elim (λ d. all_before (form_texts f db columns) (forms_texts fs db columns) (atom_texts db a) (atom_in f db columns a d)) (λ d. all_behind (form_texts f db columns) (forms_texts fs db columns) (atom_texts db a) (atoms_in fs db columns a d)) (in_one (atoms f) (atoms_each fs) a c)
+      ⊎_elim (λ d. all_before (form_texts f db columns) (forms_texts fs db columns) (atom_texts db a) (atom_in f db columns a d)) (λ d. all_after (form_texts f db columns) (forms_texts fs db columns) (atom_texts db a) (atoms_in fs db columns a d)) (in_one (atoms f) (atoms_each fs) a c)
 
 -- ---- they are constants
 

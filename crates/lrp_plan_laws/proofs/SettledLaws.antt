@@ -9,7 +9,7 @@ use Rattle.lrp_model.specs.Core.{guarded, has_named_sort, HasElements}
 use Rattle.lrp_model.specs.RawQueries.{RawQuestion}
 use Rattle.lrp_model.specs.Sorting.{IsWellSorted}
 use Rattle.lrp_model.specs.Checked.{plain_question}
-use Rattle.lrp_model.specs.Steps.{PlanStep, Steps, step_at, formula_at, step_behind}
+use Rattle.lrp_model.specs.Steps.{PlanStep, Steps, step_at, formula_at, step_after}
 use Rattle.lrp_model.specs.Plans.{plan, core_steps}
 use Rattle.lrp_model.specs.declared.relations.Relation.{Relation}
 use Rattle.lrp_model.specs.declared.plans.StepKind.TheVariants.{Extend}
@@ -65,7 +65,7 @@ same_last db q front env says =
     let f : Form = guarded (has_named_sort db) q.head q.body in
     let last : Form = formula_at (closed db q front) (length (closed db q front)) in
     subst (λ n. Satisfies (formula_at (closed db q front) n) M env ↔ Satisfies last M env) (sym (before_last db q front))
-    (subst (λ g. Satisfies g M env ↔ Satisfies last M env) (sym (formula_front front (step_behind M (Extend (length front)) f front ∷ []) (length front) (omega arith)))
+    (subst (λ g. Satisfies g M env ↔ Satisfies last M env) (sym (formula_front front (step_after M (Extend (length front)) f front ∷ []) (length front) (omega arith)))
     (subst (λ g. Satisfies (formula_at front (length front)) M env ↔ Satisfies g M env) (sym (formula_made M (Extend (length front)) f front)) says))
 
 -- only the last step is `head`
@@ -73,7 +73,7 @@ pub head_is_last : (db : List Relation) (q : Question) (rules : Rules) (fits : L
 head_is_last db q rules fits front w s step e of kind =
     let f : Form = guarded (has_named_sort db) q.head q.body in
     let l : length (closed db q front) ≡ suc (length front) = length_made (structure db q) (Extend (length front)) f front in
-    ⊎_elim (λ h. absurd (only_last db q rules fits front w s step e h.0 of kind)) (λ h. h.0 ∙ sym l) (step_one_more front (step_behind (structure db q) (Extend (length front)) f front) step s e)
+    ⊎_elim (λ h. absurd (only_last db q rules fits front w s step e h.0 of kind)) (λ h. h.0 ∙ sym l) (step_one_more front (step_after (structure db q) (Extend (length front)) f front) step s e)
 
 -- the last step is `head`
 pub head_ends : (db : List Relation) (q : Question) (front : Steps) → EndsWithHead (closed db q front) db q

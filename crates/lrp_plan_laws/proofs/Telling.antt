@@ -5,7 +5,7 @@ use Rattle.lrp_model.specs.Texts.{Text}
 use Rattle.lrp_model.specs.Formulas.{Form}
 use Rattle.lrp_model.specs.Variables.{Variable, time_variable, data_variable, variables_of_test, same_variable, is_among, free, free_each}
 use Rattle.lrp_model.specs.Satisfaction.{Structure, Assignment, Satisfies, Passes, Either}
-use Rattle.lrp_model.specs.Steps.{Steps, formula_at, step_behind, made, tests_as_forms, join, select, union, minus, complement}
+use Rattle.lrp_model.specs.Steps.{Steps, formula_at, step_after, made, tests_as_forms, join, select, union, minus, complement}
 use Rattle.lrp_model.specs.Conjunctions.{select_each}
 use Rattle.lrp_model.specs.declared.formulas.Test.{Test}
 use Rattle.lrp_model.specs.declared.plans.StepKind.{StepKind}
@@ -41,8 +41,8 @@ module _ (M : Structure) (texts : List Text) (vs : List Variable) where
   -- one step more, with a formula that says p
   pub tells_made : (before steps more : Steps) (kind : StepKind) (f : Form) (p : Saying) → steps ≡ before ++ more → AreAmong (free f) vs → ((env : Assignment) → AreKnown texts vs env → Satisfies f M env ↔ p env) → Tells M texts vs before (made M kind f steps) p
   tells_made before steps more kind f p is scope says = record {
-    more = more ++ step_behind M kind f steps ∷ [];
-    is = ap (λ s. s ++ step_behind M kind f steps ∷ []) is ∙ append_assoc before more (step_behind M kind f steps ∷ []);
+    more = more ++ step_after M kind f steps ∷ [];
+    is = ap (λ s. s ++ step_after M kind f steps ∷ []) is ∙ append_assoc before more (step_after M kind f steps ∷ []);
     scope = subst (λ g. AreAmong (free g) vs) (sym (formula_made M kind f steps)) scope;
     says = λ env k. subst (λ g. Satisfies g M env ↔ p env) (sym (formula_made M kind f steps)) (says env k);
   }

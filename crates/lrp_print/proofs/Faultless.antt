@@ -29,7 +29,7 @@ use Rattle.lrp_model.specs.DatabaseFaults.{database_fault, wrong_sorts, unknown,
 use Rattle.lrp_model.specs.DatabaseMeaning.{column_of, time_number}
 use Rattle.lrp_model.specs.Printed.{time_name, value_bytes, bound_bytes, column_bytes, row_line, relation_bytes}
 use Rattle.lrp_model.specs.Kept.{AreValuesOf, IsBoundOf, IsRowOf, IsKept, AreKept}
-use Rattle.lrp_print.proofs.PieceLaws.{IsShort, short, trees, behind_comma, behind}
+use Rattle.lrp_print.proofs.PieceLaws.{IsShort, short, trees, after_comma, after_piece}
 use Rattle.lrp_print.proofs.Trees.{value_at, IsReadable, values_readable, times_cons, side_tree, lower_tree, upper_tree, between_tree, bound_tree, row_tree, row_at, relation_tree}
 use Rattle.lrp_print.proofs.Meant.{trees_all, columns_mean, not_equal, numbered_as, above, period_is}
 
@@ -64,17 +64,17 @@ bound_fits cs b p h = by (b.left == 0) (b.right == 0)
 -- a row is lawful
 row_fits : (cs : List Column) (r : Row) (p : Place) → IsRowOf cs r → FitsRow (row_at cs p r).item
 row_fits cs r p h = (
-  trees_all (behind_comma value_bytes) value_at IsReadable (λ v. FitsValue v.item) value_fits r.values _ (values_readable cs r.values h.values),
-  trees_all (behind_comma (bound_bytes cs)) (bound_tree cs) (IsBoundOf (time_count cs)) FitsBound (bound_fits cs) r.bounds _ h.bounds,
+  trees_all (after_comma value_bytes) value_at IsReadable (λ v. FitsValue v.item) value_fits r.values _ (values_readable cs r.values h.values),
+  trees_all (after_comma (bound_bytes cs)) (bound_tree cs) (IsBoundOf (time_count cs)) FitsBound (bound_fits cs) r.bounds _ h.bounds,
 )
 
 -- a relation is lawful
 relation_fits : (r : Relation) (p : Place) → IsKept r → FitsRelation (relation_tree p r)
-relation_fits r p k = trees_all (behind (row_line r.columns)) (row_at r.columns) (IsRowOf r.columns) (λ row. FitsRow row.item) (row_fits r.columns) r.rows _ k.rows
+relation_fits r p k = trees_all (after_piece (row_line r.columns)) (row_at r.columns) (IsRowOf r.columns) (λ row. FitsRow row.item) (row_fits r.columns) r.rows _ k.rows
 
 -- relations are lawful
-pub relations_fit : (rs : List Relation) (p : Place) → AllByRecursion IsKept rs → FitsDatabase (trees (behind relation_bytes) relation_tree p rs)
-relations_fit = trees_all (behind relation_bytes) relation_tree IsKept FitsRelation relation_fits
+pub relations_fit : (rs : List Relation) (p : Place) → AllByRecursion IsKept rs → FitsDatabase (trees (after_piece relation_bytes) relation_tree p rs)
+relations_fit = trees_all (after_piece relation_bytes) relation_tree IsKept FitsRelation relation_fits
 
 -- ---- names
 
@@ -217,9 +217,9 @@ row_sound raw cs e differ r p h =
     let values : AreValuesOf (map column_of raw) r.values = subst P (sym e) h.values in
     let sorts = wrong_sorts raw tree.values in
     let names = flat_map (λ b. unknown raw b.left ++ side_faults raw b.side) tree.bounds in
-    let arity : (length tree.values == length raw) ≡ true = same_number (length tree.values) (length raw) (as_many (behind_comma value_bytes) raw r.values _ values) in
-    ap (λ b. fault_if (not b) (database_fault Arity (row_at cs p r).place) ++ sorts ++ names) arity ∙ ap (λ l. l ++ names) (none_wrong (behind_comma value_bytes) raw r.values _ values)
-    ∙ none_together (behind_comma (bound_bytes cs)) (bound_tree cs) (λ b. unknown raw b.left ++ side_faults raw b.side) (IsBoundOf (time_count cs)) (bound_known raw cs e differ) r.bounds _ h.bounds
+    let arity : (length tree.values == length raw) ≡ true = same_number (length tree.values) (length raw) (as_many (after_comma value_bytes) raw r.values _ values) in
+    ap (λ b. fault_if (not b) (database_fault Arity (row_at cs p r).place) ++ sorts ++ names) arity ∙ ap (λ l. l ++ names) (none_wrong (after_comma value_bytes) raw r.values _ values)
+    ∙ none_together (after_comma (bound_bytes cs)) (bound_tree cs) (λ b. unknown raw b.left ++ side_faults raw b.side) (IsBoundOf (time_count cs)) (bound_known raw cs e differ) r.bounds _ h.bounds
 
 -- ---- relations
 
@@ -227,19 +227,19 @@ row_sound raw cs e differ r p h =
 relation_sound : (r : Relation) (p : Place) → IsKept r → relation_faults (relation_tree p r) ≡ []
 relation_sound r p k =
     let tree = relation_tree p r in
-    let columns : map column_of tree.columns ≡ r.columns = columns_mean (behind_comma column_bytes) r.columns _ in
+    let columns : map column_of tree.columns ≡ r.columns = columns_mean (after_comma column_bytes) r.columns _ in
     let wide = ninth (database_fault Wide) 0 0 tree.columns in
     let rows = flat_map (row_faults tree.columns) tree.rows in
     let names : map (λ n. n.item) (map named_at tree.columns) ≡ map (λ c. c.name) r.columns = column_names tree.columns ∙ ap (map (λ c. c.name)) columns in
     let few : (time_count (map column_of tree.columns) ≤ 8) × (text_count (map column_of tree.columns) ≤ 8) = subst (λ ds. (time_count ds ≤ 8) × (text_count ds ≤ 8)) (sym columns) (k.times, k.texts) in
     ap (λ l. l ++ wide ++ rows) (none_repeated (database_fault Name) [] (map named_at tree.columns) tt (subst AreDistinct (sym names) k.differ))
     ∙ ap (λ l. l ++ rows) (none_ninth (database_fault Wide) 0 0 tree.columns (omega (arith, few.0)) (omega (arith, few.1)))
-    ∙ none_together (behind (row_line r.columns)) (row_at r.columns) (row_faults tree.columns) (IsRowOf r.columns) (row_sound tree.columns r.columns columns k.differ) r.rows _ k.rows
+    ∙ none_together (after_piece (row_line r.columns)) (row_at r.columns) (row_faults tree.columns) (IsRowOf r.columns) (row_sound tree.columns r.columns columns k.differ) r.rows _ k.rows
 
 -- relations whose names differ have no fault
-pub relations_sound : (rs : List Relation) (p : Place) → AreKept rs → database_faults (trees (behind relation_bytes) relation_tree p rs) ≡ []
+pub relations_sound : (rs : List Relation) (p : Place) → AreKept rs → database_faults (trees (after_piece relation_bytes) relation_tree p rs) ≡ []
 relations_sound rs p k =
-    let all = trees (behind relation_bytes) relation_tree p rs in
-    let names : map (λ n. n.item) (map (λ r. r.name) all) ≡ map (λ r. r.name) rs = relation_names (behind relation_bytes) rs p in
+    let all = trees (after_piece relation_bytes) relation_tree p rs in
+    let names : map (λ n. n.item) (map (λ r. r.name) all) ≡ map (λ r. r.name) rs = relation_names (after_piece relation_bytes) rs p in
     ap (λ l. l ++ flat_map relation_faults all) (none_repeated (database_fault Name) [] (map (λ r. r.name) all) tt (subst AreDistinct (sym names) k.differ))
-    ∙ none_together (behind relation_bytes) relation_tree relation_faults IsKept relation_sound rs p k.each
+    ∙ none_together (after_piece relation_bytes) relation_tree relation_faults IsKept relation_sound rs p k.each

@@ -5,7 +5,7 @@ use Rattle.lrp_io.specs.Bytes.{appended, AppendsFront}
 use Rattle.lrp_io.specs.Pieces.{IsWritten}
 use Rattle.lrp_io.proofs.PieceLemmas.{each_step, each_front}
 use Rattle.lrp_model.specs.Printed.{joined_by}
-use Rattle.lrp_print.specs.Conditions.{behind_where}
+use Rattle.lrp_print.specs.Conditions.{after_where}
 
 -- what was appended, spelled in another way
 pub ok_as : (old new : Option (List ℕ)) (a b : List ℕ) → a ≡ b → new ≡ appended old a → new ≡ appended old b
@@ -33,9 +33,9 @@ joined_rest between text (x ∷ xs) a lt e =
     ap (λ y. text y ++ flat_map (λ z. between ++ text z) (take (length (x ∷ xs) - 1) xs)) e ∙ ap (λ y. text x ++ flat_map (λ z. between ++ text z) y) all ∙ joined_first between text x xs
 
 -- the conditions where there are some
-pub some_behind : {A : Type 0} (text : A → List ℕ) (xs : List A) → 1 ≤ length xs → codes " where " ++ joined_by (codes ", ") text xs ≡ behind_where text xs
-some_behind text [] lt = absurd (omega arith)
-some_behind text (x ∷ xs) lt = refl
+pub some_after : {A : Type 0} (text : A → List ℕ) (xs : List A) → 1 ≤ length xs → codes " where " ++ joined_by (codes ", ") text xs ≡ after_where text xs
+some_after text [] lt = absurd (omega arith)
+some_after text (x ∷ xs) lt = refl
 
 -- after the bytes of some elements, those of the next
 pub item_step : {A : Type 0} (f : A → List ℕ) (xs : List A) (i : ℕ) (a : A) (old now new : Option (List ℕ)) → i < length xs → a ≡ get_or xs i a → now ≡ appended old (flat_map f (take i xs)) → new ≡ appended now (f a) → new ≡ appended old (flat_map f (take (i + 1) xs))

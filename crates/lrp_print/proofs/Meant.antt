@@ -22,7 +22,7 @@ use Rattle.lrp_model.specs.Sorts.{is_time, time_count}
 use Rattle.lrp_model.specs.Printed.{time_name, value_bytes, bound_bytes, column_bytes, row_line, relation_bytes}
 use Rattle.lrp_model.specs.DatabaseMeaning.{integer_of, column_of, time_number, value_of, bound_of, instant_bounds, side_bounds, kept_bounds, row_of, relation_of, database_of}
 use Rattle.lrp_model.specs.Kept.{IsBoundOf, IsRowOf, IsKept}
-use Rattle.lrp_print.proofs.PieceLaws.{written, trees, behind_comma, behind}
+use Rattle.lrp_print.proofs.PieceLaws.{written, trees, after_comma, after_piece}
 use Rattle.lrp_print.proofs.Trees.{value_at, IsReadable, values_readable, column_tree, times_cons, side_tree, lower_tree, upper_tree, between_tree, bound_tree, bound_trees, row_tree, row_at, relation_tree}
 
 -- ---- what is meant
@@ -185,7 +185,7 @@ bound_means raw cs e differ b p h = by (b.left == 0) (b.right == 0) refl refl
 bounds_mean : (raw : List RawColumn) (cs : List Column) → map column_of raw ≡ cs → AreDistinct (map (λ c. c.name) cs) → (bs : List Bound) (p : Place) → AllByRecursion (IsBoundOf (time_count cs)) bs → flat_map (kept_bounds raw) (bound_trees cs p bs) ≡ bs
 bounds_mean raw cs e differ [] p h = refl
 bounds_mean raw cs e differ (b ∷ bs) p h =
-    let q = behind_comma (bound_bytes cs) p b in
+    let q = after_comma (bound_bytes cs) p b in
     ap (λ l. l ++ flat_map (kept_bounds raw) (bound_trees cs q bs)) (bound_means raw cs e differ b p h.0) ∙ ap (λ l. b ∷ l) (bounds_mean raw cs e differ bs q h.1)
 
 -- ---- rows and relations
@@ -194,8 +194,8 @@ bounds_mean raw cs e differ (b ∷ bs) p h =
 row_means : (raw : List RawColumn) (cs : List Column) → map column_of raw ≡ cs → AreDistinct (map (λ c. c.name) cs) → (r : Row) (p : Place) → IsRowOf cs r → row_of raw (row_at cs p r).item ≡ reduced_row r
 row_means raw cs e differ r p h =
     let tree = row_tree cs p r in
-    let values : map (λ v. value_of v.item) tree.values ≡ map reduced_value r.values = trees_map (behind_comma value_bytes) value_at (λ v. value_of v.item) reduced_value IsReadable value_means r.values _ (values_readable cs r.values h.values) in
-    let instants : instant_bounds tree.values 0 ≡ [] = no_instants (behind_comma value_bytes) r.values _ 0 in
+    let values : map (λ v. value_of v.item) tree.values ≡ map reduced_value r.values = trees_map (after_comma value_bytes) value_at (λ v. value_of v.item) reduced_value IsReadable value_means r.values _ (values_readable cs r.values h.values) in
+    let instants : instant_bounds tree.values 0 ≡ [] = no_instants (after_comma value_bytes) r.values _ 0 in
     let bounds : flat_map (kept_bounds raw) tree.bounds ≡ r.bounds = bounds_mean raw cs e differ r.bounds _ h.bounds in
     let all : instant_bounds tree.values 0 ++ flat_map (kept_bounds raw) tree.bounds ≡ r.bounds = ap (λ l. l ++ flat_map (kept_bounds raw) tree.bounds) instants ∙ bounds in
     ap (λ (l : List Value). record { values = l; bounds = instant_bounds tree.values 0 ++ flat_map (kept_bounds raw) tree.bounds }) values ∙ ap (λ (l : List Bound). record { values = map reduced_value r.values; bounds = l }) all
@@ -204,11 +204,11 @@ row_means raw cs e differ r p h =
 relation_means : (r : Relation) (p : Place) → IsKept r → relation_of (relation_tree p r) ≡ reduced r
 relation_means r p k =
     let tree = relation_tree p r in
-    let columns : map column_of tree.columns ≡ r.columns = columns_mean (behind_comma column_bytes) r.columns _ in
+    let columns : map column_of tree.columns ≡ r.columns = columns_mean (after_comma column_bytes) r.columns _ in
     let rows : map (λ row. row_of tree.columns row.item) tree.rows ≡ map reduced_row r.rows =
-    trees_map (behind (row_line r.columns)) (row_at r.columns) (λ row. row_of tree.columns row.item) reduced_row (IsRowOf r.columns) (row_means tree.columns r.columns columns k.differ) r.rows _ k.rows in
+    trees_map (after_piece (row_line r.columns)) (row_at r.columns) (λ row. row_of tree.columns row.item) reduced_row (IsRowOf r.columns) (row_means tree.columns r.columns columns k.differ) r.rows _ k.rows in
     ap (λ (l : List Column). record { name = r.name; columns = l; rows = map (λ row. row_of tree.columns row.item) tree.rows }) columns ∙ ap (λ (l : List Row). record { name = r.name; columns = r.columns; rows = l }) rows
 
 -- relations
-pub relations_mean : (rs : List Relation) (p : Place) → AllByRecursion IsKept rs → database_of (trees (behind relation_bytes) relation_tree p rs) ≡ map reduced rs
-relations_mean = trees_map (behind relation_bytes) relation_tree relation_of reduced IsKept relation_means
+pub relations_mean : (rs : List Relation) (p : Place) → AllByRecursion IsKept rs → database_of (trees (after_piece relation_bytes) relation_tree p rs) ≡ map reduced rs
+relations_mean = trees_map (after_piece relation_bytes) relation_tree relation_of reduced IsKept relation_means

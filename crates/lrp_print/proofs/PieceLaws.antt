@@ -191,17 +191,17 @@ trees next tree p [] = []
 trees next tree p (a ∷ all) = tree p a ∷ trees next tree (next p a) all
 
 -- after an element and the separator
-abbrev pub behind_comma : {A : Type 0} → (A → List ℕ) → Place → A → Place
-behind_comma bytes p a = after (after p (bytes a)) (codes ", ")
+abbrev pub after_comma : {A : Type 0} → (A → List ℕ) → Place → A → Place
+after_comma bytes p a = after (after p (bytes a)) (codes ", ")
 
 -- after an element
-abbrev pub behind : {A : Type 0} → (A → List ℕ) → Place → A → Place
-behind bytes p a = after p (bytes a)
+abbrev pub after_piece : {A : Type 0} → (A → List ℕ) → Place → A → Place
+after_piece bytes p a = after p (bytes a)
 
 -- elements with commas between
 pub separated_spelled : {A B : Type 0} (text : B → List Part) (tree : Place → A → B) (bytes : A → List ℕ) (P : A → Type 0)
     → ((a : A) (p : Place) (rest : List ℕ) → P a → Stops is_name_byte rest → Spelled (text (tree p a)) p (bytes a) rest)
-    → (all : List A) (p : Place) (rest : List ℕ) → AllByRecursion P all → Stops is_name_byte rest → Spelled (separated comma text (trees (behind_comma bytes) tree p all)) p (joined_by (codes ", ") bytes all) rest
+    → (all : List A) (p : Place) (rest : List ℕ) → AllByRecursion P all → Stops is_name_byte rest → Spelled (separated comma text (trees (after_comma bytes) tree p all)) p (joined_by (codes ", ") bytes all) rest
 separated_spelled text tree bytes P one [] p rest h s = nothing p rest
 separated_spelled text tree bytes P one (a ∷ []) p rest h s = one a p rest h.0 s
 separated_spelled text tree bytes P one (a ∷ b ∷ all) p rest h s =
@@ -212,7 +212,7 @@ separated_spelled text tree bytes P one (a ∷ b ∷ all) p rest h s =
 -- elements one after the other
 pub joined_spelled : {A B : Type 0} (text : B → List Part) (tree : Place → A → B) (bytes : A → List ℕ) (P : A → Type 0)
     → ((a : A) (p : Place) (rest : List ℕ) → P a → Spelled (text (tree p a)) p (bytes a) rest)
-    → (all : List A) (p : Place) (rest : List ℕ) → AllByRecursion P all → Spelled (flat_map text (trees (behind bytes) tree p all)) p (flat_map bytes all) rest
+    → (all : List A) (p : Place) (rest : List ℕ) → AllByRecursion P all → Spelled (flat_map text (trees (after_piece bytes) tree p all)) p (flat_map bytes all) rest
 joined_spelled text tree bytes P one [] p rest h = nothing p rest
 joined_spelled text tree bytes P one (a ∷ all) p rest h =
     both (one a p (flat_map bytes all ++ rest) h.0) (joined_spelled text tree bytes P one all (after p (bytes a)) rest h.1)

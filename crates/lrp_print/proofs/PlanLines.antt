@@ -3,15 +3,15 @@ use Rattle.std.proofs.Common.{◌≡◌, ◌<◌, ◌≤◌, ◌+◌, take_all, 
 use Rattle.std.proofs.lemmas.List.{take-append-drop, take_more, length-take-le}
 use Rattle.lrp_io.specs.Bytes.{appended, AppendsFront}
 use Rattle.lrp_io.proofs.BytesLemmas.{appended_twice}
-use Rattle.lrp_io.proofs.PieceLemmas.{front_behind, front_before}
+use Rattle.lrp_io.proofs.PieceLemmas.{front_after, front_before}
 use Rattle.lrp_model.specs.PrintedPlans.{test_bytes, carried_bytes, step_line, step_lines}
 use Rattle.lrp_model.specs.declared.formulas.Test.{Test}
 use Rattle.lrp_model.specs.declared.plans.Step.{Step}
-use Rattle.lrp_print.specs.Conditions.{behind_where}
+use Rattle.lrp_print.specs.Conditions.{after_where}
 use Rattle.lrp_print.proofs.Lines.{front_as}
 
 -- the tests that a join carries are its conditions
-pub carried_are : (ts : List Test) → behind_where test_bytes ts ≡ carried_bytes ts
+pub carried_are : (ts : List Test) → after_where test_bytes ts ≡ carried_bytes ts
 carried_are [] = refl
 carried_are (t ∷ ts) = refl
 
@@ -43,7 +43,7 @@ line_front ss i number s old now new lt e is before front =
     let rest = step_lines (1 + length (take (i + 1) ss)) (drop (i + 1) ss) in
     let whole : so_far ++ rest ≡ step_lines 1 ss =
     ap (λ y. y ++ rest) (ap (λ k. step_lines 1 (take i ss) ++ step_line k s) is ∙ sym (lines_step ss i s lt e)) ∙ sym (step_lines-append 1 (take (i + 1) ss) (drop (i + 1) ss)) ∙ ap (step_lines 1) (take-append-drop (i + 1) ss) in
-    let reached : AppendsFront old new so_far = front_behind old now new (step_lines 1 (take i ss)) (step_line number s) before front in
+    let reached : AppendsFront old new so_far = front_after old now new (step_lines 1 (take i ss)) (step_line number s) before front in
     front_as old new (so_far ++ rest) (step_lines 1 ss) whole (front_before old new so_far rest reached)
 
 -- past the last step, the lines of all

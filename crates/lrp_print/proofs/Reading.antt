@@ -14,7 +14,7 @@ use Rattle.lrp_text.proofs.Sound.{takes_join}
 use Rattle.lrp_model.specs.Kept.{IsKept, AreKept}
 use Rattle.lrp_print.specs.ReadBack.{ReadsBack}
 use Rattle.lrp_print.proofs.Spelling.{tokens_at}
-use Rattle.lrp_print.proofs.PieceLaws.{trees, behind}
+use Rattle.lrp_print.proofs.PieceLaws.{trees, after_piece}
 use Rattle.lrp_print.proofs.Trees.{relation_tree, relations_spelled}
 use Rattle.lrp_print.proofs.Meant.{reduced, relations_mean}
 use Rattle.lrp_print.proofs.Faultless.{relations_fit, relations_sound}
@@ -28,7 +28,7 @@ the_end p = (refl, refl)
 
 -- the tree of relations
 abbrev database_tree : List Relation → List RawRelation
-database_tree = trees (behind relation_bytes) relation_tree start
+database_tree = trees (after_piece relation_bytes) relation_tree start
 
 -- the text of relations spells their tree
 pub database_spelled : (rs : List Relation) → AllByRecursion IsKept rs → Spells (database_text (database_tree rs)) (tokens (database_bytes rs))

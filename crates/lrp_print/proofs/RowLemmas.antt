@@ -13,14 +13,14 @@ use Rattle.lrp_model.specs.declared.relations.Relation.{Relation}
 use Rattle.lrp_model.specs.Kept.{HasLowPeriod, IsWritable, AreValuesOf, IsBoundOf, IsRowOf, IsKept}
 use Rattle.lrp_model.proofs.Everywhere.{all_as}
 use Rattle.lrp_model.specs.Sorts.{time_count}
-use Rattle.lrp_print.specs.Conditions.{behind_where}
+use Rattle.lrp_print.specs.Conditions.{after_where}
 
 -- the lines of rows that are spelled in another way
 pub rows_as : (cs ds : List Column) (rs ss : List Row) → cs ≡ ds → rs ≡ ss → flat_map (row_line cs) rs ≡ flat_map (row_line ds) ss
 rows_as cs ds rs ss e d = ap (λ c. flat_map (row_line c) rs) e ∙ ap (flat_map (row_line ds)) d
 
 -- the bounds of a row are its conditions
-pub bounds_are : (cs : List Column) (bs : List Bound) → behind_where (bound_bytes cs) bs ≡ bounds_bytes cs bs
+pub bounds_are : (cs : List Column) (bs : List Bound) → after_where (bound_bytes cs) bs ≡ bounds_bytes cs bs
 bounds_are cs [] = refl
 bounds_are cs (b ∷ bs) = refl
 

@@ -13,7 +13,7 @@ use Rattle.lrp_model.specs.Texts.{Identifier}
 use Rattle.lrp_model.specs.Tokens.{Token}
 use Rattle.lrp_model.specs.Tokens.Token.{name_token, number_token, text_token}
 use Rattle.lrp_model.specs.Printed.{escaped, quoted}
-use Rattle.lrp_model.specs.Lexing.{is_letter, is_name_byte, is_forbidden, run, behind_run, word_or_name, Scanned, QuotedText as TextRead, text_from, text_scanned, one, one_or_two, symbol_from, scan, scan_in, symbol_in}
+use Rattle.lrp_model.specs.Lexing.{is_letter, is_name_byte, is_forbidden, run, after_run, word_or_name, Scanned, QuotedText as TextRead, text_from, text_scanned, one, one_or_two, symbol_from, scan, scan_in, symbol_in}
 use Rattle.lrp_text.proofs.Scans.{chosen}
 use Rattle.lrp_model.specs.Names.{IsName}
 use Rattle.lrp_print.proofs.Spelling.{took, Begins}
@@ -26,14 +26,14 @@ Stops test [] = Unit {0}
 Stops test (b ∷ bs) = test b ≡ false
 
 -- bytes that are one run are taken as one
-pub run_over : (test : ℕ → Bool) (w rest : List ℕ) → run test w ≡ w → Stops test rest → (run test (w ++ rest) ≡ w) × (behind_run test (w ++ rest) ≡ rest)
-unfolding run behind_run
+pub run_over : (test : ℕ → Bool) (w rest : List ℕ) → run test w ≡ w → Stops test rest → (run test (w ++ rest) ≡ w) × (after_run test (w ++ rest) ≡ rest)
+unfolding run after_run
 run_over test [] [] e s = (refl, refl)
 run_over test [] (b ∷ bs) e s = (rw s refl, rw s refl)
 run_over test (b ∷ w) rest e s = by (test b) refl e (λ tail. run_over test w rest tail s)
   where
-    by : (c : Bool) → test b ≡ c → (if c then b ∷ run test w else []) ≡ b ∷ w → (run test w ≡ w → (run test (w ++ rest) ≡ w) × (behind_run test (w ++ rest) ≡ rest))
-        → ((if test b then b ∷ run test (w ++ rest) else []) ≡ b ∷ w) × ((if test b then behind_run test (w ++ rest) else b ∷ (w ++ rest)) ≡ rest)
+    by : (c : Bool) → test b ≡ c → (if c then b ∷ run test w else []) ≡ b ∷ w → (run test w ≡ w → (run test (w ++ rest) ≡ w) × (after_run test (w ++ rest) ≡ rest))
+        → ((if test b then b ∷ run test (w ++ rest) else []) ≡ b ∷ w) × ((if test b then after_run test (w ++ rest) else b ∷ (w ++ rest)) ≡ rest)
     by true t d again =
         let tail : run test w ≡ w = cc in
         let more = again tail in
@@ -47,8 +47,8 @@ pub word_scanned : (b : ℕ) (bs rest : List ℕ) → is_letter b ≡ true → r
 unfolding scan_in
 word_scanned b bs rest e whole s =
     let k = run_over is_name_byte (b ∷ bs) rest whole s in
-    let here : scan (b ∷ (bs ++ rest)) ≡ took (word_or_name (run is_name_byte (b ∷ (bs ++ rest)))) (run is_name_byte (b ∷ (bs ++ rest))) (behind_run is_name_byte (b ∷ (bs ++ rest))) = rw e refl in
-    here ∙ ap (λ r. took (word_or_name r) r (behind_run is_name_byte (b ∷ (bs ++ rest)))) k.0 ∙ ap (took (word_or_name (b ∷ bs)) (b ∷ bs)) k.1
+    let here : scan (b ∷ (bs ++ rest)) ≡ took (word_or_name (run is_name_byte (b ∷ (bs ++ rest)))) (run is_name_byte (b ∷ (bs ++ rest))) (after_run is_name_byte (b ∷ (bs ++ rest))) = rw e refl in
+    here ∙ ap (λ r. took (word_or_name r) r (after_run is_name_byte (b ∷ (bs ++ rest)))) k.0 ∙ ap (took (word_or_name (b ∷ bs)) (b ∷ bs)) k.1
 
 -- a letter begins a token
 pub letter_begins : (b : ℕ) → is_letter b ≡ true → Begins b
@@ -157,8 +157,8 @@ pub number_scanned : (b : ℕ) (bs rest : List ℕ) → is_ascii_digit b ≡ tru
 unfolding scan_in
 number_scanned b bs rest e whole s =
     let k = run_over is_ascii_digit (b ∷ bs) rest whole s in
-    let here : scan (b ∷ (bs ++ rest)) ≡ took (number_token (digits_value 10 (run is_ascii_digit (b ∷ (bs ++ rest))))) (run is_ascii_digit (b ∷ (bs ++ rest))) (behind_run is_ascii_digit (b ∷ (bs ++ rest))) = rw (digit_no_letter b e, e) refl in
-    here ∙ ap (λ r. took (number_token (digits_value 10 r)) r (behind_run is_ascii_digit (b ∷ (bs ++ rest)))) k.0 ∙ ap (took (number_token (digits_value 10 (b ∷ bs))) (b ∷ bs)) k.1
+    let here : scan (b ∷ (bs ++ rest)) ≡ took (number_token (digits_value 10 (run is_ascii_digit (b ∷ (bs ++ rest))))) (run is_ascii_digit (b ∷ (bs ++ rest))) (after_run is_ascii_digit (b ∷ (bs ++ rest))) = rw (digit_no_letter b e, e) refl in
+    here ∙ ap (λ r. took (number_token (digits_value 10 r)) r (after_run is_ascii_digit (b ∷ (bs ++ rest)))) k.0 ∙ ap (took (number_token (digits_value 10 (b ∷ bs))) (b ∷ bs)) k.1
 
 -- ---- data texts
 

@@ -3,8 +3,8 @@ use Rattle.std.proofs.Common.{◌≡◌, ◌==◌, ℕ, true, false, List, [], �
 use Rattle.lrp_model.specs.declared.tokens.Place.{Place}
 use Rattle.lrp_model.specs.Tokens.{Token, Tokens, Part, Takes}
 use Rattle.lrp_model.specs.Tokens.Part.{at, any}
-use Rattle.lrp_model.specs.Lexing.{At, Scanned, is_blank, moved, after, skip, scan, headed}
-use Rattle.lrp_text.specs.Sources.{next_at, next_of, behind_next, tokens_left, HasTokensBehind}
+use Rattle.lrp_model.specs.Lexing.{Remainder, Scanned, is_blank, moved, after, skip, scan, headed}
+use Rattle.lrp_text.specs.Sources.{next_at, next_of, after_next, tokens_left, HasTokensAfter}
 use Rattle.lrp_text.proofs.Following.{next_tokens}
 use Rattle.lrp_text.proofs.Standing.{tokens_go}
 use Rattle.lrp_text.proofs.Sound.{takes_join}
@@ -52,29 +52,29 @@ unfolding skip
 not_skipped p b bs s = rw (s.plain, s.dark) refl
 
 -- the token that stands first
-next_token : (p : Place) (k : Token) (b : ℕ) (bs rest : List ℕ) → HasTokensBehind k → Begins b → scan (b ∷ (bs ++ rest)) ≡ took k (b ∷ bs) rest → tokens_at p (b ∷ (bs ++ rest)) ≡ record { token = k; place = p } ∷ tokens_at (after p (b ∷ bs)) rest
+next_token : (p : Place) (k : Token) (b : ℕ) (bs rest : List ℕ) → HasTokensAfter k → Begins b → scan (b ∷ (bs ++ rest)) ≡ took k (b ∷ bs) rest → tokens_at p (b ∷ (bs ++ rest)) ≡ record { token = k; place = p } ∷ tokens_at (after p (b ∷ bs)) rest
 next_token p k b bs rest g s e =
-    let old : At = record { place = p; bytes = b ∷ (bs ++ rest) } in
+    let old : Remainder = record { place = p; bytes = b ∷ (bs ++ rest) } in
     let here : next_at old ≡ old = not_skipped p b (bs ++ rest) s in
     let found : next_of false old ≡ took k (b ∷ bs) rest = ap (λ a. scan a.bytes) here ∙ e in
-    let new : At = record { place = after p (b ∷ bs); bytes = rest } in
-    let behind : behind_next false old ≡ new = ap (λ (a : At). record { place = after a.place (next_of false old).taken; bytes = (next_of false old).left }) here ∙ ap (λ (x : Scanned). record { place = after p x.taken; bytes = x.left }) found in
-    tokens_go false old p k (ap (λ x. x.token) found) g (sym (ap (λ a. a.place) here)) ∙ ap (λ a. record { token = k; place = p } ∷ tokens_left false a) behind
+    let new : Remainder = record { place = after p (b ∷ bs); bytes = rest } in
+    let afterwards : after_next false old ≡ new = ap (λ (a : Remainder). record { place = after a.place (next_of false old).taken; bytes = (next_of false old).left }) here ∙ ap (λ (x : Scanned). record { place = after p x.taken; bytes = x.left }) found in
+    tokens_go false old p k (ap (λ x. x.token) found) g (sym (ap (λ a. a.place) here)) ∙ ap (λ a. record { token = k; place = p } ∷ tokens_left false a) afterwards
 
 -- a token at its place
-pub token_at : (k : Token) (p : Place) (b : ℕ) (bs rest : List ℕ) → HasTokensBehind k → Begins b → scan (b ∷ (bs ++ rest)) ≡ took k (b ∷ bs) rest → Spelled (at p k ∷ []) p (b ∷ bs) rest
+pub token_at : (k : Token) (p : Place) (b : ℕ) (bs rest : List ℕ) → HasTokensAfter k → Begins b → scan (b ∷ (bs ++ rest)) ≡ took k (b ∷ bs) rest → Spelled (at p k ∷ []) p (b ∷ bs) rest
 token_at k p b bs rest g s e =
     let P : Tokens → Type 0 = λ ts. Takes (at p k ∷ []) ts (tokens_at (after p (b ∷ bs)) rest) in
     record { takes = subst P (sym (next_token p k b bs rest g s e)) ((refl, refl), refl) }
 
 -- a token at any place
-pub token_any : (k : Token) (p : Place) (b : ℕ) (bs rest : List ℕ) → HasTokensBehind k → Begins b → scan (b ∷ (bs ++ rest)) ≡ took k (b ∷ bs) rest → Spelled (any k ∷ []) p (b ∷ bs) rest
+pub token_any : (k : Token) (p : Place) (b : ℕ) (bs rest : List ℕ) → HasTokensAfter k → Begins b → scan (b ∷ (bs ++ rest)) ≡ took k (b ∷ bs) rest → Spelled (any k ∷ []) p (b ∷ bs) rest
 token_any k p b bs rest g s e =
     let P : Tokens → Type 0 = λ ts. Takes (any k ∷ []) ts (tokens_at (after p (b ∷ bs)) rest) in
     record { takes = subst P (sym (next_token p k b bs rest g s e)) (refl, refl) }
 
 -- the tokens from a place on, by what stands there after blanks
-abbrev tokens_from_next : At → Tokens
+abbrev tokens_from_next : Remainder → Tokens
 tokens_from_next a = headed a.place (scan a.bytes) (scan a.bytes).token (tokens_left false (record { place = after a.place (scan a.bytes).taken; bytes = (scan a.bytes).left }))
 
 -- a blank is skipped
@@ -86,6 +86,6 @@ blank_skipped p b bs e d = rw (e, d) refl
 pub blank : (p : Place) (b : ℕ) (rest : List ℕ) → (b == 35) ≡ false → is_blank b ≡ true → Spelled [] p (b ∷ []) rest
 unfolding after
 blank p b rest e d =
-    let old : At = record { place = p; bytes = b ∷ rest } in
-    let new : At = record { place = moved p b; bytes = rest } in
+    let old : Remainder = record { place = p; bytes = b ∷ rest } in
+    let new : Remainder = record { place = moved p b; bytes = rest } in
     record { takes = next_tokens false old ∙ ap tokens_from_next (blank_skipped p b rest e d) ∙ sym (next_tokens false new) }

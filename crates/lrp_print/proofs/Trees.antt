@@ -46,7 +46,7 @@ use Rattle.lrp_model.specs.Names.{IsName, IsNamedSort, AreNamed}
 use Rattle.lrp_model.specs.Kept.{AreValuesOf, IsBoundOf, IsRowOf, IsKept}
 use Rattle.lrp_print.proofs.Spelling.{Spelled, nothing, both}
 use Rattle.lrp_print.proofs.Scanned.{Stops, IsPlain}
-use Rattle.lrp_print.proofs.PieceLaws.{space, feed, open_at, open_any, close, open_brace, close_brace, colon, semicolon, plus, minus, at_most, at_least, relation_word, where_word, letter_word, time_at, data_at, name_at, number_any, written, IsShort, short, integer_any, integer_at, text_at, trees, behind_comma, behind, separated_spelled, joined_spelled}
+use Rattle.lrp_print.proofs.PieceLaws.{space, feed, open_at, open_any, close, open_brace, close_brace, colon, semicolon, plus, minus, at_most, at_least, relation_word, where_word, letter_word, time_at, data_at, name_at, number_any, written, IsShort, short, integer_any, integer_at, text_at, trees, after_comma, after_piece, separated_spelled, joined_spelled}
 
 -- ---- values
 
@@ -235,17 +235,17 @@ bound_spelled cs names b p rest h s = by (b.left == 0) (b.right == 0) refl refl
 
 -- the bounds of a row, from the place of their first
 abbrev pub bound_trees : List Column → Place → List Bound → List RawBound
-bound_trees cs = trees (behind_comma (bound_bytes cs)) (bound_tree cs)
+bound_trees cs = trees (after_comma (bound_bytes cs)) (bound_tree cs)
 
 -- after the values of a row whose line begins here
-abbrev pub behind_values : Place → Row → Place
-behind_values p r = after (after (after p (codes "  (")) (joined_by (codes ", ") value_bytes r.values)) (codes ")")
+abbrev pub after_values : Place → Row → Place
+after_values p r = after (after (after p (codes "  (")) (joined_by (codes ", ") value_bytes r.values)) (codes ")")
 
 -- a row whose line begins at a place
 abbrev pub row_tree : List Column → Place → Row → RawRow
 row_tree cs p r = record {
-  values = trees (behind_comma value_bytes) value_at (after p (codes "  (")) r.values;
-  bounds = bound_trees cs (after (behind_values p r) (codes " where ")) r.bounds;
+  values = trees (after_comma value_bytes) value_at (after p (codes "  (")) r.values;
+  bounds = bound_trees cs (after (after_values p r) (codes " where ")) r.bounds;
 }
 
 -- the same at the place of its parenthesis
@@ -280,29 +280,29 @@ row_spelled cs names r p rest h =
     let one = after p (32 ∷ []) in
     let two = after one (32 ∷ []) in
     let inside = after p (codes "  (") in
-    let behind = after inside values in
-    let ended = after (after behind (codes ")")) bounds in
+    let after_piece = after inside values in
+    let ended = after (after after_piece (codes ")")) bounds in
     both (both (space p (32 ∷ 40 ∷ first)) (both (space one (40 ∷ first)) (open_at two first)))
     (both (separated_spelled (located_text value_text) value_at value_bytes IsReadable value_spelled r.values inside (codes ")" ++ last) (values_readable cs r.values h.values) refl)
-    (both (close behind last)
-    (both (bounds_spelled cs names r.bounds (after behind (codes ")")) (codes ";\n" ++ rest) h.bounds refl)
+    (both (close after_piece last)
+    (both (bounds_spelled cs names r.bounds (after after_piece (codes ")")) (codes ";\n" ++ rest) h.bounds refl)
     (both (semicolon ended (10 ∷ rest)) (feed (after ended (59 ∷ [])) rest)))))
 
 -- ---- relations
 
 -- after the name of a relation whose text begins here, and after the columns
-abbrev pub behind_name : Place → Relation → Place
-behind_name p r = after (after (after p (codes "relation ")) r.name) (codes "(")
+abbrev pub after_name : Place → Relation → Place
+after_name p r = after (after (after p (codes "relation ")) r.name) (codes "(")
 
-abbrev pub behind_columns : Place → Relation → Place
-behind_columns p r = after (after (behind_name p r) (joined_by (codes ", ") column_bytes r.columns)) (codes ") {\n")
+abbrev pub after_columns : Place → Relation → Place
+after_columns p r = after (after (after_name p r) (joined_by (codes ", ") column_bytes r.columns)) (codes ") {\n")
 
 -- a relation whose text begins at a place
 abbrev pub relation_tree : Place → Relation → RawRelation
 relation_tree p r = record {
   name = record { place = after p (codes "relation "); item = r.name };
-  columns = trees (behind_comma column_bytes) column_tree (behind_name p r) r.columns;
-  rows = trees (behind (row_line r.columns)) (row_at r.columns) (behind_columns p r) r.rows;
+  columns = trees (after_comma column_bytes) column_tree (after_name p r) r.columns;
+  rows = trees (after_piece (row_line r.columns)) (row_at r.columns) (after_columns p r) r.rows;
 }
 
 -- a relation
@@ -316,9 +316,9 @@ relation_spelled r p rest k =
     let whole = (r.name ++ (codes "(" ++ (columns ++ (codes ") {\n" ++ body_bytes)))) ++ rest in
     let named = after p (codes "relation ") in
     let opened = after named r.name in
-    let inside = behind_name p r in
+    let inside = after_name p r in
     let closed = after inside columns in
-    let body = behind_columns p r in
+    let body = after_columns p r in
     let ended = after body rows in
     both (both (relation_word p (32 ∷ whole) refl) (space (after p (codes "relation")) whole))
     (both (name_at r.name named (codes "(" ++ first) k.name refl)
@@ -329,5 +329,5 @@ relation_spelled r p rest k =
     (both (close_brace ended (10 ∷ rest)) (feed (after ended (125 ∷ [])) rest)))))))
 
 -- relations, one after the other
-pub relations_spelled : (rs : List Relation) (p : Place) (rest : List ℕ) → AllByRecursion IsKept rs → Spelled (flat_map relation_text (trees (behind relation_bytes) relation_tree p rs)) p (flat_map relation_bytes rs) rest
+pub relations_spelled : (rs : List Relation) (p : Place) (rest : List ℕ) → AllByRecursion IsKept rs → Spelled (flat_map relation_text (trees (after_piece relation_bytes) relation_tree p rs)) p (flat_map relation_bytes rs) rest
 relations_spelled = joined_spelled relation_text relation_tree relation_bytes IsKept relation_spelled

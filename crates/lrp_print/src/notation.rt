@@ -4,7 +4,7 @@ ghost use Rattle.std.specs.List.{flat_map, AllByRecursion};
 ghost use Rattle.lrp_io.specs.Causes.{HasCause};
 ghost use Rattle.lrp_io.specs.Pieces.{IsWritten};
 ghost use Rattle.lrp_model.specs.Printed.{joined_by};
-ghost use Rattle.lrp_print.specs.Conditions.{behind_where};
+ghost use Rattle.lrp_print.specs.Conditions.{after_where};
 
 use crate::pieces::write_bytes;
 use lrp_io::{Failed, Sink};
@@ -60,7 +60,7 @@ pub fn write_joined<S: Sink, N: Notation>(
         [] => Ok(()),
         [first, rest @ ..] => {
             notation.write(out, first)?;
-            let further = Behind {
+            let further = After {
                 separator,
                 notation,
             };
@@ -70,14 +70,14 @@ pub fn write_joined<S: Sink, N: Notation>(
 }
 
 /// ` where ` and the items with commas between, if there are any. After a failure a front of them was written.
-pub(crate) fn write_behind_where<S: Sink, N: Notation>(
+pub(crate) fn write_after_where<S: Sink, N: Notation>(
     out: &mut S,
     notation: &N,
     items: &[N::Item],
 ) -> Result<(), Failed>
     requires { AllByRecursion (N.spells notation.now) items.now }
     ensures text { IsWritten (S.written out.old) (S.written out.new)
-        (behind_where (N.bytes notation.now) items.now) result }
+        (after_where (N.bytes notation.now) items.now) result }
     ensures cause { HasCause (S.faults out.old) (S.faults out.new) result }
 {
     match items {
@@ -91,12 +91,12 @@ pub(crate) fn write_behind_where<S: Sink, N: Notation>(
 
 // Each item after a separator.
 #[derive(Clone, Copy)]
-struct Behind<'a, N> {
+struct After<'a, N> {
     separator: &'a [u8],
     notation: &'a N,
 }
 
-impl<N: Notation> Notation for Behind<'_, N> {
+impl<N: Notation> Notation for After<'_, N> {
     type Item = N::Item;
 
     ghost spells = { λ s item. N.spells s.notation.now item };

@@ -9,7 +9,7 @@ ghost use Rattle.lrp_model.specs.Limits.{greatest_number};
 ghost use Rattle.lrp_model.specs.Kept.{HasLowPeriod, IsKept, IsWritable};
 ghost use Rattle.lrp_print.specs.ReadBack.{ReadsBack};
 
-use crate::notation::{Notation, write_behind_where, write_each, write_joined};
+use crate::notation::{Notation, write_after_where, write_each, write_joined};
 use crate::pieces::{
     write_bytes, write_integer, write_offset, write_point, write_quoted, write_sort,
 };
@@ -164,7 +164,7 @@ pub fn write_conditions<S: Sink>(
         (bounds_bytes columns.now bounds.now) result }
     ensures cause { HasCause (S.faults out.old) (S.faults out.new) result }
 {
-    write_behind_where(out, &Bounds { columns }, bounds)
+    write_after_where(out, &Bounds { columns }, bounds)
 }
 
 // The lines of rows with these columns.

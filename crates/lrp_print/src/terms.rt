@@ -7,7 +7,7 @@ ghost use Rattle.lrp_model.specs.Printed.{joined_by, point_bytes, offset_bytes};
 ghost use Rattle.lrp_model.specs.PrintedPlans.{time_bytes, data_bytes, term_bytes, op_bytes, test_bytes, leaf_word as word_of_leaf, carried_bytes};
 ghost use Rattle.lrp_print.specs.Writable.{TestHasPeriod};
 
-use crate::notation::{Notation, write_behind_where, write_joined};
+use crate::notation::{Notation, write_after_where, write_joined};
 use crate::pieces::{write_bytes, write_integer, write_offset, write_point, write_quoted};
 use lrp_io::{Failed, Sink};
 use lrp_model::{DataTerm, Name, Op, RowPoint, Term, Test, TimeTerm};
@@ -179,5 +179,5 @@ pub(crate) fn write_carried<S: Sink>(out: &mut S, tests: &[Test]) -> Result<(), 
         (carried_bytes tests.now) result }
     ensures cause { HasCause (S.faults out.old) (S.faults out.new) result }
 {
-    write_behind_where(out, &Tests, tests)
+    write_after_where(out, &Tests, tests)
 }

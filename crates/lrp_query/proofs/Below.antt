@@ -7,7 +7,7 @@ use Rattle.lrp_model.specs.Refused.{Stops, TextOf}
 use Rattle.lrp_text.specs.Parsers.{Parser, pure, eat, separated_from}
 use Rattle.lrp_text.proofs.Complete.{Answers, answers_then, answers_as, eats_none, FollowsList}
 use Rattle.lrp_text.proofs.Sound.{Sound, takes_join, takes_split, takes_shorter, takes_onto, takes_front, Front, Eaten, eat_ok}
-use Rattle.lrp_text.proofs.Viable.{ViableBelow, SomeText, bind_err, eat_err, before, behind, both, fits_as}
+use Rattle.lrp_text.proofs.Viable.{ViableBelow, SomeText, bind_err, eat_err, before, after_front, both, fits_as}
 
 -- ---- complete
 
@@ -58,7 +58,7 @@ module _ {A : Type 0} (p : Parser A) (spell : A → List Part) (Fits : A → Typ
   next_stops n again found a false ts us vs e h lt short one fit eaten = absurd cc
   next_stops n again found a true ts us vs e h lt short one fit eaten =
       let shorter : length us ≡ length (eaten.0 ∷ vs) = ap length eaten.1 in
-      behind (SomeText comma spell Fits) (SomeText comma spell Fits) (one.head ++ eaten.0 ∷ []) ts vs e
+      after_front (SomeText comma spell Fits) (SomeText comma spell Fits) (one.head ++ eaten.0 ∷ []) ts vs e
       (one.whole ∙ ap (λ x. one.head ++ x) eaten.1 ∙ sym (append_assoc one.head (eaten.0 ∷ []) vs))
       (next_text comma spell Fits a one.head eaten.0 fit one.spelled (told eaten.0 eaten.2))
       (again (found ++ a ∷ []) vs e (omega arith) (omega arith) h)

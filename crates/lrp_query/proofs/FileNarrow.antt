@@ -7,7 +7,7 @@ use Rattle.lrp_model.specs.declared.tokens.Word.{Word}
 use Rattle.lrp_model.specs.declared.tokens.Word.TheVariants.{And, Or, Implies, Not, Exists, Forall}
 use Rattle.lrp_model.specs.declared.tokens.Place.{Place}
 use Rattle.lrp_model.specs.declared.written.Located.{Located}
-use Rattle.lrp_model.specs.Lexing.{is_letter, is_name_byte, run, behind_run, word_or_name, Scanned, text_from, text_scanned, one, one_or_two, further_symbol, no_symbol, symbol_in, scan_in, after, skip, start, headed, tokens_in_from, tokens_in}
+use Rattle.lrp_model.specs.Lexing.{is_letter, is_name_byte, run, after_run, word_or_name, Scanned, text_from, text_scanned, one, one_or_two, further_symbol, no_symbol, symbol_in, scan_in, after, skip, start, headed, tokens_in_from, tokens_in}
 use Rattle.std.specs.Str.Parse.{digits_value}
 use Rattle.lrp_model.specs.Tokens.{Token, Placed, Tokens, Part, Takes, Spells, located_text, separated, from}
 use Rattle.lrp_model.specs.Tokens.Token.{name_token, word_token, number_token, text_token, symbol_token, end_token, bad_token, hole_token}
@@ -55,8 +55,8 @@ scan_alike : (bs : List ℕ) → Real (scan_in false bs).token → scan_in true 
 unfolding scan_in
 scan_alike [] real = refl
 scan_alike (b ∷ bs) real =
-    either_way (is_letter b) (record { token = word_or_name (run is_name_byte (b ∷ bs)); taken = run is_name_byte (b ∷ bs); left = behind_run is_name_byte (b ∷ bs) }) _ _
-    (either_way (is_ascii_digit b) (record { token = number_token (digits_value 10 (run is_ascii_digit (b ∷ bs))); taken = run is_ascii_digit (b ∷ bs); left = behind_run is_ascii_digit (b ∷ bs) }) _ _
+    either_way (is_letter b) (record { token = word_or_name (run is_name_byte (b ∷ bs)); taken = run is_name_byte (b ∷ bs); left = after_run is_name_byte (b ∷ bs) }) _ _
+    (either_way (is_ascii_digit b) (record { token = number_token (digits_value 10 (run is_ascii_digit (b ∷ bs))); taken = run is_ascii_digit (b ∷ bs); left = after_run is_ascii_digit (b ∷ bs) }) _ _
     (either_way (b == 34) (text_scanned (text_from false bs)) (symbol_in true b bs) (symbol_in false b bs) (symbol_alike b bs))) real
 
 first_real : (p : Place) (s : Scanned) (k : Token) (rest : Tokens) → AllReal (headed p s k rest) → Real k
@@ -95,14 +95,14 @@ ComesToEnd [] = ⊥
 ComesToEnd (t ∷ []) = t.token ≡ end_token
 ComesToEnd (t ∷ u ∷ ts) = ComesToEnd (u ∷ ts)
 
-behind_ends : (head us : Tokens) → ComesToEnd us → ComesToEnd (head ++ us)
-behind_ends [] us e = e
-behind_ends (t ∷ []) [] e = absurd e
-behind_ends (t ∷ []) (u ∷ us) e = e
-behind_ends (t ∷ u ∷ head) us e = behind_ends (u ∷ head) us e
+after_ends : (head us : Tokens) → ComesToEnd us → ComesToEnd (head ++ us)
+after_ends [] us e = e
+after_ends (t ∷ []) [] e = absurd e
+after_ends (t ∷ []) (u ∷ us) e = e
+after_ends (t ∷ u ∷ head) us e = after_ends (u ∷ head) us e
 
 taken_ends : (ps : List Part) (ts us : Tokens) → Takes ps ts us → ComesToEnd us → ComesToEnd ts
-taken_ends ps ts us h e = let f = takes_front ps ts us h in subst ComesToEnd (sym f.whole) (behind_ends f.head us e)
+taken_ends ps ts us h e = let f = takes_front ps ts us h in subst ComesToEnd (sym f.whole) (after_ends f.head us e)
 
 -- nothing after a bad byte
 one_more : (t : Placed) (rest : Tokens) → Real t.token → (t.token ≡ end_token → ⊥) → ComesToEnd (t ∷ rest) → (ComesToEnd rest → AllReal rest) → AllReal (t ∷ rest)
@@ -137,7 +137,7 @@ query_ends q [] s = absurd s
 query_ends q (t ∷ ts) s =
     let ending : List Part = any (symbol_token CloseBrace) ∷ any end_token ∷ [] in
     let a = takes_split (separated comma column_text q.head) (any (symbol_token Bar) ∷ (formula_text q.body ++ ending)) ts [] s.1 in
-    behind_ends (t ∷ []) ts (taken_ends (separated comma column_text q.head) ts a.0 a.1 (barred a.0 a.2))
+    after_ends (t ∷ []) ts (taken_ends (separated comma column_text q.head) ts a.0 a.1 (barred a.0 a.2))
   where
     closed : (ks : Tokens) → Takes (any (symbol_token CloseBrace) ∷ any end_token ∷ []) ks [] → ComesToEnd ks
     closed [] h = absurd h
@@ -149,7 +149,7 @@ query_ends q (t ∷ ts) s =
     barred [] h = absurd h
     barred (x ∷ ms) h =
         let b = takes_split (formula_text q.body) (any (symbol_token CloseBrace) ∷ any end_token ∷ []) ms [] h.1 in
-        behind_ends (x ∷ []) ms (taken_ends (formula_text q.body) ms b.0 b.1 (closed b.0 b.2))
+        after_ends (x ∷ []) ms (taken_ends (formula_text q.body) ms b.0 b.1 (closed b.0 b.2))
 
 -- ---- the same trees
 

@@ -14,7 +14,7 @@ use Rattle.lrp_model.specs.RawQueries.{RawFileView, raw_or, no_raws}
 use Rattle.lrp_text.specs.Parsers.{ParseOutcome, Parser}
 use Rattle.lrp_text.proofs.Complete.{Answers}
 use Rattle.lrp_text.proofs.Sound.{takes_onto}
-use Rattle.lrp_text.proofs.Viable.{behind}
+use Rattle.lrp_text.proofs.Viable.{after_front}
 use Rattle.lrp_text.proofs.Local.{IsLocal, left_of, onto}
 use Rattle.lrp_query.specs.Rules.{too_deep, is_hole_token}
 use Rattle.lrp_query.proofs.Marks.{NoHoles}
@@ -76,7 +76,7 @@ again p ts front k bad tail other l e whole =
 pub file_refused : (ts : Tokens) (k : Fault) (bad : Placed) (tail : Tokens) → ((n : ℕ) → length ts < n → read_file n ts ≡ Err (k, bad ∷ tail)) → IsRefusedAt FileTexts ts k bad tail
 file_refused ts k bad tail reads =
     let size = suc (length ts) in
-    let s = behind (Texts FileText) FileTexts [] ts ts (k, bad ∷ tail) refl text_of ((file_rule size).viable ts (k, bad ∷ tail) (omega arith) (reads size (omega arith))) in
+    let s = after_front (Texts FileText) FileTexts [] ts ts (k, bad ∷ tail) refl text_of ((file_rule size).viable ts (k, bad ∷ tail) (omega arith) (reads size (omega arith))) in
     let none : (c : Bool) (other : Tokens) → FileTexts c (s.front ++ bad ∷ other) → (k ≡ Syntax → ⊥) × (c ≡ true → ⊥) = λ c other t.
     let n = suc (length ts + length (s.front ++ bad ∷ other)) in
     never n c (s.front ++ bad ∷ other) (bad ∷ other) k (omega arith) (again (read_file n) ts s.front k bad tail other ((file_rule n).local holes ts) (reads n (omega arith)) s.whole) t in
@@ -102,12 +102,12 @@ hole_next : (n : ℕ) (front : Tokens) (b : Placed) (more : Tokens) → FileText
 hole_next n front b more text lt all true is = (b, more, is_hole b.token is, text)
 hole_next n front b more text lt all false is = absurd (ok_or_err (read_file n (front ++ b ∷ more)) (raw_file text.0, []) (too_deep b.token, b ∷ more) (lawful_read n text.0 (front ++ b ∷ more) [] lt text.1 text.2) (all holes (too_deep b.token) b more (there b is)))
 
-hole_behind : (n : ℕ) (ts front : Tokens) (bad : Placed) (tail more : Tokens) → ts ≡ front ++ bad ∷ tail → length ts < n → length (front ++ more) < n → read_file n ts ≡ Err (Deep, bad ∷ tail) → ((c : Cut) (k : Fault) (b : Placed) (y : Tokens) → c b ≡ Err k → file_cut n c (front ++ b ∷ y) ≡ Err (k, b ∷ y)) → FileTexts true (front ++ more) → IsTooDeepIn FileTexts front
-hole_behind n ts front bad tail [] whole lt less e all text =
+hole_after : (n : ℕ) (ts front : Tokens) (bad : Placed) (tail more : Tokens) → ts ≡ front ++ bad ∷ tail → length ts < n → length (front ++ more) < n → read_file n ts ≡ Err (Deep, bad ∷ tail) → ((c : Cut) (k : Fault) (b : Placed) (y : Tokens) → c b ≡ Err k → file_cut n c (front ++ b ∷ y) ≡ Err (k, b ∷ y)) → FileTexts true (front ++ more) → IsTooDeepIn FileTexts front
+hole_after n ts front bad tail [] whole lt less e all text =
     let spelled : Spells (file_text text.0) front = subst (Spells (file_text text.0)) (append-nil front) text.2 in
     let taken : Takes (file_text text.0) ts (bad ∷ tail) = subst (λ x. Takes (file_text text.0) x (bad ∷ tail)) (sym whole) (takes_onto (file_text text.0) front (bad ∷ tail) spelled) in
     absurd (ok_or_err (read_file n ts) (raw_file text.0, bad ∷ tail) (Deep, bad ∷ tail) (lawful_read n text.0 ts (bad ∷ tail) lt text.1 taken) e)
-hole_behind n ts front bad tail (b ∷ more) whole lt less e all text = hole_next n front b more text less all (is_hole_token b.token) refl
+hole_after n ts front bad tail (b ∷ more) whole lt less e all text = hole_next n front b more text less all (is_hole_token b.token) refl
 
 deep_at : (n : ℕ) (ts front : Tokens) (bad : Placed) (tail more : Tokens) → NoHoles ts → ts ≡ front ++ bad ∷ tail → FileTexts true (front ++ more) → length ts < n → length (front ++ more) < n → read_file n ts ≡ Err (Deep, bad ∷ tail) → Told true (file_cut n) ts → IsTooDeepIn FileTexts front × (IsCause Number bad.token → ⊥)
 deep_at n ts front bad tail more clean whole text lt less e (took a left h w cl all) = absurd (ok_or_err (read_file n ts) (a, left) (Deep, bad ∷ tail) (all holes) e)
@@ -122,7 +122,7 @@ deep_at n ts front bad tail more clean whole text lt less e (cut_off h t us ne w
     let token : t ≡ bad = (parts t bad us tail same.1).0 in
     let fronts : h ≡ front = append_cancel_right h front (bad ∷ tail) (sym (w ∙ ap (λ x. h ++ x) same.1) ∙ whole) in
     let each : (c : Cut) (k : Fault) (b : Placed) (y : Tokens) → c b ≡ Err k → file_cut n c (front ++ b ∷ y) ≡ Err (k, b ∷ y) = subst (λ f. (c : Cut) (k : Fault) (b : Placed) (y : Tokens) → c b ≡ Err k → file_cut n c (f ++ b ∷ y) ≡ Err (k, b ∷ y)) fronts all in
-    (hole_behind n ts front bad tail more whole lt less e each text, not_large bad.token (subst (λ x. too_deep x.token ≡ Deep) token same.0))
+    (hole_after n ts front bad tail more whole lt less e each text, not_large bad.token (subst (λ x. too_deep x.token ≡ Deep) token same.0))
 
 -- after tokens that a hole may follow each token is refused as where a formula would be too deep
 shallow_at : (n : ℕ) (front : Tokens) (h : Placed) (other : Tokens) (q : RawFileView) (k : Fault) (bad : Placed) (tail : Tokens) → NoHoles front → is_hole_token h.token ≡ true → is_hole_token bad.token ≡ false → read_file n (front ++ h ∷ other) ≡ Ok (q, []) → read_file n (front ++ bad ∷ tail) ≡ Err (k, bad ∷ tail) → Told true (file_cut n) (front ++ h ∷ other) → IsDeepKind k

@@ -39,11 +39,11 @@ use Rattle.lrp_query.proofs.Languages.{FitsAt}
 use Rattle.lrp_query.proofs.WideTold.{Cut, fixed_tells, fail_tells}
 use Rattle.lrp_query.proofs.WideRule.{Language, Front, Rule, as_rule, alike_rule, below_rule, follow_rule, sooner_rule, Nothing, pure_rule, Then, bind_rule, Made, map_rule, TokenRule, After, token_rule, token_less_rule, Either, look_rule, Leaf, leaf_rule, Separated}
 use Rattle.lrp_query.proofs.WideTerms.{symbol_rule, symbol_kind, name_rule, end_rule, Lists, listed_rule}
-use Rattle.lrp_query.proofs.WideWritten.{Formula, Wrote, behind_part}
+use Rattle.lrp_query.proofs.WideWritten.{Formula, Wrote, after_part}
 use Rattle.lrp_query.proofs.WideLevels.{cutting, FollowsWhole, closer_follows}
 use Rattle.lrp_query.proofs.WideWhole.{part_rule}
 use Rattle.lrp_query.proofs.WideOperators.{any_tight}
-use Rattle.lrp_query.proofs.WideFormulas.{behind_cut, up_to, up_to_zero, up_to_rule}
+use Rattle.lrp_query.proofs.WideFormulas.{after_cut, up_to, up_to_zero, up_to_rule}
 
 -- ---- names that begin or divide definitions
 
@@ -113,7 +113,7 @@ columns_read c [] ts us s = s
 columns_read c (b ∷ []) ts us s = (always (Unit {0}) c tt, s)
 columns_read c (b ∷ e ∷ cs) ts us s =
     let k = takes_split (column_text b) (comma ∷ separated comma column_text (e ∷ cs)) ts us s in
-    (k.0, (always (Unit {0}) c tt, k.1), behind_part (symbol_token Comma) (separated comma column_text (e ∷ cs)) (λ ns. Separated (ColumnText c) (symbol_token Comma) (e ∷ cs) ns us) k.0 us k.2 (λ ns h. columns_read c (e ∷ cs) ns us h))
+    (k.0, (always (Unit {0}) c tt, k.1), after_part (symbol_token Comma) (separated comma column_text (e ∷ cs)) (λ ns. Separated (ColumnText c) (symbol_token Comma) (e ∷ cs) ns us) k.0 us k.2 (λ ns h. columns_read c (e ∷ cs) ns us h))
 
 -- ---- bodies
 
@@ -123,7 +123,7 @@ SymbolText k T = After (λ (u : Unit {0}). any k) (λ u. Unit {0}) (λ u. T)
 abbrev BodyText : Language RawForm
 BodyText = Wrote raw_form 3 64
 
-body_rule : (size : ℕ) → Rule size false FollowsWhole BodyText (λ c. wide_whole_with (cutting c) (behind_cut c) size)
+body_rule : (size : ℕ) → Rule size false FollowsWhole BodyText (λ c. wide_whole_with (cutting c) (after_cut c) size)
 body_rule size = part_rule size 64 (λ c d. up_to size d c d) (λ c. up_to_zero size 0 c) (λ d low. up_to_rule size d d (omega arith)) 64 (omega arith)
 
 -- a symbol that ends one
@@ -146,12 +146,12 @@ QueryEnd cs f = SymbolText (symbol_token CloseBrace) (SymbolText end_token (Noth
 abbrev QueryText : Language RawQuestion
 QueryText = SymbolText (symbol_token OpenBrace) (Then Columns (λ cs. SymbolText (symbol_token Bar) (Then BodyText (QueryEnd cs))))
 
-query_rule : (size : ℕ) → Rule size true Anything QueryText (λ c. wide_query_with (cutting c) (behind_cut c) size)
+query_rule : (size : ℕ) → Rule size true Anything QueryText (λ c. wide_query_with (cutting c) (after_cut c) size)
 unfolding query_over
 query_rule size =
-    token_rule (λ u c. listed column (is_symbol Comma) (is_symbol Bar) size >>= (λ cs. expect Bar >>= (λ v. wide_whole_with (cutting c) (behind_cut c) size >>= (λ f. expect CloseBrace >>= (λ w. expect_end >>= (λ x. pure (question cs f))))))) (symbol_rule OpenBrace)
-    (λ u. sooner_rule true (bind_rule (λ cs c. expect Bar >>= (λ v. wide_whole_with (cutting c) (behind_cut c) size >>= (λ f. expect CloseBrace >>= (λ w. expect_end >>= (λ x. pure (question cs f)))))) (columns_rule size Bar)
-    (λ cs. token_rule (λ v c. wide_whole_with (cutting c) (behind_cut c) size >>= (λ f. expect CloseBrace >>= (λ w. expect_end >>= (λ x. pure (question cs f))))) (symbol_rule Bar)
+    token_rule (λ u c. listed column (is_symbol Comma) (is_symbol Bar) size >>= (λ cs. expect Bar >>= (λ v. wide_whole_with (cutting c) (after_cut c) size >>= (λ f. expect CloseBrace >>= (λ w. expect_end >>= (λ x. pure (question cs f))))))) (symbol_rule OpenBrace)
+    (λ u. sooner_rule true (bind_rule (λ cs c. expect Bar >>= (λ v. wide_whole_with (cutting c) (after_cut c) size >>= (λ f. expect CloseBrace >>= (λ w. expect_end >>= (λ x. pure (question cs f)))))) (columns_rule size Bar)
+    (λ cs. token_rule (λ v c. wide_whole_with (cutting c) (after_cut c) size >>= (λ f. expect CloseBrace >>= (λ w. expect_end >>= (λ x. pure (question cs f))))) (symbol_rule Bar)
     (λ v. bind_rule (λ f c. expect CloseBrace >>= (λ w. expect_end >>= (λ x. pure (question cs f)))) (body_rule size)
     (λ f. token_rule (λ w c. expect_end >>= (λ x. pure (question cs f))) (symbol_rule CloseBrace)
     (λ w. sooner_rule true (token_rule (λ x c. pure (question cs f)) end_rule (λ x. pure_rule size false Anything (question cs f)))))
@@ -189,9 +189,9 @@ body_back c f ts us low o fit s = record { tree = f; tight = low; ordered = o; m
 query_back : (c : Bool) (q : WrittenQuery wide) (ts us : Tokens) → Fitting c (FitsQuery q) → Takes (query_text q) ts us → QueryText c (raw_question q) ts us
 query_back c q ts us fit s =
     let ending : List Part = any (symbol_token CloseBrace) ∷ any end_token ∷ [] in
-    let behind : List Part = any (symbol_token Bar) ∷ (formula_text q.body ++ ending) in
-    symbol_back (symbol_token OpenBrace) (separated comma column_text q.head ++ behind) (Then Columns (λ cs. SymbolText (symbol_token Bar) (Then BodyText (QueryEnd cs)))) c (raw_question q) ts us s (λ ns h.
-    let k = takes_split (separated comma column_text q.head) behind ns us h in (
+    let after : List Part = any (symbol_token Bar) ∷ (formula_text q.body ++ ending) in
+    symbol_back (symbol_token OpenBrace) (separated comma column_text q.head ++ after) (Then Columns (λ cs. SymbolText (symbol_token Bar) (Then BodyText (QueryEnd cs)))) c (raw_question q) ts us s (λ ns h.
+    let k = takes_split (separated comma column_text q.head) after ns us h in (
       q.head,
       k.0,
       columns_read c q.head ns k.0 k.1,
@@ -216,24 +216,24 @@ NamedText word T = After (λ (u : Unit {0}). any (name_token word)) (λ u. Unit 
 abbrev BodyEnd : Identifier × Place → List RawColumn → RawForm → Language (Definition RawForm)
 BodyEnd n cs f = SymbolText (symbol_token Semicolon) (Nothing (made n cs f))
 
-abbrev BehindColumns : Identifier × Place → List RawColumn → Language (Definition RawForm)
-BehindColumns n cs = SymbolText (symbol_token Close) (NamedText as_word (Then BodyText (BodyEnd n cs)))
+abbrev AfterColumns : Identifier × Place → List RawColumn → Language (Definition RawForm)
+AfterColumns n cs = SymbolText (symbol_token Close) (NamedText as_word (Then BodyText (BodyEnd n cs)))
 
 -- after `define`
 abbrev RestText : Language (Definition RawForm)
-RestText = After name_part (λ n. Unit {0}) (λ n. SymbolText (symbol_token Open) (Then Columns (BehindColumns n)))
+RestText = After name_part (λ n. Unit {0}) (λ n. SymbolText (symbol_token Open) (Then Columns (AfterColumns n)))
 
 rest_of : ℕ → Cut → Parser (Definition RawForm)
-rest_of size c = name >>= (λ n. expect Open >>= (λ u. listed column (is_symbol Comma) (is_symbol Close) size >>= (λ cs. expect Close >>= (λ v. expect_named as_word >>= (λ w. wide_whole_with (cutting c) (behind_cut c) size >>= (λ f. expect Semicolon >>= (λ x. pure (made n cs f))))))))
+rest_of size c = name >>= (λ n. expect Open >>= (λ u. listed column (is_symbol Comma) (is_symbol Close) size >>= (λ cs. expect Close >>= (λ v. expect_named as_word >>= (λ w. wide_whole_with (cutting c) (after_cut c) size >>= (λ f. expect Semicolon >>= (λ x. pure (made n cs f))))))))
 
 rest_rule : (size : ℕ) → Rule size true Anything RestText (rest_of size)
 unfolding rest_of
 rest_rule size =
-    token_rule (λ n c. expect Open >>= (λ u. listed column (is_symbol Comma) (is_symbol Close) size >>= (λ cs. expect Close >>= (λ v. expect_named as_word >>= (λ w. wide_whole_with (cutting c) (behind_cut c) size >>= (λ f. expect Semicolon >>= (λ x. pure (made n cs f)))))))) name_rule
-    (λ n. sooner_rule true (token_rule (λ u c. listed column (is_symbol Comma) (is_symbol Close) size >>= (λ cs. expect Close >>= (λ v. expect_named as_word >>= (λ w. wide_whole_with (cutting c) (behind_cut c) size >>= (λ f. expect Semicolon >>= (λ x. pure (made n cs f))))))) (symbol_rule Open)
-    (λ u. sooner_rule true (bind_rule (λ cs c. expect Close >>= (λ v. expect_named as_word >>= (λ w. wide_whole_with (cutting c) (behind_cut c) size >>= (λ f. expect Semicolon >>= (λ x. pure (made n cs f)))))) (columns_rule size Close)
-    (λ cs. token_rule (λ v c. expect_named as_word >>= (λ w. wide_whole_with (cutting c) (behind_cut c) size >>= (λ f. expect Semicolon >>= (λ x. pure (made n cs f))))) (symbol_rule Close)
-    (λ v. sooner_rule true (token_rule (λ w c. wide_whole_with (cutting c) (behind_cut c) size >>= (λ f. expect Semicolon >>= (λ x. pure (made n cs f)))) (named_rule as_word)
+    token_rule (λ n c. expect Open >>= (λ u. listed column (is_symbol Comma) (is_symbol Close) size >>= (λ cs. expect Close >>= (λ v. expect_named as_word >>= (λ w. wide_whole_with (cutting c) (after_cut c) size >>= (λ f. expect Semicolon >>= (λ x. pure (made n cs f)))))))) name_rule
+    (λ n. sooner_rule true (token_rule (λ u c. listed column (is_symbol Comma) (is_symbol Close) size >>= (λ cs. expect Close >>= (λ v. expect_named as_word >>= (λ w. wide_whole_with (cutting c) (after_cut c) size >>= (λ f. expect Semicolon >>= (λ x. pure (made n cs f))))))) (symbol_rule Open)
+    (λ u. sooner_rule true (bind_rule (λ cs c. expect Close >>= (λ v. expect_named as_word >>= (λ w. wide_whole_with (cutting c) (after_cut c) size >>= (λ f. expect Semicolon >>= (λ x. pure (made n cs f)))))) (columns_rule size Close)
+    (λ cs. token_rule (λ v c. expect_named as_word >>= (λ w. wide_whole_with (cutting c) (after_cut c) size >>= (λ f. expect Semicolon >>= (λ x. pure (made n cs f))))) (symbol_rule Close)
+    (λ v. sooner_rule true (token_rule (λ w c. wide_whole_with (cutting c) (after_cut c) size >>= (λ f. expect Semicolon >>= (λ x. pure (made n cs f)))) (named_rule as_word)
     (λ w. bind_rule (λ f c. expect Semicolon >>= (λ x. pure (made n cs f))) (body_rule size)
     (λ f. token_rule (λ x c. pure (made n cs f)) (symbol_rule Semicolon) (λ x. pure_rule size false Anything (made n cs f)))
     (λ f c y ms left t g. ended Semicolon (Nothing (made n cs f)) refl refl c y ms left t)))))
@@ -279,7 +279,7 @@ definition_back c t (a ∷ b ∷ ts) us fit s =
       (
         n,
         (s.1.0, always (Unit {0}) c tt),
-        symbol_back (symbol_token Open) (separated comma column_text t.columns ++ any (symbol_token Close) ∷ divided) (Then Columns (BehindColumns n)) c v ts us s.1.1 (λ ns h.
+        symbol_back (symbol_token Open) (separated comma column_text t.columns ++ any (symbol_token Close) ∷ divided) (Then Columns (AfterColumns n)) c v ts us s.1.1 (λ ns h.
             let k = takes_split (separated comma column_text t.columns) (any (symbol_token Close) ∷ divided) ns us h in (
               t.columns,
               k.0,
@@ -329,7 +329,7 @@ reassociated (Ok x) f g = refl
 reassociated (Err e) f g = refl
 
 definitions_of : ℕ → ℕ → List (Definition RawForm) → Cut → Parser (List (Definition RawForm))
-definitions_of size n found c = definitions_from (cutting c) (behind_cut c) n size found
+definitions_of size n found c = definitions_from (cutting c) (after_cut c) n size found
 
 definitions_rule : (size n : ℕ) → n ≤ size → (found : List (Definition RawForm)) → Rule n true NoDefinition (DefinitionsText found) (definitions_of size n found)
 unfolding definitions_of definitions_from definition_with rest_of
@@ -365,8 +365,8 @@ definitions_rule size zero low found = record {
         }
 definitions_rule size (suc n) low found =
     as_rule (DefinitionsText found)
-    (look_rule (λ defines c. if defines then (definition_with (cutting c) (behind_cut c) size >>= (λ d. definitions_of size n (found ++ d ∷ []) c)) else pure found)
-    (alike_rule (λ c. definition_with (cutting c) (behind_cut c) size >>= (λ d. definitions_of size n (found ++ d ∷ []) c)) (λ c ts. reassociated (expect_named define_word ts) (λ u. rest_of size c) (λ d. definitions_of size n (found ++ d ∷ []) c))
+    (look_rule (λ defines c. if defines then (definition_with (cutting c) (after_cut c) size >>= (λ d. definitions_of size n (found ++ d ∷ []) c)) else pure found)
+    (alike_rule (λ c. definition_with (cutting c) (after_cut c) size >>= (λ d. definitions_of size n (found ++ d ∷ []) c)) (λ c ts. reassociated (expect_named define_word ts) (λ u. rest_of size c) (λ d. definitions_of size n (found ++ d ∷ []) c))
     (token_less_rule (λ u c. rest_of size c >>= (λ d. definitions_of size n (found ++ d ∷ []) c)) (named_rule define_word) (omega arith)
     (λ u. sooner_rule true (bind_rule (λ d c. definitions_of size n (found ++ d ∷ []) c) (below_rule n (omega (arith, low)) (rest_rule size))
     (λ d. definitions_rule size n (omega (arith, low)) (found ++ d ∷ [])) (λ d c v ms left t g. tt)))))
@@ -380,7 +380,7 @@ abbrev pub file_of : List (Definition RawForm) × RawQuestion → RawFileView
 file_of f = record { definitions = map raw_definition_read f.0; query = f.1 }
 
 abbrev pub file_cut : ℕ → Cut → Parser RawFileView
-file_cut size c = file_with (cutting c) (behind_cut c) size >>= (λ f. pure (file_of f))
+file_cut size c = file_with (cutting c) (after_cut c) size >>= (λ f. pure (file_of f))
 
 -- a written file
 pub record FileText (c : Bool) (v : RawFileView) (ts us : Tokens) : Type 0 where
@@ -452,5 +452,5 @@ pub file_rule : (size : ℕ) → Rule size true Anything FileText (file_cut size
 unfolding file_with definitions_of
 file_rule size =
     as_rule FileText
-    (map_rule file_of (bind_rule (λ ds c. wide_query_with (cutting c) (behind_cut c) size >>= (λ q. pure (ds, q))) (definitions_rule size size (omega arith) []) (λ ds. map_rule (λ q. (ds, q)) (query_rule size)) query_begins))
+    (map_rule file_of (bind_rule (λ ds c. wide_query_with (cutting c) (after_cut c) size >>= (λ q. pure (ds, q))) (definitions_rule size size (omega arith) []) (λ ds. map_rule (λ q. (ds, q)) (query_rule size)) query_begins))
     file_there file_back

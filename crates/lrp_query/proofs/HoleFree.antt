@@ -7,7 +7,7 @@ use Rattle.lrp_model.specs.declared.tokens.Place.{Place}
 use Rattle.lrp_model.specs.Tokens.{Token, Tokens}
 use Rattle.lrp_model.specs.Tokens.Token.{name_token, word_token, number_token, text_token, symbol_token, end_token, bad_token, hole_token}
 use Rattle.std.specs.Str.Parse.{digits_value}
-use Rattle.lrp_model.specs.Lexing.{is_letter, is_name_byte, run, behind_run, word_or_name, Scanned, QuotedText as TextRead, text_from, text_scanned, one, one_or_two, further_symbol, no_symbol, symbol_in, scan_in, after, skip, start, headed, tokens_in_from, tokens_in}
+use Rattle.lrp_model.specs.Lexing.{is_letter, is_name_byte, run, after_run, word_or_name, Scanned, QuotedText as TextRead, text_from, text_scanned, one, one_or_two, further_symbol, no_symbol, symbol_in, scan_in, after, skip, start, headed, tokens_in_from, tokens_in}
 use Rattle.std.specs.Char.{is_ascii_digit}
 use Rattle.lrp_query.specs.Rules.{is_hole_token}
 use Rattle.lrp_query.proofs.Marks.{NoHoles}
@@ -65,8 +65,8 @@ scan_clean : (wide : Bool) (bs : List ℕ) → Clean (scan_in wide bs)
 unfolding scan_in
 scan_clean wide [] = refl
 scan_clean wide (b ∷ bs) =
-    scanned (is_letter b) (record { token = word_or_name (run is_name_byte (b ∷ bs)); taken = run is_name_byte (b ∷ bs); left = behind_run is_name_byte (b ∷ bs) }) _ (word_clean (run is_name_byte (b ∷ bs)))
-    (scanned (is_ascii_digit b) (record { token = number_token (digits_value 10 (run is_ascii_digit (b ∷ bs))); taken = run is_ascii_digit (b ∷ bs); left = behind_run is_ascii_digit (b ∷ bs) }) _ refl
+    scanned (is_letter b) (record { token = word_or_name (run is_name_byte (b ∷ bs)); taken = run is_name_byte (b ∷ bs); left = after_run is_name_byte (b ∷ bs) }) _ (word_clean (run is_name_byte (b ∷ bs)))
+    (scanned (is_ascii_digit b) (record { token = number_token (digits_value 10 (run is_ascii_digit (b ∷ bs))); taken = run is_ascii_digit (b ∷ bs); left = after_run is_ascii_digit (b ∷ bs) }) _ refl
     (scanned (b == 34) (text_scanned (text_from false bs)) (symbol_in wide b bs) (text_clean (text_from false bs)) (symbol_clean wide b bs)))
 
 -- a token and those that follow it

@@ -16,22 +16,22 @@ use Rattle.lrp_text.proofs.Complete.{Answers, IsNot}
 use Rattle.lrp_text.proofs.Viable.{at_once}
 use Rattle.lrp_query.specs.declared.words.Leading.{Leading}
 use Rattle.lrp_query.specs.declared.words.Leading.TheVariants.{OfRange, OfPair}
-use Rattle.lrp_query.specs.Rules.{BehindName, behind_name, plainly}
+use Rattle.lrp_query.specs.Rules.{AfterName, after_name, plainly}
 use Rattle.lrp_query.specs.OperatorRules.{operator, with_operators}
-use Rattle.lrp_query.proofs.Layers.{atom, other, trees, FormulaRules, BehindRules, LayerTexts, IsFormula, rolled_stops}
-use Rattle.lrp_query.proofs.OperatorLaws.{behind_local, marked_operators, behind_told, behind_same}
-use Rattle.lrp_query.proofs.LocalRules.{behind_name_local}
-use Rattle.lrp_query.proofs.Marks.{marking, behind_name_told}
-use Rattle.lrp_query.proofs.Natural.{behind_name_same}
+use Rattle.lrp_query.proofs.Layers.{atom, other, trees, FormulaRules, AfterRules, LayerTexts, IsFormula, rolled_stops}
+use Rattle.lrp_query.proofs.OperatorLaws.{after_local, marked_operators, after_told, after_same}
+use Rattle.lrp_query.proofs.LocalRules.{after_name_local}
+use Rattle.lrp_query.proofs.Marks.{marking, after_name_told}
+use Rattle.lrp_query.proofs.Natural.{after_name_same}
 use Rattle.lrp_query.proofs.Readers.{Reader, forget, marks_of}
 use Rattle.lrp_text.proofs.OffsetRule.{NoShift}
-use Rattle.lrp_query.proofs.TestRules.{name_at, symbol_at, behind_name_sound, behind_name_stops}
+use Rattle.lrp_query.proofs.TestRules.{name_at, symbol_at, after_name_is_sound, after_name_stops}
 use Rattle.lrp_query.specs.Grammars.{word_of}
 use Rattle.lrp_model.specs.declared.raw.Ranged.{Ranged}
 use Rattle.lrp_model.specs.declared.raw.Ranged.TheVariants.{Once, Always}
 use Rattle.lrp_model.specs.declared.raw.Paired.{Paired}
 use Rattle.lrp_model.specs.declared.raw.Paired.TheVariants.{Since, Until}
-use Rattle.lrp_query.proofs.Languages.{Narrow, plain, tense, OperatorOver, over_range, over_pair, written_operators, behind_first, grammar, temporal_grammar, none_taken, FitsOperator}
+use Rattle.lrp_query.proofs.Languages.{Narrow, plain, tense, OperatorOver, over_range, over_pair, written_operators, after_first, grammar, temporal_grammar, none_taken, FitsOperator}
 use Rattle.lrp_query.proofs.OperatorReader.{ranged_answers, paired_answers, ranged_sound, paired_sound, ranged_stops, paired_stops}
 use Rattle.lrp_model.proofs.Logic.{choose}
 
@@ -61,22 +61,22 @@ paired_again Until = refl
 -- ---- complete, sound and viable
 
 -- the rule after a name
-abbrev pub written_behind : BehindName (WrittenFormula temporal)
-written_behind = with_operators (trees temporal_grammar) written_operators
+abbrev pub written_after : AfterName (WrittenFormula temporal)
+written_after = with_operators (trees temporal_grammar) written_operators
 
 module _ (inner : Parser (WrittenFormula temporal)) (d turns : ℕ) (rules : FormulaRules temporal_grammar d turns inner) where
   -- where no name follows it is that of queries
-  plainly_read : (n : Identifier) (p : Place) (us : Tokens) → IsNot is_name us → written_behind inner turns n p us ≡ behind_name false (trees temporal_grammar) turns n p us
+  plainly_read : (n : Identifier) (p : Place) (us : Tokens) → IsNot is_name us → written_after inner turns n p us ≡ after_name false (trees temporal_grammar) turns n p us
   unfolding with_operators look
   plainly_read n p [] alone = refl
   plainly_read n p (u ∷ us) alone = rw alone refl
 
   -- where one follows it is that of operators
-  operator_read : (n : Identifier) (p : Place) (u : Placed) (us : Tokens) (o : Option (Leading Ranged Paired)) → is_name u ≡ true → word_of n ≡ o → written_behind inner turns n p (u ∷ us) ≡ operator written_operators inner p o (u ∷ us)
+  operator_read : (n : Identifier) (p : Place) (u : Placed) (us : Tokens) (o : Option (Leading Ranged Paired)) → is_name u ≡ true → word_of n ≡ o → written_after inner turns n p (u ∷ us) ≡ operator written_operators inner p o (u ∷ us)
   unfolding with_operators look
   operator_read n p u us o e w = rw (e, w) refl
 
-  back : (x : OperatorOver temporal) (us left : Tokens) → length us < turns → Takes (behind_first x) us left → NoShift left → Answers (written_behind inner turns (temporal_grammar.others.word x) (temporal_grammar.others.place x) us) (temporal_grammar.roll (other x)) left (FitsOperator d x)
+  back : (x : OperatorOver temporal) (us left : Tokens) → length us < turns → Takes (after_first x) us left → NoShift left → Answers (written_after inner turns (temporal_grammar.others.word x) (temporal_grammar.others.place x) us) (temporal_grammar.roll (other x)) left (FitsOperator d x)
   back (over_range tt word o a b f) [] left lt h g = absurd h
   back (over_pair tt word o f k) [] left lt h g = absurd h
   back (over_range tt word o a b f) (u ∷ us) left lt h g =
@@ -91,11 +91,11 @@ module _ (inner : Parser (WrittenFormula temporal)) (d turns : ℕ) (rules : For
   operator_sound n p (Some (OfPair word)) is us q e = paired_sound inner d turns rules word n p is us q e
   operator_sound n p None is us q e = absurd cc
 
-  either_sound : (n : Identifier) (p : Place) (again : Bool) (us : Tokens) (q : (WrittenFormula temporal) × Tokens) → (if again then operator written_operators inner p (word_of n) else behind_name false (trees temporal_grammar) turns n p) us ≡ Ok q → IsFormula temporal_grammar (suc d) (name_at n p ∷ us) q
+  either_sound : (n : Identifier) (p : Place) (again : Bool) (us : Tokens) (q : (WrittenFormula temporal) × Tokens) → (if again then operator written_operators inner p (word_of n) else after_name false (trees temporal_grammar) turns n p) us ≡ Ok q → IsFormula temporal_grammar (suc d) (name_at n p ∷ us) q
   either_sound n p true us q e = operator_sound n p (word_of n) (word_told n) us q e
-  either_sound n p false us q e = behind_name_sound temporal_grammar d turns n p us q e
+  either_sound n p false us q e = after_name_is_sound temporal_grammar d turns n p us q e
 
-  sound : (n : Identifier) (p : Place) (us : Tokens) (q : (WrittenFormula temporal) × Tokens) → written_behind inner turns n p us ≡ Ok q → IsFormula temporal_grammar (suc d) (name_at n p ∷ us) q
+  sound : (n : Identifier) (p : Place) (us : Tokens) (q : (WrittenFormula temporal) × Tokens) → written_after inner turns n p us ≡ Ok q → IsFormula temporal_grammar (suc d) (name_at n p ∷ us) q
   unfolding with_operators look
   sound n p [] q e = either_sound n p false [] q e
   sound n p (u ∷ us) q e = either_sound n p (is_name u) (u ∷ us) q e
@@ -112,16 +112,16 @@ module _ (inner : Parser (WrittenFormula temporal)) (d turns : ℕ) (rules : For
       let k : (Syntax, us) ≡ e = cc in
       subst (λ x. Stops R us x) k (at_once R us no_terms (atom p n [], tt, ((refl, refl), (refl, (refl, refl)))))
 
-  either_stops : (n : Identifier) (p : Place) (again : Bool) (us : Tokens) (e : Fault × Tokens) → length us < turns → (if again then operator written_operators inner p (word_of n) else behind_name false (trees temporal_grammar) turns n p) us ≡ Err e → Stops (λ c x. LayerTexts temporal_grammar d c (name_at n p ∷ x)) us e
+  either_stops : (n : Identifier) (p : Place) (again : Bool) (us : Tokens) (e : Fault × Tokens) → length us < turns → (if again then operator written_operators inner p (word_of n) else after_name false (trees temporal_grammar) turns n p) us ≡ Err e → Stops (λ c x. LayerTexts temporal_grammar d c (name_at n p ∷ x)) us e
   either_stops n p true us e lt h = operator_stops n p (word_of n) (word_told n) us e lt h
-  either_stops n p false us e lt h = behind_name_stops temporal_grammar d turns n p us e lt h
+  either_stops n p false us e lt h = after_name_stops temporal_grammar d turns n p us e lt h
 
-  stops : (n : Identifier) (p : Place) (us : Tokens) (e : Fault × Tokens) → length us < turns → written_behind inner turns n p us ≡ Err e → Stops (λ c x. LayerTexts temporal_grammar d c (name_at n p ∷ x)) us e
+  stops : (n : Identifier) (p : Place) (us : Tokens) (e : Fault × Tokens) → length us < turns → written_after inner turns n p us ≡ Err e → Stops (λ c x. LayerTexts temporal_grammar d c (name_at n p ∷ x)) us e
   unfolding with_operators look
   stops n p [] e lt h = either_stops n p false [] e lt h
   stops n p (u ∷ us) e lt h = either_stops n p (is_name u) (u ∷ us) e lt h
 
-  pub written_rules : BehindRules temporal_grammar d turns (written_behind inner turns)
+  pub written_rules : AfterRules temporal_grammar d turns (written_after inner turns)
   written_rules = record {
     plain = plainly_read;
     back = back;
@@ -134,31 +134,31 @@ module _ (inner : Parser (WrittenFormula temporal)) (d turns : ℕ) (rules : For
 -- of temporal operators
 abbrev pub temporal_reader : Reader temporal_grammar
 temporal_reader = record {
-  behind = written_behind;
+  after = written_after;
   rules = λ inner d turns r. written_rules inner d turns r;
-  local = λ inner l turns n p. behind_local written_operators inner l (trees temporal_grammar) turns n p;
+  local = λ inner l turns n p. after_local written_operators inner l (trees temporal_grammar) turns n p;
   marks = with_operators marking (marked_operators word_of);
-  tells = record { local = λ inner l turns n p. behind_local (marked_operators word_of) inner l marking turns n p; told = λ inner t l turns n p. behind_told word_of inner t l turns n p };
-  same = λ inner other_inner s turns n p ts. behind_same (Unit {0}) (trees temporal_grammar) marking (marks_of temporal_grammar) written_operators (marked_operators word_of) forget (λ k. refl) (λ i. refl) (λ word o a b f. refl) (λ word o f g. refl) inner other_inner s turns n p ts;
+  tells = record { local = λ inner l turns n p. after_local (marked_operators word_of) inner l marking turns n p; told = λ inner t l turns n p. after_told word_of inner t l turns n p };
+  same = λ inner other_inner s turns n p ts. after_same (Unit {0}) (trees temporal_grammar) marking (marks_of temporal_grammar) written_operators (marked_operators word_of) forget (λ k. refl) (λ i. refl) (λ word o a b f. refl) (λ word o f g. refl) inner other_inner s turns n p ts;
 }
 
 -- in first-order logic nothing stands after a name but an atom or a term
-pub plain_behind : (inner : Parser (WrittenFormula first_order)) (d turns : ℕ) → FormulaRules (grammar plain) d turns inner → BehindRules (grammar plain) d turns (plainly (trees (grammar plain)) inner turns)
-plain_behind inner d turns r = record {
+pub plain_after : (inner : Parser (WrittenFormula first_order)) (d turns : ℕ) → FormulaRules (grammar plain) d turns inner → AfterRules (grammar plain) d turns (plainly (trees (grammar plain)) inner turns)
+plain_after inner d turns r = record {
   plain = λ n p us alone. refl;
   back = λ x us left lt h g. absurd (none_taken x);
-  sound = behind_name_sound (grammar plain) d turns;
-  viable = λ n p us e lt h. rolled_stops (grammar plain) d (name_at n p ∷ []) us e (behind_name_stops (grammar plain) d turns n p us e lt h);
+  sound = after_name_is_sound (grammar plain) d turns;
+  viable = λ n p us e lt h. rolled_stops (grammar plain) d (name_at n p ∷ []) us e (after_name_stops (grammar plain) d turns n p us e lt h);
 }
 
 abbrev pub plain_reader : Reader (grammar plain)
 plain_reader = record {
-  behind = plainly (trees (grammar plain));
-  rules = plain_behind;
-  local = λ inner l turns. behind_name_local (trees (grammar plain)) turns;
+  after = plainly (trees (grammar plain));
+  rules = plain_after;
+  local = λ inner l turns. after_name_local (trees (grammar plain)) turns;
   marks = plainly marking;
-  tells = record { local = λ inner l turns. behind_name_local marking turns; told = λ inner t l turns. behind_name_told turns };
-  same = λ inner other s turns. behind_name_same (Unit {0}) (trees (grammar plain)) marking (marks_of (grammar plain)) turns;
+  tells = record { local = λ inner l turns. after_name_local marking turns; told = λ inner t l turns. after_name_told turns };
+  same = λ inner other s turns. after_name_same (Unit {0}) (trees (grammar plain)) marking (marks_of (grammar plain)) turns;
 }
 
 -- of each language

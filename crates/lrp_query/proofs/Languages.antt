@@ -148,9 +148,9 @@ ranged_rest o from to f = at o.name_place (name_token o.name) ∷ any (symbol_to
 abbrev pub paired_rest : {l : Language} → Operator → WrittenFormula l → WrittenFormula l → List Part
 paired_rest o f g = at o.name_place (name_token o.name) ∷ any (symbol_token Open) ∷ (formula_text f ++ any (symbol_token Comma) ∷ (formula_text g ++ any (symbol_token Close) ∷ []))
 
-abbrev pub behind_first : {l : Language} → OperatorOver l → List Part
-behind_first (over_range t word o from to f) = ranged_rest o from to f
-behind_first (over_pair t word o f g) = paired_rest o f g
+abbrev pub after_first : {l : Language} → OperatorOver l → List Part
+after_first (over_range t word o from to f) = ranged_rest o from to f
+after_first (over_pair t word o f g) = paired_rest o f g
 
 -- when it is lawful over formulas with so much depth left
 abbrev pub FitsOperator : {l : Language} → ℕ → OperatorOver l → Type 0
@@ -158,7 +158,7 @@ FitsOperator d (over_range t word o from to f) = ((from.size ≤ greatest_number
 FitsOperator d (over_pair t word o f g) = FitsAt d f × FitsAt d g
 
 abbrev pub operators : {l : Language} → Others (OperatorOver l)
-operators = record { place = place_of; word = first_word; rest = behind_first; Fits = FitsOperator }
+operators = record { place = place_of; word = first_word; rest = after_first; Fits = FitsOperator }
 
 -- ---- the grammar
 

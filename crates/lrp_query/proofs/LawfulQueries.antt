@@ -36,7 +36,7 @@ use Rattle.lrp_text.proofs.Sound.{takes_shorter}
 use Rattle.lrp_text.proofs.Complete.{separated_long}
 use Rattle.lrp_text.proofs.NameTokens.{NamedPart, all_front, all_tail, columns_named, spelled_named}
 use Rattle.lrp_query.specs.Lawful.{HasMagnitude, FitsRawTerm, HasTwo, FitsRaw, FitRaws, IsShallow, AreShallow, formulas_in, formulas_of, is_raw_text, text_total, formula_texts, texts_of, IsLawful}
-use Rattle.lrp_query.proofs.Whole.{Whole, Wholes, behind_head, ends_query, whole_body}
+use Rattle.lrp_query.proofs.Whole.{Whole, Wholes, after_head, ends_query, whole_body}
 use Rattle.lrp_query.proofs.HoleFree.{tokens_clean}
 use Rattle.lrp_query.proofs.TermRules.{placed_text}
 
@@ -396,7 +396,7 @@ tokens_long bytes = from_long (suc (length bytes)) start bytes
 -- the body has four tokens fewer than the query
 pub body_short : {l : Language} (t : WrittenQuery l) → length (formula_text t.body) + 4 ≤ length (query_text t)
 body_short t =
-    let size : length (separated comma column_text t.head ++ behind_head t.body) ≡ length (separated comma column_text t.head) + length (behind_head t.body) = length-append (separated comma column_text t.head) (behind_head t.body) in
+    let size : length (separated comma column_text t.head ++ after_head t.body) ≡ length (separated comma column_text t.head) + length (after_head t.body) = length-append (separated comma column_text t.head) (after_head t.body) in
     let rest : length (formula_text t.body ++ ends_query) ≡ length (formula_text t.body) + length ends_query = length-append (formula_text t.body) ends_query in
     omega (arith, size, rest)
 
@@ -404,7 +404,7 @@ body_short t =
 head_named : {l : Language} (bytes : List ℕ) (t : WrittenQuery l) → Spells (query_text t) (tokens bytes) → AreNamed (map column_of t.head)
 head_named bytes t spelled =
     let columns : List Part = separated comma column_text t.head in
-    columns_named t.head (all_front NamedPart columns (behind_head t.body) (all_tail NamedPart (any (symbol_token OpenBrace)) (columns ++ behind_head t.body) (spelled_named bytes (query_text t) spelled)))
+    columns_named t.head (all_front NamedPart columns (after_head t.body) (all_tail NamedPart (any (symbol_token OpenBrace)) (columns ++ after_head t.body) (spelled_named bytes (query_text t) spelled)))
 
 -- the query that a written one means
 lawful_tree : {l : Language} → (TakesWide l → ⊥) → (bytes : List ℕ) (t : WrittenQuery l) → length bytes ≤ 16777216 → Spells (query_text t) (tokens bytes) → FitsSizes t.body → FitsDepth t.body 64 → IsLawful (raw_question t)

@@ -23,9 +23,9 @@ use Rattle.lrp_model.specs.Queries.{WrittenTerm, term_text, op_symbol, FitsTerm}
 use Rattle.lrp_text.specs.Parsers.{Parser, ParseOutcome}
 use Rattle.lrp_text.proofs.Complete.{Answers, answers_as, IsNot}
 use Rattle.lrp_text.proofs.Sound.{Sound}
-use Rattle.lrp_text.proofs.Viable.{ViableBelow, behind, fits_as}
+use Rattle.lrp_text.proofs.Viable.{ViableBelow, after_front, fits_as}
 use Rattle.lrp_text.specs.Taking.{is_name}
-use Rattle.lrp_query.specs.Rules.{Trees, cut_at, behind_name}
+use Rattle.lrp_query.specs.Rules.{Trees, cut_at, after_name}
 use Rattle.lrp_text.proofs.OffsetRule.{NoShift}
 use Rattle.lrp_query.proofs.TermRules.{written_terms}
 
@@ -182,7 +182,7 @@ module _ {F X Q : Type 0} (g : Grammar F X Q) where
 
   -- what stops as a layer stops as a formula
   pub rolled_stops : (d : ℕ) (head ts : Tokens) (e : Fault × Tokens) → Stops (λ c x. LayerTexts d c (head ++ x)) ts e → Stops (λ c x. FormulaTexts (suc d) c (head ++ x)) ts e
-  rolled_stops d head ts e s = behind (λ c x. LayerTexts d c (head ++ x)) (λ c x. FormulaTexts (suc d) c (head ++ x)) [] ts ts e refl (λ c x r. rolled d c (head ++ x) r) s
+  rolled_stops d head ts e s = after_front (λ c x. LayerTexts d c (head ++ x)) (λ c x. FormulaTexts (suc d) c (head ++ x)) [] ts ts e refl (λ c x r. rolled d c (head ++ x) r) s
 
   -- a formula is read back where its layer is
   pub back_unrolled : (d : ℕ) (o : ParseOutcome F) (w : F) (left : Tokens) → Answers o (g.roll (g.unroll w)) left (FitsLayer d (g.unroll w)) → Answers o w left (g.Fits (suc d) w)
@@ -195,8 +195,8 @@ module _ {F X Q : Type 0} (g : Grammar F X Q) where
   takes_unrolled w ts us h = subst (λ ps. Takes ps ts us) (g.text_is (g.unroll w)) (subst (λ f. Takes (g.text f) ts us) (sym (g.unrolled w)) h)
 
   -- what stands after a name that begins a formula: as in each grammar where no other name follows, and else what this one has beyond it
-  pub record BehindRules (d turns : ℕ) (behind_it : Identifier → Place → Parser F) : Type 0 where
-    pub plain : (n : Identifier) (p : Place) (us : Tokens) → IsNot is_name us → behind_it n p us ≡ behind_name false (trees g) turns n p us
-    pub back : (x : X) (us left : Tokens) → length us < turns → Takes (g.others.rest x) us left → NoShift left → Answers (behind_it (g.others.word x) (g.others.place x) us) (g.roll (other x)) left (g.others.Fits d x)
-    pub sound : (n : Identifier) (p : Place) (us : Tokens) (q : F × Tokens) → behind_it n p us ≡ Ok q → IsFormula (suc d) (record { token = name_token n; place = p } ∷ us) q
-    pub viable : (n : Identifier) (p : Place) (us : Tokens) (e : Fault × Tokens) → length us < turns → behind_it n p us ≡ Err e → Stops (λ c x. FormulaTexts (suc d) c (record { token = name_token n; place = p } ∷ x)) us e
+  pub record AfterRules (d turns : ℕ) (after_it : Identifier → Place → Parser F) : Type 0 where
+    pub plain : (n : Identifier) (p : Place) (us : Tokens) → IsNot is_name us → after_it n p us ≡ after_name false (trees g) turns n p us
+    pub back : (x : X) (us left : Tokens) → length us < turns → Takes (g.others.rest x) us left → NoShift left → Answers (after_it (g.others.word x) (g.others.place x) us) (g.roll (other x)) left (g.others.Fits d x)
+    pub sound : (n : Identifier) (p : Place) (us : Tokens) (q : F × Tokens) → after_it n p us ≡ Ok q → IsFormula (suc d) (record { token = name_token n; place = p } ∷ us) q
+    pub viable : (n : Identifier) (p : Place) (us : Tokens) (e : Fault × Tokens) → length us < turns → after_it n p us ≡ Err e → Stops (λ c x. FormulaTexts (suc d) c (record { token = name_token n; place = p } ∷ x)) us e

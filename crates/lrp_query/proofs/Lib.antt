@@ -1,7 +1,7 @@
 pub mod Shown
 pub mod Started
 pub mod WideParsers
-mod Behind
+mod After
 mod Places
 mod Parts
 mod Chains

@@ -16,7 +16,7 @@ use Rattle.lrp_query.specs.declared.starts.Start.{Start}
 use Rattle.lrp_query.specs.declared.starts.Start.TheVariants.{Not as by_not, Exists as by_exists, Forall as by_forall, Open as by_open, Name as by_name, Term as by_term}
 use Rattle.lrp_text.specs.IntegerRule.{integer}
 use Rattle.lrp_text.specs.OffsetRule.{offset}
-use Rattle.lrp_query.specs.Rules.{TermTrees, Trees, BehindName, named_term, unnamed_term, bare_term, term, op_of, point, comparing, tested, atom_terms, behind_name, named, unnamed, negated, existing, holding, implying, conjoined, disjoined, behind_first, enclosed, start_of, is_hole_token, started, formula_over, formula_with, query_with, query_over}
+use Rattle.lrp_query.specs.Rules.{TermTrees, Trees, AfterName, named_term, unnamed_term, bare_term, term, op_of, point, comparing, tested, atom_terms, after_name, named, unnamed, negated, existing, holding, implying, conjoined, disjoined, after_first, enclosed, start_of, is_hole_token, started, formula_over, formula_with, query_with, query_over}
 
 module _ {K T : Type 0} (make : TermTrees K T) where
   -- a name with or without an offset depends on its tokens and on the next one alone
@@ -78,24 +78,24 @@ module _ {K T F Q : Type 0} (make : Trees K T F Q) where
       bind_local (expect Close) _ (accept_local _) (λ u. pure_local _))
 
   -- what stands after a name depends on its tokens and on the next one alone
-  pub behind_name_local : (turns : ℕ) (n : Identifier) (p : Place) → Local (behind_name false make turns n p)
-  unfolding behind_name
-  behind_name_local turns n p =
+  pub after_name_local : (turns : ℕ) (n : Identifier) (p : Place) → Local (after_name false make turns n p)
+  unfolding after_name
+  after_name_local turns n p =
       bind_local (eat (is_symbol Open)) _ (eat_local _) (λ opens.
       if_local opens _ _ (atom_terms_local turns n p)
       (bind_local (named_term make.terms n) _ (named_term_local make.terms n) (λ k. test_local _)))
 
   -- what begins with a name depends on its tokens and on the next one alone
-  pub named_local : (behind : Identifier → Place → Parser F) → ((n : Identifier) (p : Place) → Local (behind n p)) → Local (named behind)
+  pub named_local : (after : Identifier → Place → Parser F) → ((n : Identifier) (p : Place) → Local (after n p)) → Local (named after)
   unfolding named
-  named_local behind local = bind_local name _ (accept_local _) (λ n. local n.0 n.1)
+  named_local after local = bind_local name _ (accept_local _) (λ n. local n.0 n.1)
 
   -- what begins with another term depends on its tokens and on the next one alone
   pub unnamed_local : (p : Place) → Local (unnamed false make p)
   unfolding unnamed
   unnamed_local p = bind_local (unnamed_term make.terms) _ (unnamed_term_local make.terms) (λ k. test_local _)
 
-  module _ (inner : Parser F) (local : Local inner) (behind : Identifier → Place → Parser F) (behind_local : (n : Identifier) (p : Place) → Local (behind n p)) (turns : ℕ) where
+  module _ (inner : Parser F) (local : Local inner) (after : Identifier → Place → Parser F) (after_local : (n : Identifier) (p : Place) → Local (after n p)) (turns : ℕ) where
     -- a denied formula depends on its tokens and on the next one alone
     negated_local : (p : Place) → Local (negated make inner p)
     unfolding negated
@@ -141,9 +141,9 @@ module _ {K T F Q : Type 0} (make : Trees K T F Q) where
         bind_local (expect Close) _ (accept_local _) (λ u. pure_local _))
 
     -- what stands after a first formula depends on its tokens and on the next one alone
-    behind_first_local : (p : Place) (f : F) → Local (behind_first make inner turns p f)
-    unfolding behind_first
-    behind_first_local p f =
+    after_first_local : (p : Place) (f : F) → Local (after_first make inner turns p f)
+    unfolding after_first
+    after_first_local p f =
         bind_local (eat (is_word Implies)) _ (eat_local _) (λ implies.
         if_local implies _ _ (implying_local p f)
         (bind_local (eat (is_word And)) _ (eat_local _) (λ ands.
@@ -157,19 +157,19 @@ module _ {K T F Q : Type 0} (make : Trees K T F Q) where
     unfolding enclosed
     enclosed_local p =
         bind_local (expect Open) _ (accept_local _) (λ u.
-        bind_local inner _ local (λ f. behind_first_local p f))
+        bind_local inner _ local (λ f. after_first_local p f))
 
     -- a formula that begins so depends on its tokens and on the next one alone
-    started_local : (p : Place) (s : Start) → Local (started make behind inner turns p s)
+    started_local : (p : Place) (s : Start) → Local (started make after inner turns p s)
     started_local p by_not = negated_local p
     started_local p by_exists = existing_local p
     started_local p by_forall = holding_local p
     started_local p by_open = enclosed_local p
-    started_local p by_name = named_local behind behind_local
+    started_local p by_name = named_local after after_local
     started_local p by_term = unnamed_local p
 
     -- a formula depends on its tokens and on the next one alone
-    formula_over_local : Local (formula_over make behind inner turns)
+    formula_over_local : Local (formula_over make after inner turns)
     unfolding formula_over
     formula_over_local =
         bind_local (look false (λ t. is_hole_token t.token)) _ (look_local _ _) (λ hole.
@@ -177,20 +177,20 @@ module _ {K T F Q : Type 0} (make : Trees K T F Q) where
         (bind_local here _ (look_local _ _) (λ p.
         bind_local (look by_term (λ t. start_of t.token)) _ (look_local _ _) (λ s. started_local p s))))
 
-  module _ (behind : BehindName F) (behind_local : (inner : Parser F) → Local inner → (turns : ℕ) (n : Identifier) (p : Place) → Local (behind inner turns n p)) where
+  module _ (after : AfterName F) (after_local : (inner : Parser F) → Local inner → (turns : ℕ) (n : Identifier) (p : Place) → Local (after inner turns n p)) where
     -- a formula of any depth depends on its tokens and on the next one alone
-    pub formula_local : (depth turns : ℕ) → Local (formula_with make behind depth turns)
+    pub formula_local : (depth turns : ℕ) → Local (formula_with make after depth turns)
     unfolding formula_with
     formula_local zero turns = accept_local make.cut
-    formula_local (suc depth) turns = formula_over_local (formula_with make behind depth turns) (formula_local depth turns) (behind (formula_with make behind depth turns) turns) (behind_local (formula_with make behind depth turns) (formula_local depth turns) turns) turns
+    formula_local (suc depth) turns = formula_over_local (formula_with make after depth turns) (formula_local depth turns) (after (formula_with make after depth turns) turns) (after_local (formula_with make after depth turns) (formula_local depth turns) turns) turns
 
     -- a query depends on its tokens and on the next one alone
-    pub query_local : (turns : ℕ) → Local (query_with make behind turns)
+    pub query_local : (turns : ℕ) → Local (query_with make after turns)
     unfolding query_with query_over
     query_local turns =
         bind_local (expect OpenBrace) _ (accept_local _) (λ u.
         bind_local (listed column (is_symbol Comma) (is_symbol Bar) turns) _ (listed_local _ _ _ column_local turns) (λ cs.
         bind_local (expect Bar) _ (accept_local _) (λ v.
-        bind_local (formula_with make behind 64 turns) _ (formula_local 64 turns) (λ f.
+        bind_local (formula_with make after 64 turns) _ (formula_local 64 turns) (λ f.
         bind_local (expect CloseBrace) _ (accept_local _) (λ w.
         bind_local expect_end _ (accept_local _) (λ x. pure_local _))))))

@@ -26,7 +26,7 @@ use Rattle.lrp_query.specs.declared.starts.Start.{Start}
 use Rattle.lrp_query.specs.declared.starts.Start.TheVariants.{Not as by_not, Exists as by_exists, Forall as by_forall, Open as by_open, Name as by_name, Term as by_term}
 use Rattle.lrp_text.specs.IntegerRule.{integer}
 use Rattle.lrp_text.specs.OffsetRule.{unmoved, moved_by, offset}
-use Rattle.lrp_query.specs.Rules.{Trees, BehindName, named_term, unnamed_term, bare_term, term, op_of, point, comparing, tested, atom_terms, behind_name, named, unnamed, negated, existing, holding, implying, conjoined, disjoined, behind_first, enclosed, start_of, is_hole_token, started, formula_over, formula_with, query_with, query_over}
+use Rattle.lrp_query.specs.Rules.{Trees, AfterName, named_term, unnamed_term, bare_term, term, op_of, point, comparing, tested, atom_terms, after_name, named, unnamed, negated, existing, holding, implying, conjoined, disjoined, after_first, enclosed, start_of, is_hole_token, started, formula_over, formula_with, query_with, query_over}
 use Rattle.lrp_text.proofs.IntegerRule.{integer_local}
 use Rattle.lrp_text.proofs.OffsetRule.{offset_local}
 use Rattle.lrp_query.proofs.LocalRules.{named_term_local, unnamed_term_local, bare_term_local, term_local, formula_local}
@@ -164,11 +164,11 @@ empty_first g h (Err e) (mark [] ne w clean k all) = absurd ne
 empty_first g h (Err e) (mark (c ∷ cs) ne w clean k all) = absurd cc
 
 -- a token in front of what another reader tells
-behind_token : {A : Type 0} (g h : Parser A) (t : Placed) (ts : Tokens) (o : ParseOutcome A) → is_hole_token t.token ≡ false → ((us : Tokens) → h (t ∷ us) ≡ g us) → Told false g ts o → Told true h (t ∷ ts) o
-behind_token g h t ts (Ok q) n same w = record { front = t ∷ w.front; whole = ap (λ x. t ∷ x) w.whole; clean = (n, w.clean) }
-behind_token g h t ts (Err e) n same (plain k) = plain k
-behind_token g h t ts (Err e) n same (at_hole u us d w k) = at_hole u us d w k
-behind_token g h t ts (Err e) n same (mark front ne w clean k all) = mark (t ∷ front) tt (ap (λ x. t ∷ x) w) (n, clean) k (λ b y. same (front ++ b ∷ y) ∙ all b y)
+after_token : {A : Type 0} (g h : Parser A) (t : Placed) (ts : Tokens) (o : ParseOutcome A) → is_hole_token t.token ≡ false → ((us : Tokens) → h (t ∷ us) ≡ g us) → Told false g ts o → Told true h (t ∷ ts) o
+after_token g h t ts (Ok q) n same w = record { front = t ∷ w.front; whole = ap (λ x. t ∷ x) w.whole; clean = (n, w.clean) }
+after_token g h t ts (Err e) n same (plain k) = plain k
+after_token g h t ts (Err e) n same (at_hole u us d w k) = at_hole u us d w k
+after_token g h t ts (Err e) n same (mark front ne w clean k all) = mark (t ∷ front) tt (ap (λ x. t ∷ x) w) (n, clean) k (λ b y. same (front ++ b ∷ y) ∙ all b y)
 
 -- what the test of a token tells: it takes no hole, and has a fault of the token alone
 abbrev pub LeafAt : {A : Type 0} → Token → Result A Fault → Type 0
@@ -178,7 +178,7 @@ LeafAt k (Err j) = IsPlain j
 -- a token of a test, or its fault
 accept_at : {A B : Type 0} (test : Placed → Result A Fault) (f : A → Parser B) → ((a : A) → Tells false (f a)) → (t : Placed) (ts : Tokens) (r : Result A Fault) → test t ≡ r → LeafAt t.token r → Told true (accept test >>= f) (t ∷ ts) (and_then (taken r t ts) f)
 unfolding accept
-accept_at test f next t ts (Ok a) is l = behind_token (f a) (accept test >>= f) t ts (f a ts) l (λ us. ap (λ r. and_then (taken r t us) f) is) (next a ts)
+accept_at test f next t ts (Ok a) is l = after_token (f a) (accept test >>= f) t ts (f a ts) l (λ us. ap (λ r. and_then (taken r t us) f) is) (next a ts)
 accept_at test f next t ts (Err k) is l = plain l
 
 -- after a token of a test
@@ -190,7 +190,7 @@ accept_then test f leaf next (t ∷ ts) = accept_at test f next t ts (test t) re
 -- a token that is eaten or not
 eat_at : {B : Type 0} (test : Placed → Bool) (f : Bool → Parser B) → ((t : Placed) → test t ≡ true → is_hole_token t.token ≡ false) → Tells false (f true) → Tells true (f false) → (t : Placed) (ts : Tokens) (b : Bool) → test t ≡ b → Told true (eat test >>= f) (t ∷ ts) (and_then (eaten b t ts) f)
 unfolding eat
-eat_at test f clean some none t ts true is = behind_token (f true) (eat test >>= f) t ts (f true ts) (clean t is) (λ us. ap (λ r. and_then (eaten r t us) f) is) (some ts)
+eat_at test f clean some none t ts true is = after_token (f true) (eat test >>= f) t ts (f true ts) (clean t is) (λ us. ap (λ r. and_then (eaten r t us) f) is) (some ts)
 eat_at test f clean some none t ts false is = same_first (f false) (eat test >>= f) t ts (f false (t ∷ ts)) (λ us. ap (λ r. and_then (eaten r t us) f) is) (none (t ∷ ts))
 
 -- after a token that may be eaten
@@ -306,15 +306,15 @@ fixed_told late p ts (Ok q) a = record { front = a.front; whole = a.whole; clean
 fixed_told late p ts (Err e) a = plain a
 
 -- after it
-behind_fixed : {A B : Type 0} (p : Parser A) (f : A → Parser B) (ts : Tokens) (q : A × Tokens) → Fixed p ts q → (o : ParseOutcome B) → Told false (f q.0) q.1 o → Told false (p >>= f) ts o
-behind_fixed p f ts q a (Ok r) w = took_join ts q.1 r.1 (record { front = a.front; whole = a.whole; clean = a.clean }) w
-behind_fixed p f ts q a (Err e) (plain k) = plain k
-behind_fixed p f ts q a (Err e) (at_hole t us d w k) = at_hole t us d w k
-behind_fixed p f ts q a (Err e) (mark front ne w clean k all) = mark (a.front ++ front) tt (a.whole ∙ ap (λ x. a.front ++ x) w ∙ sym (append_assoc a.front front e.1)) (holes_join a.front front a.clean clean) k (λ b y. ap (λ x. and_then (p x) f) (append_assoc a.front front (b ∷ y)) ∙ ap (λ x. and_then x f) (a.same (front ++ b ∷ y)) ∙ all b y)
+after_fixed : {A B : Type 0} (p : Parser A) (f : A → Parser B) (ts : Tokens) (q : A × Tokens) → Fixed p ts q → (o : ParseOutcome B) → Told false (f q.0) q.1 o → Told false (p >>= f) ts o
+after_fixed p f ts q a (Ok r) w = took_join ts q.1 r.1 (record { front = a.front; whole = a.whole; clean = a.clean }) w
+after_fixed p f ts q a (Err e) (plain k) = plain k
+after_fixed p f ts q a (Err e) (at_hole t us d w k) = at_hole t us d w k
+after_fixed p f ts q a (Err e) (mark front ne w clean k all) = mark (a.front ++ front) tt (a.whole ∙ ap (λ x. a.front ++ x) w ∙ sym (append_assoc a.front front e.1)) (holes_join a.front front a.clean clean) k (λ b y. ap (λ x. and_then (p x) f) (append_assoc a.front front (b ∷ y)) ∙ ap (λ x. and_then x f) (a.same (front ++ b ∷ y)) ∙ all b y)
 
 -- the same by the outcome
 fixed_then_at : {A B : Type 0} (p : Parser A) (f : A → Parser B) (ts : Tokens) (o : ParseOutcome A) → FixedAt p ts o → ((a : A) → Tells false (f a)) → Told false (p >>= f) ts (and_then o f)
-fixed_then_at p f ts (Ok q) a next = behind_fixed p f ts q a (f q.0 q.1) (next q.0 q.1)
+fixed_then_at p f ts (Ok q) a next = after_fixed p f ts q a (f q.0 q.1) (next q.0 q.1)
 fixed_then_at p f ts (Err e) a next = plain a
 
 -- the same of all tokens
@@ -521,9 +521,9 @@ atom_terms_told turns n p =
     symbol_then Close _ (done false))
 
 -- what stands after a name
-pub behind_name_told : (turns : ℕ) (n : Identifier) (p : Place) → Tells true (behind_name false marking turns n p)
-unfolding behind_name
-behind_name_told turns n p =
+pub after_name_told : (turns : ℕ) (n : Identifier) (p : Place) → Tells true (after_name false marking turns n p)
+unfolding after_name
+after_name_told turns n p =
     eat_then (is_symbol Open) _ (symbol_clean Open) (sooner true _ (atom_terms_told turns n p))
     (bind_then true (named_term marking.terms n) _ (named_term_told n) (named_term_local marking.terms n) (λ k. test_told tt))
 
@@ -532,7 +532,7 @@ unnamed_told : (p : Place) → Tells true (unnamed false marking p)
 unfolding unnamed
 unnamed_told p = bind_then true (unnamed_term marking.terms) _ unnamed_term_told (unnamed_term_local marking.terms) (λ k. test_told tt)
 
-module _ (inner : Parser (Unit {0})) (told : Tells false inner) (local : Local inner) (behind : Identifier → Place → Parser (Unit {0})) (behind_told : (n : Identifier) (p : Place) → Tells true (behind n p)) (turns : ℕ) where
+module _ (inner : Parser (Unit {0})) (told : Tells false inner) (local : Local inner) (after : Identifier → Place → Parser (Unit {0})) (after_told : (n : Identifier) (p : Place) → Tells true (after n p)) (turns : ℕ) where
   -- a denied formula
   negated_told : (p : Place) → Tells true (negated marking inner p)
   unfolding negated
@@ -564,9 +564,9 @@ module _ (inner : Parser (Unit {0})) (told : Tells false inner) (local : Local i
   disjoined_told p f = bind_then false (separated_from inner (is_word Or) turns (f ∷ [])) _ (separated_told false inner (is_word Or) (word_clean Or) told local turns (f ∷ [])) (separated_local inner _ local turns (f ∷ [])) (λ fs. symbol_then Close _ (done false))
 
   -- what stands after a first formula
-  behind_first_told : (p : Place) (f : Unit {0}) → Tells true (behind_first marking inner turns p f)
-  unfolding behind_first
-  behind_first_told p f =
+  after_first_told : (p : Place) (f : Unit {0}) → Tells true (after_first marking inner turns p f)
+  unfolding after_first
+  after_first_told p f =
       eat_then (is_word Implies) _ (word_clean Implies) (implying_told p f)
       (eat_then (is_word And) _ (word_clean And) (conjoined_told p f)
       (eat_then (is_word Or) _ (word_clean Or) (disjoined_told p f) (symbol_then Close _ (done false))))
@@ -574,15 +574,15 @@ module _ (inner : Parser (Unit {0})) (told : Tells false inner) (local : Local i
   -- formulas in parentheses
   enclosed_told : (p : Place) → Tells true (enclosed marking inner turns p)
   unfolding enclosed
-  enclosed_told p = symbol_then Open _ (bind_then false inner _ told local (λ f. behind_first_told p f))
+  enclosed_told p = symbol_then Open _ (bind_then false inner _ told local (λ f. after_first_told p f))
 
   -- what begins with a name
-  named_told : Tells true (named behind)
+  named_told : Tells true (named after)
   unfolding named
-  named_told = name_then _ (λ n. sooner true _ (behind_told n.0 n.1))
+  named_told = name_then _ (λ n. sooner true _ (after_told n.0 n.1))
 
   -- a formula that begins so
-  started_told : (p : Place) (s : Start) → Tells true (started marking behind inner turns p s)
+  started_told : (p : Place) (s : Start) → Tells true (started marking after inner turns p s)
   started_told p by_not = negated_told p
   started_told p by_exists = existing_told p
   started_told p by_forall = holding_told p
@@ -592,44 +592,44 @@ module _ (inner : Parser (Unit {0})) (told : Tells false inner) (local : Local i
 
   -- a formula that does not begin with a hole
   abbrev body : Parser (Unit {0})
-  body = here >>= (λ p. look by_term (λ t. start_of t.token) >>= (λ s. started marking behind inner turns p s))
+  body = here >>= (λ p. look by_term (λ t. start_of t.token) >>= (λ s. started marking after inner turns p s))
 
   -- the same
   body_told : Tells true body
   body_told = look_then _ _ _ (λ p. look_then _ _ _ (λ s. started_told p s))
 
   -- a formula by its first token
-  over_at : (t : Placed) (ts : Tokens) (b : Bool) → is_hole_token t.token ≡ b → Told true (formula_over marking behind inner turns) (t ∷ ts) ((if b then fail Deep else body) (t ∷ ts))
+  over_at : (t : Placed) (ts : Tokens) (b : Bool) → is_hole_token t.token ≡ b → Told true (formula_over marking after inner turns) (t ∷ ts) ((if b then fail Deep else body) (t ∷ ts))
   unfolding formula_over look
   over_at t ts true is = at_hole t ts refl refl is
-  over_at t ts false is = same_first body (formula_over marking behind inner turns) t ts (body (t ∷ ts)) (λ us. rw is refl) (body_told (t ∷ ts))
+  over_at t ts false is = same_first body (formula_over marking after inner turns) t ts (body (t ∷ ts)) (λ us. rw is refl) (body_told (t ∷ ts))
 
   -- a formula
-  over_told : Tells true (formula_over marking behind inner turns)
+  over_told : Tells true (formula_over marking after inner turns)
   unfolding formula_over look
-  over_told [] = empty_first body (formula_over marking behind inner turns) (body []) (body_told [])
+  over_told [] = empty_first body (formula_over marking after inner turns) (body []) (body_told [])
   over_told (t ∷ ts) = over_at t ts (is_hole_token t.token) refl
 
 -- what a grammar has after a name tells so
-pub record BehindTells (behind : BehindName (Unit {0})) : Type 0 where
-  pub local : (inner : Parser (Unit {0})) → Local inner → (turns : ℕ) (n : Identifier) (p : Place) → Local (behind inner turns n p)
-  pub told : (inner : Parser (Unit {0})) → Tells false inner → Local inner → (turns : ℕ) (n : Identifier) (p : Place) → Tells true (behind inner turns n p)
+pub record AfterTells (after : AfterName (Unit {0})) : Type 0 where
+  pub local : (inner : Parser (Unit {0})) → Local inner → (turns : ℕ) (n : Identifier) (p : Place) → Local (after inner turns n p)
+  pub told : (inner : Parser (Unit {0})) → Tells false inner → Local inner → (turns : ℕ) (n : Identifier) (p : Place) → Tells true (after inner turns n p)
 
-module _ (behind : BehindName (Unit {0})) (b : BehindTells behind) where
+module _ (after : AfterName (Unit {0})) (b : AfterTells after) where
   -- a formula of any depth
-  formula_told : (depth turns : ℕ) → Tells false (formula_with marking behind depth turns)
+  formula_told : (depth turns : ℕ) → Tells false (formula_with marking after depth turns)
   unfolding formula_with accept
   formula_told zero turns [] = plain tt
   formula_told zero turns (t ∷ ts) = mark [] tt refl tt refl (λ b y. refl)
   formula_told (suc depth) turns ts =
-      let inner : Parser (Unit {0}) = formula_with marking behind depth turns in
-      let local : Local inner = formula_local marking behind b.local depth turns in
-      sooner true (formula_over marking (behind inner turns) inner turns) (over_told inner (formula_told depth turns) local (behind inner turns) (b.told inner (formula_told depth turns) local turns) turns) ts
+      let inner : Parser (Unit {0}) = formula_with marking after depth turns in
+      let local : Local inner = formula_local marking after b.local depth turns in
+      sooner true (formula_over marking (after inner turns) inner turns) (over_told inner (formula_told depth turns) local (after inner turns) (b.told inner (formula_told depth turns) local turns) turns) ts
 
   -- a query
-  pub query_told : (turns : ℕ) → Tells true (query_with marking behind turns)
+  pub query_told : (turns : ℕ) → Tells true (query_with marking after turns)
   unfolding query_with query_over
   query_told turns =
       symbol_then OpenBrace _ (sooner true _ (bind_then true (listed column (is_symbol Comma) (is_symbol Bar) turns) _ (listed_told column (is_symbol Comma) (is_symbol Bar) (symbol_clean Comma) column_told column_local turns) (listed_local column _ _ column_local turns) (λ cs.
-      symbol_then Bar _ (bind_then false (formula_with marking behind 64 turns) _ (formula_told 64 turns) (formula_local marking behind b.local 64 turns) (λ f.
+      symbol_then Bar _ (bind_then false (formula_with marking after 64 turns) _ (formula_told 64 turns) (formula_local marking after b.local 64 turns) (λ f.
       symbol_then CloseBrace _ (sooner true _ (accept_then (λ t. required (is_end t)) _ (λ t. end_leaf t.token) (λ u. done false))))))))

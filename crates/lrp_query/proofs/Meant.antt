@@ -11,14 +11,14 @@ use Rattle.lrp_model.specs.Queries.WrittenFormula.{hole}
 use Rattle.lrp_model.specs.QueryMeaning.{term_kind, raw_argument, raw_term, raw_form, raw_forms, raw_question}
 use Rattle.lrp_model.specs.RawQueries.{RawForm, raw, raw_atom, no_raws, raw_and, raw_or}
 use Rattle.lrp_text.specs.Parsers.{Parser}
-use Rattle.lrp_query.specs.Rules.{raws, behind_name, plainly, query_with, query_over}
-use Rattle.lrp_query.specs.Grammars.{meant, operators_in, behind_in, query_in}
+use Rattle.lrp_query.specs.Rules.{raws, after_name, plainly, query_with, query_over}
+use Rattle.lrp_query.specs.Grammars.{meant, operators_in, after_in, query_in}
 use Rattle.lrp_query.proofs.Layers.{trees}
 use Rattle.lrp_query.proofs.Languages.{Narrow, plain, tense, language_of, arguments, further, grammar, written_operators}
-use Rattle.lrp_query.proofs.LanguageReaders.{written_behind, reader}
-use Rattle.lrp_query.proofs.Natural.{mapped, Same, Mapping, cut_same, unmarked, behind_name_same, query_same}
-use Rattle.lrp_query.proofs.OperatorLaws.{behind_same}
-use Rattle.lrp_query.proofs.Behind.{wordless}
+use Rattle.lrp_query.proofs.LanguageReaders.{written_after, reader}
+use Rattle.lrp_query.proofs.Natural.{mapped, Same, Mapping, cut_same, unmarked, after_name_same, query_same}
+use Rattle.lrp_query.proofs.OperatorLaws.{after_same}
+use Rattle.lrp_query.proofs.After.{wordless}
 
 -- the further members as a list
 further_raws : {l : Language} (g : WrittenFormula l) (gs : List (WrittenFormula l)) → raws (map raw_form (g ∷ gs)) ≡ raw_forms (further g gs)
@@ -54,14 +54,14 @@ meaning n = record {
 }
 
 -- in first-order logic both read alike after a name, since none is the first word of an operator
-behind_meant : (inner : Parser RawForm) (turns : ℕ) (n : Identifier) (p : Place) (ts : Tokens) → Same ⊥ (trees (grammar plain)).cut raw_form (behind_name false (trees (grammar plain)) turns n p ts) (behind_in first_order inner turns n p ts)
-behind_meant inner turns n p ts =
-    subst (Same ⊥ (trees (grammar plain)).cut raw_form (behind_name false (trees (grammar plain)) turns n p ts)) (sym (wordless meant (operators_in first_order) inner turns n p ts refl)) (behind_name_same ⊥ (trees (grammar plain)) meant (meaning plain) turns n p ts)
+after_meant : (inner : Parser RawForm) (turns : ℕ) (n : Identifier) (p : Place) (ts : Tokens) → Same ⊥ (trees (grammar plain)).cut raw_form (after_name false (trees (grammar plain)) turns n p ts) (after_in first_order inner turns n p ts)
+after_meant inner turns n p ts =
+    subst (Same ⊥ (trees (grammar plain)).cut raw_form (after_name false (trees (grammar plain)) turns n p ts)) (sym (wordless meant (operators_in first_order) inner turns n p ts refl)) (after_name_same ⊥ (trees (grammar plain)) meant (meaning plain) turns n p ts)
 
 -- a query is read as the raw one that it means
-pub query_meant : (n : Narrow) (turns : ℕ) (ts : Tokens) → query_in (language_of n) turns ts ≡ mapped raw_question (query_with (trees (grammar n)) (reader n).behind turns ts)
+pub query_meant : (n : Narrow) (turns : ℕ) (ts : Tokens) → query_in (language_of n) turns ts ≡ mapped raw_question (query_with (trees (grammar n)) (reader n).after turns ts)
 unfolding query_with query_over
-query_meant plain turns ts = unmarked raw_question (query_with (trees (grammar plain)) (plainly (trees (grammar plain))) turns ts) (query_in first_order turns ts) (query_same ⊥ (trees (grammar plain)) meant (meaning plain) (plainly (trees (grammar plain))) (behind_in first_order) (λ inner other same n p q us. behind_meant other n p q us) turns ts)
+query_meant plain turns ts = unmarked raw_question (query_with (trees (grammar plain)) (plainly (trees (grammar plain))) turns ts) (query_in first_order turns ts) (query_same ⊥ (trees (grammar plain)) meant (meaning plain) (plainly (trees (grammar plain))) (after_in first_order) (λ inner other same n p q us. after_meant other n p q us) turns ts)
 query_meant tense turns ts =
-    unmarked raw_question (query_with (trees (grammar tense)) written_behind turns ts) (query_in temporal turns ts)
-    (query_same ⊥ (trees (grammar tense)) meant (meaning tense) written_behind (behind_in temporal) (λ inner other same n p i us. behind_same ⊥ (trees (grammar tense)) meant (meaning tense) written_operators (operators_in temporal) integer_of (λ k. refl) (λ i. refl) (λ word o a b f. refl) (λ word o f g. refl) inner other same n p i us) turns ts)
+    unmarked raw_question (query_with (trees (grammar tense)) written_after turns ts) (query_in temporal turns ts)
+    (query_same ⊥ (trees (grammar tense)) meant (meaning tense) written_after (after_in temporal) (λ inner other same n p i us. after_same ⊥ (trees (grammar tense)) meant (meaning tense) written_operators (operators_in temporal) integer_of (λ k. refl) (λ i. refl) (λ word o a b f. refl) (λ word o f g. refl) inner other same n p i us) turns ts)

@@ -21,7 +21,7 @@ use Rattle.lrp_query.specs.declared.starts.Start.{Start}
 use Rattle.lrp_query.specs.declared.starts.Start.TheVariants.{Not as by_not, Exists as by_exists, Forall as by_forall, Open as by_open, Name as by_name, Term as by_term}
 use Rattle.lrp_text.specs.IntegerRule.{integer}
 use Rattle.lrp_text.specs.OffsetRule.{offset}
-use Rattle.lrp_query.specs.Rules.{Trees, BehindName, cut_at, with_offset, named_term, unnamed_term, bare_term, term, op_of, point, comparing, tested, atom_terms, behind_name, named, unnamed, negated, existing, holding, implying, conjoined, disjoined, behind_first, enclosed, start_of, is_hole_token, started, formula_over, formula_with, query_with, query_over}
+use Rattle.lrp_query.specs.Rules.{Trees, AfterName, cut_at, with_offset, named_term, unnamed_term, bare_term, term, op_of, point, comparing, tested, atom_terms, after_name, named, unnamed, negated, existing, holding, implying, conjoined, disjoined, after_first, enclosed, start_of, is_hole_token, started, formula_over, formula_with, query_with, query_over}
 
 -- ---- outcomes
 
@@ -214,9 +214,9 @@ module _ {K T F Q L U G R : Type 0} (E : Type 0) (one : Trees K T F Q) (two : Tr
       leaf E one.cut (expect Close us) _ _ m.formula (λ a vs. made E one.cut m.formula (one.formulas.atom_of p n all) (two.formulas.atom_of p n (map m.term all)) vs (m.atom_is p n all)))
 
   -- what stands after a name
-  pub behind_name_same : (turns : ℕ) (n : Identifier) (p : Place) (ts : Tokens) → Same E one.cut m.formula (behind_name false one turns n p ts) (behind_name false two turns n p ts)
-  unfolding behind_name
-  behind_name_same turns n p ts =
+  pub after_name_same : (turns : ℕ) (n : Identifier) (p : Place) (ts : Tokens) → Same E one.cut m.formula (after_name false one turns n p ts) (after_name false two turns n p ts)
+  unfolding after_name
+  after_name_same turns n p ts =
       leaf E one.cut (eat (is_symbol Open) ts) _ _ m.formula (λ opens vs.
       choice E one.cut opens _ _ _ _ m.formula vs (atom_terms_same turns n p vs)
       (bind E one.cut (named_term one.terms n vs) (named_term two.terms n vs) m.kind _ _ m.formula (named_term_same n vs) (λ k ws e. kind_test_same p k ws)))
@@ -226,7 +226,7 @@ module _ {K T F Q L U G R : Type 0} (E : Type 0) (one : Trees K T F Q) (two : Tr
   unfolding unnamed
   unnamed_same p ts = bind E one.cut (unnamed_term one.terms ts) (unnamed_term two.terms ts) m.kind _ _ m.formula (unnamed_term_same ts) (λ k us e. kind_test_same p k us)
 
-  module _ (inner : Parser F) (other : Parser G) (same : (ts : Tokens) → Same E one.cut m.formula (inner ts) (other ts)) (behind : Identifier → Place → Parser F) (beyond : Identifier → Place → Parser G) (behind_same : (n : Identifier) (p : Place) (ts : Tokens) → Same E one.cut m.formula (behind n p ts) (beyond n p ts)) (turns : ℕ) where
+  module _ (inner : Parser F) (other : Parser G) (same : (ts : Tokens) → Same E one.cut m.formula (inner ts) (other ts)) (after : Identifier → Place → Parser F) (beyond : Identifier → Place → Parser G) (after_same : (n : Identifier) (p : Place) (ts : Tokens) → Same E one.cut m.formula (after n p ts) (beyond n p ts)) (turns : ℕ) where
     -- a denied formula
     negated_same : (p : Place) (ts : Tokens) → Same E one.cut m.formula (negated one inner p ts) (negated two other p ts)
     unfolding negated
@@ -276,9 +276,9 @@ module _ {K T F Q L U G R : Type 0} (E : Type 0) (one : Trees K T F Q) (two : Tr
         (subst (λ l. two.formulas.disjunction p (map m.formula l) ≡ m.formula (one.formulas.disjunction p l)) (sym s.2) (m.disjunction_is p f s.0 s.1))))
 
     -- what stands after a first formula
-    behind_first_same : (p : Place) (f : F) (ts : Tokens) → Same E one.cut m.formula (behind_first one inner turns p f ts) (behind_first two other turns p (m.formula f) ts)
-    unfolding behind_first
-    behind_first_same p f ts =
+    after_first_same : (p : Place) (f : F) (ts : Tokens) → Same E one.cut m.formula (after_first one inner turns p f ts) (after_first two other turns p (m.formula f) ts)
+    unfolding after_first
+    after_first_same p f ts =
         leaf E one.cut (eat (is_word Implies) ts) _ _ m.formula (λ implies us.
         choice E one.cut implies _ _ _ _ m.formula us (implying_same p f us)
         (leaf E one.cut (eat (is_word And) us) _ _ m.formula (λ ands vs.
@@ -292,15 +292,15 @@ module _ {K T F Q L U G R : Type 0} (E : Type 0) (one : Trees K T F Q) (two : Tr
     unfolding enclosed
     enclosed_same p ts =
         leaf E one.cut (expect Open ts) _ _ m.formula (λ a us.
-        bind E one.cut (inner us) (other us) m.formula _ _ m.formula (same us) (λ f vs e. behind_first_same p f vs))
+        bind E one.cut (inner us) (other us) m.formula _ _ m.formula (same us) (λ f vs e. after_first_same p f vs))
 
     -- what begins with a name
-    named_same : (ts : Tokens) → Same E one.cut m.formula (named behind ts) (named beyond ts)
+    named_same : (ts : Tokens) → Same E one.cut m.formula (named after ts) (named beyond ts)
     unfolding named
-    named_same ts = leaf E one.cut (name ts) _ _ m.formula (λ n us. behind_same n.0 n.1 us)
+    named_same ts = leaf E one.cut (name ts) _ _ m.formula (λ n us. after_same n.0 n.1 us)
 
     -- a formula that begins so
-    started_same : (p : Place) (s : Start) (ts : Tokens) → Same E one.cut m.formula (started one behind inner turns p s ts) (started two beyond other turns p s ts)
+    started_same : (p : Place) (s : Start) (ts : Tokens) → Same E one.cut m.formula (started one after inner turns p s ts) (started two beyond other turns p s ts)
     started_same p by_not ts = negated_same p ts
     started_same p by_exists ts = existing_same p ts
     started_same p by_forall ts = holding_same p ts
@@ -309,7 +309,7 @@ module _ {K T F Q L U G R : Type 0} (E : Type 0) (one : Trees K T F Q) (two : Tr
     started_same p by_term ts = unnamed_same p ts
 
     -- a formula
-    formula_over_same : (ts : Tokens) → Same E one.cut m.formula (formula_over one behind inner turns ts) (formula_over two beyond other turns ts)
+    formula_over_same : (ts : Tokens) → Same E one.cut m.formula (formula_over one after inner turns ts) (formula_over two beyond other turns ts)
     unfolding formula_over
     formula_over_same ts =
         leaf E one.cut (look false (λ t. is_hole_token t.token) ts) _ _ m.formula (λ hole us.
@@ -323,24 +323,24 @@ module _ {K T F Q L U G R : Type 0} (E : Type 0) (one : Trees K T F Q) (two : Tr
   cut_at_same t ts (Err k) is (inl e) = inl (ap (λ x. taken x t ts) e)
   cut_at_same t ts r is (inr e) = inr (record { allowed = e.0; token = t; rest = ts; marked = ap (λ x. taken x t ts) e.1; cause = λ k c. ap (λ x. taken x t ts) (sym is ∙ c) })
 
-  module _ (behind : BehindName F) (beyond : BehindName G)
-      (behind_same : (inner : Parser F) (other : Parser G) → ((ts : Tokens) → Same E one.cut m.formula (inner ts) (other ts)) → (turns : ℕ) (n : Identifier) (p : Place) (ts : Tokens) → Same E one.cut m.formula (behind inner turns n p ts) (beyond other turns n p ts)) where
+  module _ (after : AfterName F) (beyond : AfterName G)
+      (after_same : (inner : Parser F) (other : Parser G) → ((ts : Tokens) → Same E one.cut m.formula (inner ts) (other ts)) → (turns : ℕ) (n : Identifier) (p : Place) (ts : Tokens) → Same E one.cut m.formula (after inner turns n p ts) (beyond other turns n p ts)) where
     -- a formula of any depth
-    pub formula_same : (depth turns : ℕ) (ts : Tokens) → Same E one.cut m.formula (formula_with one behind depth turns ts) (formula_with two beyond depth turns ts)
+    pub formula_same : (depth turns : ℕ) (ts : Tokens) → Same E one.cut m.formula (formula_with one after depth turns ts) (formula_with two beyond depth turns ts)
     unfolding formula_with accept
     formula_same zero turns [] = inl refl
     formula_same zero turns (t ∷ ts) = cut_at_same t ts (one.cut t) refl (m.cut_is t)
     formula_same (suc depth) turns ts =
-        formula_over_same (formula_with one behind depth turns) (formula_with two beyond depth turns) (formula_same depth turns)
-        (behind (formula_with one behind depth turns) turns) (beyond (formula_with two beyond depth turns) turns) (behind_same (formula_with one behind depth turns) (formula_with two beyond depth turns) (formula_same depth turns) turns) turns ts
+        formula_over_same (formula_with one after depth turns) (formula_with two beyond depth turns) (formula_same depth turns)
+        (after (formula_with one after depth turns) turns) (beyond (formula_with two beyond depth turns) turns) (after_same (formula_with one after depth turns) (formula_with two beyond depth turns) (formula_same depth turns) turns) turns ts
 
     -- a query
-    pub query_same : (turns : ℕ) (ts : Tokens) → Same E one.cut m.question (query_with one behind turns ts) (query_with two beyond turns ts)
+    pub query_same : (turns : ℕ) (ts : Tokens) → Same E one.cut m.question (query_with one after turns ts) (query_with two beyond turns ts)
     unfolding query_with query_over
     query_same turns ts =
         leaf E one.cut (expect OpenBrace ts) _ _ m.question (λ a us.
         leaf E one.cut (listed column (is_symbol Comma) (is_symbol Bar) turns us) _ _ m.question (λ cs vs.
         leaf E one.cut (expect Bar vs) _ _ m.question (λ b ws.
-        bind E one.cut (formula_with one behind 64 turns ws) (formula_with two beyond 64 turns ws) m.formula _ _ m.question (formula_same 64 turns ws) (λ f xs e.
+        bind E one.cut (formula_with one after 64 turns ws) (formula_with two beyond 64 turns ws) m.formula _ _ m.question (formula_same 64 turns ws) (λ f xs e.
         leaf E one.cut (expect CloseBrace xs) _ _ m.question (λ c ys.
         leaf E one.cut (expect_end ys) _ _ m.question (λ d zs. made E one.cut m.question (one.question cs f) (two.question cs (m.formula f)) zs (m.question_is cs f)))))))

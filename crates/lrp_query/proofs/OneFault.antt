@@ -28,15 +28,15 @@ module _ (signs : Bool) (Texts : Grammatical) (bytes : List ℕ) (k l : TokenFau
   shown_kind = same_kind Texts (tokens_in signs bytes) k l r.refusal.bad s.refusal.bad r.refusal.tail s.refusal.tail r.refusal.refused s.refusal.refused
 
   -- they stand after the same tokens
-  behind_front : r.refusal.refused.front ≡ s.refusal.refused.front
-  behind_front = same_front Texts (tokens_in signs bytes) k l r.refusal.bad s.refusal.bad r.refusal.tail s.refusal.tail r.refusal.refused s.refusal.refused
+  after_front : r.refusal.refused.front ≡ s.refusal.refused.front
+  after_front = same_front Texts (tokens_in signs bytes) k l r.refusal.bad s.refusal.bad r.refusal.tail s.refusal.tail r.refusal.refused s.refusal.refused
 
   -- the second one's rank, at the token of the first
   second_rank : IsRankedIn Texts l r.refusal.refused.front r.refusal.bad.token
   second_rank =
       let P : Placed → Type 0 = λ t. IsRankedIn Texts l s.refusal.refused.front t.token in
       let Q : Tokens → Type 0 = λ f. IsRankedIn Texts l f r.refusal.bad.token in
-      subst Q (sym behind_front) (subst P (sym at_token) s.ranked)
+      subst Q (sym after_front) (subst P (sym at_token) s.ranked)
 
   -- two ranks that exclude each other
   pub ranks : (IsRankedIn Texts k r.refusal.refused.front r.refusal.bad.token → IsRankedIn Texts l r.refusal.refused.front r.refusal.bad.token → ⊥) → ⊥

@@ -16,9 +16,9 @@ use Rattle.lrp_query.specs.declared.words.Leading.TheVariants.{OfRange, OfPair}
 use Rattle.lrp_query.specs.declared.words.Opening.{Opening}
 use Rattle.lrp_query.specs.Rules.{Trees}
 use Rattle.lrp_query.specs.OperatorRules.{OperatorTrees, opening, ends, ranged, paired, operator, with_operators}
-use Rattle.lrp_query.proofs.LocalRules.{behind_name_local}
-use Rattle.lrp_query.proofs.Marks.{marking, Tells, behind_name_told, look_then, symbol_then, name_then, bind_then, sooner, choice_told, done, fail_told, IsFixed, fixed_accept, fixed_bind, fixed_pure, fixed_then, integer_fixed, symbol_leaf}
-use Rattle.lrp_query.proofs.Natural.{Same, Mapping, behind_name_same, leaf, bind, choice, made}
+use Rattle.lrp_query.proofs.LocalRules.{after_name_local}
+use Rattle.lrp_query.proofs.Marks.{marking, Tells, after_name_told, look_then, symbol_then, name_then, bind_then, sooner, choice_told, done, fail_told, IsFixed, fixed_accept, fixed_bind, fixed_pure, fixed_then, integer_fixed, symbol_leaf}
+use Rattle.lrp_query.proofs.Natural.{Same, Mapping, after_name_same, leaf, bind, choice, made}
 use Rattle.lrp_query.proofs.Readers.{forget}
 
 -- ---- local
@@ -56,9 +56,9 @@ module _ {R P N F : Type 0} (make : OperatorTrees R P N F) (inner : Parser F) (l
   operator_local p None = fail_local Syntax
 
   -- what stands after a name depends on its tokens and on the next one alone
-  pub behind_local : {K T Q : Type 0} (trees : Trees K T F Q) (turns : ℕ) (n : Identifier) (p : Place) → Local (with_operators trees make inner turns n p)
+  pub after_local : {K T Q : Type 0} (trees : Trees K T F Q) (turns : ℕ) (n : Identifier) (p : Place) → Local (with_operators trees make inner turns n p)
   unfolding with_operators
-  behind_local trees turns n p = bind_local (look false is_name) _ (look_local _ _) (λ again. if_local again _ _ (operator_local p (make.word_of n)) (behind_name_local trees turns n p))
+  after_local trees turns n p = bind_local (look false is_name) _ (look_local _ _) (λ again. if_local again _ _ (operator_local p (make.word_of n)) (after_name_local trees turns n p))
 
 -- ---- the reader that marks
 
@@ -94,9 +94,9 @@ module _ {R P : Type 0} (words : Identifier → Option (Leading R P)) (inner : P
   operator_told p (Some (OfPair word)) = paired_told word p
   operator_told p None = fail_told true
 
-  pub behind_told : (turns : ℕ) (n : Identifier) (p : Place) → Tells true (with_operators marking (marked_operators words) inner turns n p)
+  pub after_told : (turns : ℕ) (n : Identifier) (p : Place) → Tells true (with_operators marking (marked_operators words) inner turns n p)
   unfolding with_operators
-  behind_told turns n p = look_then false is_name _ (λ again. choice_told true again _ _ (operator_told p (words n)) (behind_name_told turns n p))
+  after_told turns n p = look_then false is_name _ (λ again. choice_told true again _ _ (operator_told p (words n)) (after_name_told turns n p))
 
 -- ---- one reader and another
 
@@ -142,8 +142,8 @@ module _ {K T F Q L U G S R P N M : Type 0} (E : Type 0) (one : Trees K T F Q) (
   operator_same p None ts = inl refl
 
   -- what stands after a name
-  pub behind_same : (turns : ℕ) (n : Identifier) (p : Place) (ts : Tokens) → Same E one.cut m.formula (with_operators one make inner turns n p ts) (with_operators two remake other_inner turns n p ts)
+  pub after_same : (turns : ℕ) (n : Identifier) (p : Place) (ts : Tokens) → Same E one.cut m.formula (with_operators one make inner turns n p ts) (with_operators two remake other_inner turns n p ts)
   unfolding with_operators
-  behind_same turns n p ts =
+  after_same turns n p ts =
       leaf E one.cut (look false is_name ts) _ _ m.formula (λ again us.
-      choice E one.cut again _ _ _ _ m.formula us (subst (λ o. Same E one.cut m.formula (operator make inner p (make.word_of n) us) (operator remake other_inner p o us)) (sym (words_are n)) (operator_same p (make.word_of n) us)) (behind_name_same E one two m turns n p us))
+      choice E one.cut again _ _ _ _ m.formula us (subst (λ o. Same E one.cut m.formula (operator make inner p (make.word_of n) us) (operator remake other_inner p o us)) (sym (words_are n)) (operator_same p (make.word_of n) us)) (after_name_same E one two m turns n p us))

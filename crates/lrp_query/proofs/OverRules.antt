@@ -28,8 +28,8 @@ use Rattle.lrp_text.proofs.TokenTests.{word_seen, word_required, expect_seen}
 use Rattle.lrp_text.proofs.LocatedRule.{takes_from}
 use Rattle.lrp_text.proofs.ColumnRule.{column_back}
 use Rattle.lrp_text.specs.OffsetRule.{Offset, unmoved, moved_by}
-use Rattle.lrp_query.specs.Rules.{unnamed_term, tested, unnamed, negated, existing, holding, implying, conjoined, disjoined, behind_first, enclosed, start_of, is_hole_token, started, named, behind_name, formula_over}
-use Rattle.lrp_query.proofs.Layers.{Layer, atom, compared, member, denied, all_of, any_of, implied, group, some, every, hole, other, Grammar, trees, text_of, FitsLayer, BehindRules, back_unrolled, takes_unrolled}
+use Rattle.lrp_query.specs.Rules.{unnamed_term, tested, unnamed, negated, existing, holding, implying, conjoined, disjoined, after_first, enclosed, start_of, is_hole_token, started, named, after_name, formula_over}
+use Rattle.lrp_query.proofs.Layers.{Layer, atom, compared, member, denied, all_of, any_of, implied, group, some, every, hole, other, Grammar, trees, text_of, FitsLayer, AfterRules, back_unrolled, takes_unrolled}
 use Rattle.lrp_text.proofs.OffsetRule.{NoShift, offset_text}
 use Rattle.lrp_query.proofs.TermRules.{written_terms, quoted_back, integer_term_back, term_leads, placed_text}
 use Rattle.lrp_query.proofs.Below.{separated_below}
@@ -90,23 +90,23 @@ no_name (moved_by false n) k ps ts left e h = first_is_not is_name_token (symbol
 
 -- ---- complete
 
-module _ {F X Q : Type 0} (grammar : Grammar F X Q) (inner : Parser F) (behind_it : Identifier → Place → Parser F) (d turns : ℕ) (after : BehindRules grammar d turns behind_it) (inner_back : (w : F) (ts left : Tokens) → length ts < turns → Takes (grammar.text w) ts left → NoShift left → Answers (inner ts) w left (grammar.Fits d w)) where
+module _ {F X Q : Type 0} (grammar : Grammar F X Q) (inner : Parser F) (after_it : Identifier → Place → Parser F) (d turns : ℕ) (after : AfterRules grammar d turns after_it) (inner_back : (w : F) (ts left : Tokens) → length ts < turns → Takes (grammar.text w) ts left → NoShift left → Answers (inner ts) w left (grammar.Fits d w)) where
   -- a formula is read by its first token, which is no hole
-  over_at : (t : Placed) (us : Tokens) (k : Token) (p : Place) → t.token ≡ k → t.place ≡ p → is_hole_token k ≡ false → formula_over (trees grammar) behind_it inner turns (t ∷ us) ≡ started (trees grammar) behind_it inner turns p (start_of k) (t ∷ us)
+  over_at : (t : Placed) (us : Tokens) (k : Token) (p : Place) → t.token ≡ k → t.place ≡ p → is_hole_token k ≡ false → formula_over (trees grammar) after_it inner turns (t ∷ us) ≡ started (trees grammar) after_it inner turns p (start_of k) (t ∷ us)
   unfolding formula_over look
   over_at t us k p e d h = rw (e, d, h) refl
 
   -- what is read by the first token is read
-  started_as : (t : Placed) (us : Tokens) (k : Token) (p : Place) (w : F) (left : Tokens) (L : Type 0) → t.token ≡ k → t.place ≡ p → is_hole_token k ≡ false → Answers (started (trees grammar) behind_it inner turns p (start_of k) (t ∷ us)) w left L → Answers (formula_over (trees grammar) behind_it inner turns (t ∷ us)) w left L
+  started_as : (t : Placed) (us : Tokens) (k : Token) (p : Place) (w : F) (left : Tokens) (L : Type 0) → t.token ≡ k → t.place ≡ p → is_hole_token k ≡ false → Answers (started (trees grammar) after_it inner turns p (start_of k) (t ∷ us)) w left L → Answers (formula_over (trees grammar) after_it inner turns (t ∷ us)) w left L
   started_as t us k p w left L e d h a = subst (λ o. Answers o w left L) (sym (over_at t us k p e d h)) a
 
   -- what is read after a name is read
-  named_as : (t : Placed) (us : Tokens) (n : Identifier) (p : Place) (w : F) (left : Tokens) (L : Type 0) → t.token ≡ name_token n → t.place ≡ p → Answers (behind_it n p us) w left L → Answers (formula_over (trees grammar) behind_it inner turns (t ∷ us)) w left L
+  named_as : (t : Placed) (us : Tokens) (n : Identifier) (p : Place) (w : F) (left : Tokens) (L : Type 0) → t.token ≡ name_token n → t.place ≡ p → Answers (after_it n p us) w left L → Answers (formula_over (trees grammar) after_it inner turns (t ∷ us)) w left L
   unfolding named accept
   named_as t us n p w left L e d a = started_as t us (name_token n) p w left L e d refl (rw (e, d) a)
 
   -- the same where no other name follows
-  plain_as : (t : Placed) (us : Tokens) (n : Identifier) (p : Place) (w : F) (left : Tokens) (L : Type 0) → t.token ≡ name_token n → t.place ≡ p → IsNot is_name us → Answers (behind_name false (trees grammar) turns n p us) w left L → Answers (formula_over (trees grammar) behind_it inner turns (t ∷ us)) w left L
+  plain_as : (t : Placed) (us : Tokens) (n : Identifier) (p : Place) (w : F) (left : Tokens) (L : Type 0) → t.token ≡ name_token n → t.place ≡ p → IsNot is_name us → Answers (after_name false (trees grammar) turns n p us) w left L → Answers (formula_over (trees grammar) after_it inner turns (t ∷ us)) w left L
   plain_as t us n p w left L e d alone a = named_as t us n p w left L e d (subst (λ o. Answers o w left L) (sym (after.plain n p us alone)) a)
 
   -- a denied formula is read back
@@ -190,8 +190,8 @@ module _ {F X Q : Type 0} (grammar : Grammar F X Q) (inner : Parser F) (behind_i
       (answers_then (expect Close k.0) _ tt left w left L ((accepts_back _ (any (symbol_token Close)) tt L (expect_seen Close)).reads k.0 left k.2 tt) (inl refl))
 
   -- a formula and members after `and`
-  all_of_answers : (p : Place) (f g : F) (gs : List F) (us left : Tokens) → length us < turns → Takes (any (word_token And) ∷ (separated (any (word_token And)) grammar.text (g ∷ gs) ++ any (symbol_token Close) ∷ [])) us left → Answers (behind_first (trees grammar) inner turns p f us) (grammar.roll (all_of p f g gs)) left (FitsLayer grammar d (all_of p f g gs))
-  unfolding behind_first
+  all_of_answers : (p : Place) (f g : F) (gs : List F) (us left : Tokens) → length us < turns → Takes (any (word_token And) ∷ (separated (any (word_token And)) grammar.text (g ∷ gs) ++ any (symbol_token Close) ∷ [])) us left → Answers (after_first (trees grammar) inner turns p f us) (grammar.roll (all_of p f g gs)) left (FitsLayer grammar d (all_of p f g gs))
+  unfolding after_first
   all_of_answers p f g gs us left lt h =
       let w : F = grammar.roll (all_of p f g gs) in
       let L : Type 0 = FitsLayer grammar d (all_of p f g gs) in
@@ -203,8 +203,8 @@ module _ {F X Q : Type 0} (grammar : Grammar F X Q) (inner : Parser F) (behind_i
       (answers_then (eat (is_word And) us) _ true k.0 w left L ((eat_back (is_word And) (any (word_token And)) L (word_seen And)).reads us k.0 k.1 tt) (conjoined_answers p f g gs k.0 left (omega arith) k.2))
 
   -- a formula and members after `or`
-  any_of_answers : (p : Place) (f g : F) (gs : List F) (us left : Tokens) → length us < turns → Takes (any (word_token Or) ∷ (separated (any (word_token Or)) grammar.text (g ∷ gs) ++ any (symbol_token Close) ∷ [])) us left → Answers (behind_first (trees grammar) inner turns p f us) (grammar.roll (any_of p f g gs)) left (FitsLayer grammar d (any_of p f g gs))
-  unfolding behind_first
+  any_of_answers : (p : Place) (f g : F) (gs : List F) (us left : Tokens) → length us < turns → Takes (any (word_token Or) ∷ (separated (any (word_token Or)) grammar.text (g ∷ gs) ++ any (symbol_token Close) ∷ [])) us left → Answers (after_first (trees grammar) inner turns p f us) (grammar.roll (any_of p f g gs)) left (FitsLayer grammar d (any_of p f g gs))
+  unfolding after_first
   any_of_answers p f g gs us left lt h =
       let w : F = grammar.roll (any_of p f g gs) in
       let L : Type 0 = FitsLayer grammar d (any_of p f g gs) in
@@ -217,8 +217,8 @@ module _ {F X Q : Type 0} (grammar : Grammar F X Q) (inner : Parser F) (behind_i
       (answers_then (eat (is_word Or) us) _ true k.0 w left L ((eat_back (is_word Or) (any (word_token Or)) L (word_seen Or)).reads us k.0 k.1 tt) (disjoined_answers p f g gs k.0 left (omega arith) k.2)))
 
   -- a formula alone in parentheses
-  group_back : (p : Place) (f : F) (L : Type 0) → ReadsBack (behind_first (trees grammar) inner turns p f) (any (symbol_token Close) ∷ []) (grammar.roll (group p f)) L NoShift
-  unfolding behind_first
+  group_back : (p : Place) (f : F) (L : Type 0) → ReadsBack (after_first (trees grammar) inner turns p f) (any (symbol_token Close) ∷ []) (grammar.roll (group p f)) L NoShift
+  unfolding after_first
   group_back p f L =
       bind_back _ {G = NoShift} (eat_none (is_word Implies) L)
       (bind_back _ {G = NoShift} (eat_none (is_word And) L)
@@ -229,8 +229,8 @@ module _ {F X Q : Type 0} (grammar : Grammar F X Q) (inner : Parser F) (behind_i
       (λ ts left h g. first_is_not (is_word_token Implies) (symbol_token Close) [] ts left refl h)
 
   -- a formula, `implies` and another one
-  implied_answers : (p : Place) (f g : F) (us left : Tokens) → length us < turns → Takes (any (word_token Implies) ∷ (grammar.text g ++ any (symbol_token Close) ∷ [])) us left → Answers (behind_first (trees grammar) inner turns p f us) (grammar.roll (implied p f g)) left (FitsLayer grammar d (implied p f g))
-  unfolding behind_first
+  implied_answers : (p : Place) (f g : F) (us left : Tokens) → length us < turns → Takes (any (word_token Implies) ∷ (grammar.text g ++ any (symbol_token Close) ∷ [])) us left → Answers (after_first (trees grammar) inner turns p f us) (grammar.roll (implied p f g)) left (FitsLayer grammar d (implied p f g))
+  unfolding after_first
   implied_answers p f g us left lt h =
       let L : Type 0 = FitsLayer grammar d (implied p f g) in
       let first : List Part = any (word_token Implies) ∷ [] in
@@ -239,7 +239,7 @@ module _ {F X Q : Type 0} (grammar : Grammar F X Q) (inner : Parser F) (behind_i
       answers_then (eat (is_word Implies) us) _ true k.0 (grammar.roll (implied p f g)) left L ((eat_back (is_word Implies) (any (word_token Implies)) L (word_seen Implies)).reads us k.0 k.1 tt) (implying_answers p f g k.0 left (omega arith) k.2)
 
   -- after a parenthesis and a formula
-  enclosed_answers : (p : Place) (f : F) (k : Token) (ps : List Part) (w : F) (L : Type 0) → Ends k → (L → grammar.Fits d f) → (ts left : Tokens) → length ts < turns → Takes (at p (symbol_token Open) ∷ (grammar.text f ++ any k ∷ ps)) ts left → ((us : Tokens) → length us < turns → Takes (any k ∷ ps) us left → Answers (behind_first (trees grammar) inner turns p f us) w left L) → Answers (enclosed (trees grammar) inner turns p ts) w left L
+  enclosed_answers : (p : Place) (f : F) (k : Token) (ps : List Part) (w : F) (L : Type 0) → Ends k → (L → grammar.Fits d f) → (ts left : Tokens) → length ts < turns → Takes (at p (symbol_token Open) ∷ (grammar.text f ++ any k ∷ ps)) ts left → ((us : Tokens) → length us < turns → Takes (any k ∷ ps) us left → Answers (after_first (trees grammar) inner turns p f us) w left L) → Answers (enclosed (trees grammar) inner turns p ts) w left L
   unfolding enclosed
   enclosed_answers p f k ps w L e fit ts left lt h onward =
       let first : List Part = at p (symbol_token Open) ∷ [] in
@@ -270,14 +270,14 @@ module _ {F X Q : Type 0} (grammar : Grammar F X Q) (inner : Parser F) (behind_i
       answers_then (unnamed_term written_terms ts) _ item k.0 f left L (answers_as _ item k.0 (FitsTerm item) L fit (item_back.reads ts k.0 bare.0 tt)) (back.reads k.0 left k.2 g)
 
   -- an integer at its place, by its sign
-  integer_answers : (p : Place) (negative : Bool) (n : ℕ) (ps : List Part) (f : F) (L : Type 0) → (ts left : Tokens) → Takes (from p (sign negative ++ any (number_token n) ∷ []) ++ ps) ts left → Answers (unnamed false (trees grammar) p ts) f left L → Answers (formula_over (trees grammar) behind_it inner turns ts) f left L
+  integer_answers : (p : Place) (negative : Bool) (n : ℕ) (ps : List Part) (f : F) (L : Type 0) → (ts left : Tokens) → Takes (from p (sign negative ++ any (number_token n) ∷ []) ++ ps) ts left → Answers (unnamed false (trees grammar) p ts) f left L → Answers (formula_over (trees grammar) after_it inner turns ts) f left L
   integer_answers p true n ps f L [] left h a = absurd h
   integer_answers p false n ps f L [] left h a = absurd h
   integer_answers p true n ps f L (t ∷ us) left h a = started_as t us (symbol_token Minus) p f left L h.0.0 h.0.1 refl a
   integer_answers p false n ps f L (t ∷ us) left h a = started_as t us (number_token n) p f left L h.0.0 h.0.1 refl a
 
   -- a formula that begins with a term is read back
-  side_answers : (p : Place) (item : WrittenTerm) (k : Token) (ps : List Part) (f : F) (L : Type 0) → Ends k → (L → FitsTerm item) → ReadsBack (tested false (trees grammar) (record { place = p; item = item })) (any k ∷ ps) f L NoShift → (ts left : Tokens) → Takes (placed_text (record { place = p; item = item }) ++ any k ∷ ps) ts left → NoShift left → Answers (formula_over (trees grammar) behind_it inner turns ts) f left L
+  side_answers : (p : Place) (item : WrittenTerm) (k : Token) (ps : List Part) (f : F) (L : Type 0) → Ends k → (L → FitsTerm item) → ReadsBack (tested false (trees grammar) (record { place = p; item = item })) (any k ∷ ps) f L NoShift → (ts left : Tokens) → Takes (placed_text (record { place = p; item = item }) ++ any k ∷ ps) ts left → NoShift left → Answers (formula_over (trees grammar) after_it inner turns ts) f left L
   side_answers p (variable n) k ps f L e fit back [] left h g = absurd h
   side_answers p (shifted n down j) k ps f L e fit back [] left h g = absurd h
   side_answers p (text_term s) k ps f L e fit back [] left h g = absurd h
@@ -297,7 +297,7 @@ module _ {F X Q : Type 0} (grammar : Grammar F X Q) (inner : Parser F) (behind_i
       omega (arith, long, size, less, lt)
 
   -- a layer whose formulas are read back is read back, or refused for another cause than syntax where it is not lawful
-  layer_answers : (w : Layer F X) (ts left : Tokens) → length ts < turns → Takes (text_of grammar w) ts left → NoShift left → Answers (formula_over (trees grammar) behind_it inner turns ts) (grammar.roll w) left (FitsLayer grammar d w)
+  layer_answers : (w : Layer F X) (ts left : Tokens) → length ts < turns → Takes (text_of grammar w) ts left → NoShift left → Answers (formula_over (trees grammar) after_it inner turns ts) (grammar.roll w) left (FitsLayer grammar d w)
   unfolding formula_over look
   layer_answers (compared l op r) ts left lt h g = side_answers l.place l.item (symbol_token (op_symbol op)) (placed_text r) (grammar.roll (compared l op r)) (FitsLayer grammar d (compared l op r)) (op_ends op) (λ f. f.0) (test_compared_back grammar d l op r) ts left h g
   layer_answers (member l i k) ts left lt h g = side_answers l.place l.item (word_token In) (point_text i k) (grammar.roll (member l i k)) (FitsLayer grammar d (member l i k)) (word_ends In) (λ f. f.0) (test_point_back grammar d l i k) ts left h g
@@ -329,5 +329,5 @@ module _ {F X Q : Type 0} (grammar : Grammar F X Q) (inner : Parser F) (behind_i
   layer_answers (other x) (t ∷ us) left lt h g = named_as t us (grammar.others.word x) (grammar.others.place x) (grammar.roll (other x)) left (grammar.others.Fits d x) h.0.0 h.0.1 (after.back x us left (omega arith) h.1 g)
 
   -- a formula whose inner ones are read back is read back, or refused for another cause than syntax where it is not lawful
-  pub over_answers : (w : F) (ts left : Tokens) → length ts < turns → Takes (grammar.text w) ts left → NoShift left → Answers (formula_over (trees grammar) behind_it inner turns ts) w left (grammar.Fits (suc d) w)
-  over_answers w ts left lt h g = back_unrolled grammar d (formula_over (trees grammar) behind_it inner turns ts) w left (layer_answers (grammar.unroll w) ts left lt (takes_unrolled grammar w ts left h) g)
+  pub over_answers : (w : F) (ts left : Tokens) → length ts < turns → Takes (grammar.text w) ts left → NoShift left → Answers (formula_over (trees grammar) after_it inner turns ts) w left (grammar.Fits (suc d) w)
+  over_answers w ts left lt h g = back_unrolled grammar d (formula_over (trees grammar) after_it inner turns ts) w left (layer_answers (grammar.unroll w) ts left lt (takes_unrolled grammar w ts left h) g)

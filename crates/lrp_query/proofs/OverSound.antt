@@ -15,11 +15,11 @@ use Rattle.lrp_text.proofs.Sound.{Sound, bind_ok, eat_sound, eaten_parts, takes_
 use Rattle.lrp_text.proofs.TokenTests.{word_told}
 use Rattle.lrp_text.proofs.ColumnRule.{column_sound}
 use Rattle.lrp_text.specs.IntegerRule.{integer}
-use Rattle.lrp_query.specs.Rules.{unnamed_term, unnamed, named, negated, existing, holding, implying, conjoined, disjoined, behind_first, enclosed, formula_over}
-use Rattle.lrp_query.proofs.Layers.{denied, all_of, any_of, implied, group, some, every, many_members, Grammar, trees, IsFormula, read_layer, BehindRules}
+use Rattle.lrp_query.specs.Rules.{unnamed_term, unnamed, named, negated, existing, holding, implying, conjoined, disjoined, after_first, enclosed, formula_over}
+use Rattle.lrp_query.proofs.Layers.{denied, all_of, any_of, implied, group, some, every, many_members, Grammar, trees, IsFormula, read_layer, AfterRules}
 use Rattle.lrp_query.proofs.TestRules.{symbol_sound, unnamed_sound}
 
-module _ {F X Q : Type 0} (grammar : Grammar F X Q) (inner : Parser F) (behind_it : Identifier → Place → Parser F) (d turns : ℕ) (after : BehindRules grammar d turns behind_it) (inner_sound : Sound inner grammar.text (grammar.Fits d)) where
+module _ {F X Q : Type 0} (grammar : Grammar F X Q) (inner : Parser F) (after_it : Identifier → Place → Parser F) (d turns : ℕ) (after : AfterRules grammar d turns after_it) (inner_sound : Sound inner grammar.text (grammar.Fits d)) where
   -- a parenthesis at its place
   abbrev opening : Place → Placed
   opening p = record { token = symbol_token Open; place = p }
@@ -105,7 +105,7 @@ module _ {F X Q : Type 0} (grammar : Grammar F X Q) (inner : Parser F) (behind_i
 
   -- after a parenthesis
   enclosed_sound : (p : Place) (us : Tokens) (q : F × Tokens) → enclosed (trees grammar) inner turns p (opening p ∷ us) ≡ Ok q → IsFormula grammar (suc d) (opening p ∷ us) q
-  unfolding enclosed behind_first accept
+  unfolding enclosed after_first accept
   enclosed_sound p us q e =
       let f = bind_ok (inner us) _ q e in
       let i = bind_ok (eat (is_word Implies) f.0.1) _ q f.2 in
@@ -142,7 +142,7 @@ module _ {F X Q : Type 0} (grammar : Grammar F X Q) (inner : Parser F) (behind_i
       subst (λ y. IsFormula grammar (suc d) (record { token = word_token Forall; place = p } ∷ us) y) h (read_layer grammar d (every p c.0.0 f.0.0) (record { token = word_token Forall; place = p } ∷ us) f.0.1 ((refl, refl), takes_join (column_text c.0.0) (grammar.text f.0.0) us c.0.1 f.0.1 (column_sound us c.0 c.1).0 read.0) read.1)
 
   -- a formula by its first token
-  token_sound : (k : Token) (p : Place) (us : Tokens) (q : F × Tokens) → formula_over (trees grammar) behind_it inner turns (record { token = k; place = p } ∷ us) ≡ Ok q → IsFormula grammar (suc d) (record { token = k; place = p } ∷ us) q
+  token_sound : (k : Token) (p : Place) (us : Tokens) (q : F × Tokens) → formula_over (trees grammar) after_it inner turns (record { token = k; place = p } ∷ us) ≡ Ok q → IsFormula grammar (suc d) (record { token = k; place = p } ∷ us) q
   unfolding formula_over look named accept
   token_sound hole_token p us q e = absurd cc
   token_sound (word_token Not) p us q e = negated_sound p us q e
@@ -153,7 +153,7 @@ module _ {F X Q : Type 0} (grammar : Grammar F X Q) (inner : Parser F) (behind_i
   token_sound k p us q e = unnamed_sound grammar d (record { token = k; place = p }) us q e
 
   -- a formula whose inner ones are spelled so is spelled so, and lawful
-  pub over_sound : Sound (formula_over (trees grammar) behind_it inner turns) grammar.text (grammar.Fits (suc d))
+  pub over_sound : Sound (formula_over (trees grammar) after_it inner turns) grammar.text (grammar.Fits (suc d))
   unfolding formula_over look unnamed unnamed_term integer eat accept
   over_sound [] q e = absurd cc
   over_sound (t ∷ us) q e = token_sound t.token t.place us q e

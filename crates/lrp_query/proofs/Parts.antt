@@ -17,10 +17,10 @@ use Rattle.lrp_text.specs.Taking.{is_name, expect, expect_word}
 use Rattle.lrp_text.proofs.Turns.{lifts}
 use Rattle.lrp_query.specs.declared.words.Leading.{Leading}
 use Rattle.lrp_query.specs.declared.words.Leading.TheVariants.{OfRange, OfPair}
-use Rattle.lrp_query.specs.Rules.{behind_name, closed_whole, enclosed, enclosed_whole, existing, holding, member_of, quantified}
+use Rattle.lrp_query.specs.Rules.{after_name, closed_whole, enclosed, enclosed_whole, existing, holding, member_of, quantified}
 use Rattle.lrp_query.specs.OperatorRules.{ranged_parts, paired_parts, wide_operator, with_wide_operators}
-use Rattle.lrp_query.specs.Grammars.{behind_at, enclosed_at, existing_at, formula_in, formulas_in, holding_at, meant, operators_in, part_in, whole_in, word_in}
-use Rattle.lrp_query.proofs.Behind.{operator_behind, pair_behind, paired_same, plainly_behind, range_behind, ranged_same}
+use Rattle.lrp_query.specs.Grammars.{after_at, enclosed_at, existing_at, formula_in, formulas_in, holding_at, meant, operators_in, part_in, whole_in, word_in}
+use Rattle.lrp_query.proofs.After.{operator_after, pair_after, paired_same, plainly_after, range_after, ranged_same}
 
 -- ---- any formula
 
@@ -100,27 +100,27 @@ module _ (depth turns : ℕ) (p : Place) (ts : Tokens) where
 
 module _ (depth turns : ℕ) (n : Identifier) (p : Place) (ts : Tokens) where
   -- what stands there without operators
-  pub plain_behind_at : (l : Language) → look false is_name ts ≡ Ok (false, ts) → behind_at l depth turns n p ts ≡ behind_name (is_wide l) meant turns n p ts
+  pub plain_after_at : (l : Language) → look false is_name ts ≡ Ok (false, ts) → after_at l depth turns n p ts ≡ after_name (is_wide l) meant turns n p ts
   unfolding with_wide_operators
-  plain_behind_at first_order e = plainly_behind meant (operators_in first_order) (formula_in first_order depth turns) turns n p ts e
-  plain_behind_at temporal e = plainly_behind meant (operators_in temporal) (formula_in temporal depth turns) turns n p ts e
-  plain_behind_at wide e = rw e refl
+  plain_after_at first_order e = plainly_after meant (operators_in first_order) (formula_in first_order depth turns) turns n p ts e
+  plain_after_at temporal e = plainly_after meant (operators_in temporal) (formula_in temporal depth turns) turns n p ts e
+  plain_after_at wide e = rw e refl
 
   -- an operator with an interval, one over two formulas, and none
-  pub range_behind_at : (l : Language) (word : Ranged) → look false is_name ts ≡ Ok (true, ts) → Some (OfRange word) ≡ word_in l n → behind_at l depth turns n p ts ≡ ranged_parts (operators_in l) (formula_in l depth turns) word p ts
+  pub range_after_at : (l : Language) (word : Ranged) → look false is_name ts ≡ Ok (true, ts) → Some (OfRange word) ≡ word_in l n → after_at l depth turns n p ts ≡ ranged_parts (operators_in l) (formula_in l depth turns) word p ts
   unfolding with_wide_operators
-  range_behind_at first_order word e w = range_behind meant (operators_in first_order) (formula_in first_order depth turns) turns n p ts word e w
-  range_behind_at temporal word e w = range_behind meant (operators_in temporal) (formula_in temporal depth turns) turns n p ts word e w
-  range_behind_at wide word e w = rw e (ap (λ o. wide_operator (operators_in wide) (formula_in wide depth turns) (part_in wide depth turns) p o ts) (sym w) ∙ sym (ranged_same (operators_in wide) (formula_in wide depth turns) word p ts))
+  range_after_at first_order word e w = range_after meant (operators_in first_order) (formula_in first_order depth turns) turns n p ts word e w
+  range_after_at temporal word e w = range_after meant (operators_in temporal) (formula_in temporal depth turns) turns n p ts word e w
+  range_after_at wide word e w = rw e (ap (λ o. wide_operator (operators_in wide) (formula_in wide depth turns) (part_in wide depth turns) p o ts) (sym w) ∙ sym (ranged_same (operators_in wide) (formula_in wide depth turns) word p ts))
 
-  pub pair_behind_at : (l : Language) (word : Paired) → look false is_name ts ≡ Ok (true, ts) → Some (OfPair word) ≡ word_in l n → behind_at l depth turns n p ts ≡ paired_parts (operators_in l) (part_in l depth turns) word p ts
+  pub pair_after_at : (l : Language) (word : Paired) → look false is_name ts ≡ Ok (true, ts) → Some (OfPair word) ≡ word_in l n → after_at l depth turns n p ts ≡ paired_parts (operators_in l) (part_in l depth turns) word p ts
   unfolding with_wide_operators
-  pair_behind_at first_order word e w = pair_behind meant (operators_in first_order) (formula_in first_order depth turns) turns n p ts word e w
-  pair_behind_at temporal word e w = pair_behind meant (operators_in temporal) (formula_in temporal depth turns) turns n p ts word e w
-  pair_behind_at wide word e w = rw e (ap (λ o. wide_operator (operators_in wide) (formula_in wide depth turns) (part_in wide depth turns) p o ts) (sym w) ∙ sym (paired_same (operators_in wide) (part_in wide depth turns) word p ts))
+  pair_after_at first_order word e w = pair_after meant (operators_in first_order) (formula_in first_order depth turns) turns n p ts word e w
+  pair_after_at temporal word e w = pair_after meant (operators_in temporal) (formula_in temporal depth turns) turns n p ts word e w
+  pair_after_at wide word e w = rw e (ap (λ o. wide_operator (operators_in wide) (formula_in wide depth turns) (part_in wide depth turns) p o ts) (sym w) ∙ sym (paired_same (operators_in wide) (part_in wide depth turns) word p ts))
 
-  pub none_behind_at : (l : Language) → look false is_name ts ≡ Ok (true, ts) → None ≡ word_in l n → behind_at l depth turns n p ts ≡ Err (Syntax, ts)
+  pub none_after_at : (l : Language) → look false is_name ts ≡ Ok (true, ts) → None ≡ word_in l n → after_at l depth turns n p ts ≡ Err (Syntax, ts)
   unfolding with_wide_operators
-  none_behind_at first_order e w = operator_behind meant (operators_in first_order) (formula_in first_order depth turns) turns n p ts None e w
-  none_behind_at temporal e w = operator_behind meant (operators_in temporal) (formula_in temporal depth turns) turns n p ts None e w
-  none_behind_at wide e w = rw e (ap (λ o. wide_operator (operators_in wide) (formula_in wide depth turns) (part_in wide depth turns) p o ts) (sym w))
+  none_after_at first_order e w = operator_after meant (operators_in first_order) (formula_in first_order depth turns) turns n p ts None e w
+  none_after_at temporal e w = operator_after meant (operators_in temporal) (formula_in temporal depth turns) turns n p ts None e w
+  none_after_at wide e w = rw e (ap (λ o. wide_operator (operators_in wide) (formula_in wide depth turns) (part_in wide depth turns) p o ts) (sym w))

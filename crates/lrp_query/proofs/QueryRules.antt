@@ -23,8 +23,8 @@ use Rattle.lrp_text.proofs.TokenTests.{symbol_told, symbol_seen, expect_seen, en
 use Rattle.lrp_text.proofs.ColumnRule.{column_back, column_sound, column_viable}
 use Rattle.lrp_text.proofs.Local.{Local}
 use Rattle.lrp_text.proofs.Refusal.{Rule, refused_at}
-use Rattle.lrp_query.specs.Rules.{BehindName, formula_with, query_with, query_over}
-use Rattle.lrp_query.proofs.Layers.{Grammar, trees, FormulaRules, BehindRules}
+use Rattle.lrp_query.specs.Rules.{AfterName, formula_with, query_with, query_over}
+use Rattle.lrp_query.proofs.Layers.{Grammar, trees, FormulaRules, AfterRules}
 use Rattle.lrp_query.proofs.LocalRules.{query_local}
 use Rattle.lrp_query.proofs.TestRules.{sym_part, symbol_sound, symbol_viable, symbol_at}
 use Rattle.lrp_query.proofs.OverRules.{over_answers, some_formula, some_tokens, some_spelled, some_fits}
@@ -98,12 +98,12 @@ module _ {F X Q : Type 0} (grammar : Grammar F X Q) where
   made_spelled : (cs : List RawColumn) (f : F) (x us : Tokens) → Takes (any (symbol_token OpenBrace) ∷ from_head cs f) x us → Takes (query_text (made_of cs f)) x us
   made_spelled cs f x us h = subst (λ y. Takes (any (symbol_token OpenBrace) ∷ from_head y (grammar.body (made_of cs f))) x us) (sym (grammar.head_is cs f)) (subst (λ y. Takes (any (symbol_token OpenBrace) ∷ from_head cs y) x us) (sym (grammar.body_is cs f)) h)
 
-  module _ (behind_it : BehindName F) (after : (inner : Parser F) (d turns : ℕ) → FormulaRules grammar d turns inner → BehindRules grammar d turns (behind_it inner turns)) where
+  module _ (after_it : AfterName F) (after : (inner : Parser F) (d turns : ℕ) → FormulaRules grammar d turns inner → AfterRules grammar d turns (after_it inner turns)) where
     -- ---- formulas
 
     -- the rule of formulas of this depth
     abbrev formula_rule : ℕ → ℕ → Parser F
-    formula_rule = formula_with (trees grammar) behind_it
+    formula_rule = formula_with (trees grammar) after_it
 
     -- it is complete, sound and viable
     pub formula_rules : (depth turns : ℕ) → FormulaRules grammar depth turns (formula_rule depth turns)
@@ -112,17 +112,17 @@ module _ {F X Q : Type 0} (grammar : Grammar F X Q) where
     formula_rules (suc depth) turns =
         let inner : Parser F = formula_rule depth turns in
         let rules = formula_rules depth turns in
-        let behind = after inner depth turns rules in
+        let afterwards = after inner depth turns rules in
         record {
-          back = over_answers grammar inner (behind_it inner turns) depth turns behind rules.back;
-          sound = over_sound grammar inner (behind_it inner turns) depth turns behind rules.sound;
-          viable = over_stops grammar inner (behind_it inner turns) depth turns behind rules.sound rules.viable;
+          back = over_answers grammar inner (after_it inner turns) depth turns afterwards rules.back;
+          sound = over_sound grammar inner (after_it inner turns) depth turns afterwards rules.sound;
+          viable = over_stops grammar inner (after_it inner turns) depth turns afterwards rules.sound rules.viable;
         }
 
     -- ---- complete
 
     -- a query that fewer tokens spell than the number of turns is read, or refused for another cause than syntax where it is not lawful
-    pub query_answers : (turns : ℕ) (q : Q) (ts left : Tokens) → length ts < turns → Takes (query_text q) ts left → Answers (query_with (trees grammar) behind_it turns ts) q left (grammar.FitsQuery q)
+    pub query_answers : (turns : ℕ) (q : Q) (ts left : Tokens) → length ts < turns → Takes (query_text q) ts left → Answers (query_with (trees grammar) after_it turns ts) q left (grammar.FitsQuery q)
     unfolding query_with query_over
     query_answers turns q ts left lt h =
         let L : Type 0 = grammar.FitsQuery q in
@@ -146,7 +146,7 @@ module _ {F X Q : Type 0} (grammar : Grammar F X Q) where
         (answers_then (expect_end e.0) _ tt left q left L ((accepts_back _ (any end_token) tt L end_required).reads e.0 left e.2 tt) (inl (ap (λ x. Ok (x, left)) (grammar.whole q))))))))
 
     -- the same where nothing is left
-    pub query_complete : (turns : ℕ) (q : Q) (ts : Tokens) → length ts < turns → Spells (query_text q) ts → Answers (query_with (trees grammar) behind_it turns ts) q [] (grammar.FitsQuery q)
+    pub query_complete : (turns : ℕ) (q : Q) (ts : Tokens) → length ts < turns → Spells (query_text q) ts → Answers (query_with (trees grammar) after_it turns ts) q [] (grammar.FitsQuery q)
     query_complete turns q ts lt h = query_answers turns q ts [] lt h
 
     -- ---- sound
@@ -156,7 +156,7 @@ module _ {F X Q : Type 0} (grammar : Grammar F X Q) where
     lawful cs f k = (grammar.query_fits (made_of cs f)).1 (subst (grammar.Fits 64) (sym (grammar.body_is cs f)) k)
 
     -- what is read as a query is lawful, and the tokens spell it
-    pub query_sound : (turns : ℕ) → Sound (query_with (trees grammar) behind_it turns) query_text grammar.FitsQuery
+    pub query_sound : (turns : ℕ) → Sound (query_with (trees grammar) after_it turns) query_text grammar.FitsQuery
     unfolding query_with query_over
     query_sound turns ts q h =
         let a = bind_ok (expect OpenBrace ts) _ q h in
@@ -200,7 +200,7 @@ module _ {F X Q : Type 0} (grammar : Grammar F X Q) where
     query_spelled cs f h1 h2 x one two rest = made_spelled cs f (h1 ++ (h2 ++ x)) [] (spells_join (One (sym_part OpenBrace) tt) (from_head cs f) h1 (h2 ++ x) one (spells_join (head_text cs) (from_bar f) h2 x two rest))
 
     -- the tokens before a fault of a query begin one
-    pub query_viable : (turns : ℕ) (ts : Tokens) (e : Fault × Tokens) → length ts < turns → query_with (trees grammar) behind_it turns ts ≡ Err e → Stops (TextOf query_text grammar.FitsQuery) ts e
+    pub query_viable : (turns : ℕ) (ts : Tokens) (e : Fault × Tokens) → length ts < turns → query_with (trees grammar) after_it turns ts ≡ Err e → Stops (TextOf query_text grammar.FitsQuery) ts e
     unfolding query_with query_over
     query_viable turns ts e lt h =
         let R : Bool → Tokens → Type 0 = TextOf query_text grammar.FitsQuery in
@@ -221,14 +221,14 @@ module _ {F X Q : Type 0} (grammar : Grammar F X Q) where
 
     -- ---- refused exactly where the grammar says
 
-    module _ (local : (inner : Parser F) → Local inner → (turns : ℕ) (n : Identifier) (p : Place) → Local (behind_it inner turns n p)) where
+    module _ (local : (inner : Parser F) → Local inner → (turns : ℕ) (n : Identifier) (p : Place) → Local (after_it inner turns n p)) where
       -- the rule of queries has all that a rule owes
-      query_rule : Rule (query_with (trees grammar) behind_it) query_text grammar.FitsQuery
-      query_rule = record { local = query_local (trees grammar) behind_it local; complete = query_complete; viable = query_viable }
+      query_rule : Rule (query_with (trees grammar) after_it) query_text grammar.FitsQuery
+      query_rule = record { local = query_local (trees grammar) after_it local; complete = query_complete; viable = query_viable }
 
       -- the tokens of no lawful query are refused where the grammar says, for its cause
-      pub query_refused : (ts : Tokens) (k : Fault) (bad : Placed) (tail : Tokens) → ((n : ℕ) → length ts < n → query_with (trees grammar) behind_it n ts ≡ Err (k, bad ∷ tail)) → IsRefusedAt (TextOf query_text grammar.FitsQuery) ts k bad tail
-      query_refused = refused_at (query_with (trees grammar) behind_it) query_text grammar.FitsQuery query_rule
+      pub query_refused : (ts : Tokens) (k : Fault) (bad : Placed) (tail : Tokens) → ((n : ℕ) → length ts < n → query_with (trees grammar) after_it n ts ≡ Err (k, bad ∷ tail)) → IsRefusedAt (TextOf query_text grammar.FitsQuery) ts k bad tail
+      query_refused = refused_at (query_with (trees grammar) after_it) query_text grammar.FitsQuery query_rule
 
     -- ---- one tree
 
@@ -246,4 +246,4 @@ module _ {F X Q : Type 0} (grammar : Grammar F X Q) where
     pub one_tree : (a b : Q) (ts : Tokens) → grammar.FitsQuery a → Spells (query_text a) ts → Spells (query_text b) ts → a ≡ b
     one_tree a b ts fits h k =
         let n = suc (length ts) in
-        one_answer (query_with (trees grammar) behind_it n ts) a b (grammar.FitsQuery a) (grammar.FitsQuery b) fits (query_complete n a ts (omega arith) h) (query_complete n b ts (omega arith) k)
+        one_answer (query_with (trees grammar) after_it n ts) a b (grammar.FitsQuery a) (grammar.FitsQuery b) fits (query_complete n a ts (omega arith) h) (query_complete n b ts (omega arith) k)

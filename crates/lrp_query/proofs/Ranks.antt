@@ -118,8 +118,8 @@ module _ {F X Q : Type 0} (grammar : Grammar F X Q) (reader : Reader grammar) wh
   -- ---- marks
 
   -- what one reader reads the other reads, or it marks a token
-  marked_or_same : (n : ℕ) (ts : Tokens) → Same (Unit {0}) (trees grammar).cut forget (query_with (trees grammar) reader.behind n ts) (query_with marking reader.marks n ts)
-  marked_or_same n ts = query_same (Unit {0}) (trees grammar) marking (marks_of grammar) reader.behind reader.marks reader.same n ts
+  marked_or_same : (n : ℕ) (ts : Tokens) → Same (Unit {0}) (trees grammar).cut forget (query_with (trees grammar) reader.after n ts) (query_with marking reader.marks n ts)
+  marked_or_same n ts = query_same (Unit {0}) (trees grammar) marking (marks_of grammar) reader.after reader.marks reader.same n ts
 
   -- where the reader marks a token, no hole stands before it, and it marks each token there
   record Spot (n : ℕ) (ts : Tokens) (t : Placed) (rest : Tokens) : Type 0 where
@@ -145,7 +145,7 @@ module _ {F X Q : Type 0} (grammar : Grammar F X Q) (reader : Reader grammar) wh
   no_deep n ts bad tail clean (mark front ne w c k all) = absurd cc
 
   -- the fault at a marked token that is no hole
-  cause_at : (n : ℕ) (ts : Tokens) (m : Marked (Unit {0}) (trees grammar).cut (query_with (trees grammar) reader.behind n ts) (query_with marking reader.marks n ts)) → is_hole_token m.token.token ≡ false → query_with (trees grammar) reader.behind n ts ≡ Err (too_deep m.token.token, m.token ∷ m.rest)
+  cause_at : (n : ℕ) (ts : Tokens) (m : Marked (Unit {0}) (trees grammar).cut (query_with (trees grammar) reader.after n ts) (query_with marking reader.marks n ts)) → is_hole_token m.token.token ≡ false → query_with (trees grammar) reader.after n ts ≡ Err (too_deep m.token.token, m.token ∷ m.rest)
   cause_at n ts m clean = m.cause (too_deep m.token.token) (cut_told (grammar.roll (hole m.token.place)) m.token.token clean)
 
   -- ---- where a formula is too deep
@@ -155,64 +155,64 @@ module _ {F X Q : Type 0} (grammar : Grammar F X Q) (reader : Reader grammar) wh
   hole_next n front b more q fits spelled lt marked true is = (b, more, is_hole b.token is, (q, fits, spelled))
   hole_next n front b more q fits spelled lt marked false is =
       let ts = front ++ b ∷ more in
-      let read = lawful_ok (query_with (trees grammar) reader.behind n ts) q [] (query_complete grammar reader.behind reader.rules n q ts lt spelled) fits in
+      let read = lawful_ok (query_with (trees grammar) reader.after n ts) q [] (query_complete grammar reader.after reader.rules n q ts lt spelled) fits in
       elim (marked_or_same n ts) [
         | inl s ↦ absurd (ok_or_err (query_with marking reader.marks n ts) (tt, []) (Memory, b ∷ more) (s ∙ ap (mapped forget) read) marked)
         | inr m ↦
             let same = same_fault (query_with marking reader.marks n ts) Memory Memory m.token b m.rest more m.marked marked in
             let clean : is_hole_token m.token.token ≡ false = subst (λ t. is_hole_token t.token ≡ false) (sym (parts m.token b m.rest more same.1).0) is in
-            absurd (ok_or_err (query_with (trees grammar) reader.behind n ts) (q, []) (too_deep m.token.token, m.token ∷ m.rest) read (cause_at n ts m clean))
+            absurd (ok_or_err (query_with (trees grammar) reader.after n ts) (q, []) (too_deep m.token.token, m.token ∷ m.rest) read (cause_at n ts m clean))
       ]
 
   -- so a lawful text that goes on after the tokens before a fault of depth goes on with a hole
-  hole_behind : (n : ℕ) (ts front : Tokens) (bad : Placed) (tail more : Tokens) → ts ≡ front ++ bad ∷ tail → length ts < n → length (front ++ more) < n → query_with (trees grammar) reader.behind n ts ≡ Err (Deep, bad ∷ tail) → ((b : Placed) (y : Tokens) → query_with marking reader.marks n (front ++ b ∷ y) ≡ Err (Memory, b ∷ y)) → Texts true (front ++ more) → IsTooDeepIn Texts front
-  hole_behind n ts front bad tail [] whole lt lt2 e all text =
+  hole_after : (n : ℕ) (ts front : Tokens) (bad : Placed) (tail more : Tokens) → ts ≡ front ++ bad ∷ tail → length ts < n → length (front ++ more) < n → query_with (trees grammar) reader.after n ts ≡ Err (Deep, bad ∷ tail) → ((b : Placed) (y : Tokens) → query_with marking reader.marks n (front ++ b ∷ y) ≡ Err (Memory, b ∷ y)) → Texts true (front ++ more) → IsTooDeepIn Texts front
+  hole_after n ts front bad tail [] whole lt lt2 e all text =
       let spelled : Spells (query_text grammar text.0) front = subst (Spells (query_text grammar text.0)) (append-nil front) text.2 in
       let taken : Takes (query_text grammar text.0) ts (bad ∷ tail) = subst (λ x. Takes (query_text grammar text.0) x (bad ∷ tail)) (sym whole) (takes_onto (query_text grammar text.0) front (bad ∷ tail) spelled) in
-      absurd (ok_or_err (query_with (trees grammar) reader.behind n ts) (text.0, bad ∷ tail) (Deep, bad ∷ tail) (lawful_ok (query_with (trees grammar) reader.behind n ts) text.0 (bad ∷ tail) (query_answers grammar reader.behind reader.rules n text.0 ts (bad ∷ tail) lt taken) text.1) e)
-  hole_behind n ts front bad tail (b ∷ more) whole lt lt2 e all text = hole_next n front b more text.0 text.1 text.2 lt2 (all b more) (is_hole_token b.token) refl
+      absurd (ok_or_err (query_with (trees grammar) reader.after n ts) (text.0, bad ∷ tail) (Deep, bad ∷ tail) (lawful_ok (query_with (trees grammar) reader.after n ts) text.0 (bad ∷ tail) (query_answers grammar reader.after reader.rules n text.0 ts (bad ∷ tail) lt taken) text.1) e)
+  hole_after n ts front bad tail (b ∷ more) whole lt lt2 e all text = hole_next n front b more text.0 text.1 text.2 lt2 (all b more) (is_hole_token b.token) refl
 
   -- a fault of depth stands where a formula is too deep, and at no number above the limit
-  pub deep_rank : (ts front : Tokens) (bad : Placed) (tail more : Tokens) → NoHoles ts → ts ≡ front ++ bad ∷ tail → Texts true (front ++ more) → ((n : ℕ) → length ts < n → query_with (trees grammar) reader.behind n ts ≡ Err (Deep, bad ∷ tail)) → IsTooDeepIn Texts front × (IsCause Number bad.token → ⊥)
+  pub deep_rank : (ts front : Tokens) (bad : Placed) (tail more : Tokens) → NoHoles ts → ts ≡ front ++ bad ∷ tail → Texts true (front ++ more) → ((n : ℕ) → length ts < n → query_with (trees grammar) reader.after n ts ≡ Err (Deep, bad ∷ tail)) → IsTooDeepIn Texts front × (IsCause Number bad.token → ⊥)
   deep_rank ts front bad tail more clean whole text reads =
       let n = suc (length ts + length (front ++ more)) in
-      let e : query_with (trees grammar) reader.behind n ts ≡ Err (Deep, bad ∷ tail) = reads n (omega arith) in
+      let e : query_with (trees grammar) reader.after n ts ≡ Err (Deep, bad ∷ tail) = reads n (omega arith) in
       let no_hole : is_hole_token bad.token ≡ false = clean_at front bad tail (subst NoHoles whole clean) in
       elim (marked_or_same n ts) [
         | inl s ↦ absurd (no_deep n ts bad tail no_hole (subst (Told true (query_with marking reader.marks n) ts) (s ∙ ap (mapped forget) e) (query_told reader.marks reader.tells n ts)))
         | inr m ↦
             let at = spot n ts m.token m.rest m.marked in
             let cause = cause_at n ts m (clean_at at.front m.token m.rest (subst NoHoles at.whole clean)) in
-            let same = same_fault (query_with (trees grammar) reader.behind n ts) (too_deep m.token.token) Deep m.token bad m.rest tail cause e in
+            let same = same_fault (query_with (trees grammar) reader.after n ts) (too_deep m.token.token) Deep m.token bad m.rest tail cause e in
             let token : m.token ≡ bad = (parts m.token bad m.rest tail same.1).0 in
             let fronts : at.front ≡ front = append_cancel_right at.front front (bad ∷ tail) (sym (at.whole ∙ ap (λ x. at.front ++ x) same.1) ∙ whole) in
             let all : (b : Placed) (y : Tokens) → query_with marking reader.marks n (front ++ b ∷ y) ≡ Err (Memory, b ∷ y) = λ b y. subst (λ f. query_with marking reader.marks n (f ++ b ∷ y) ≡ Err (Memory, b ∷ y)) fronts (at.all b y) in
-            (hole_behind n ts front bad tail more whole (omega arith) (omega arith) e all text, not_large bad.token (subst (λ t. too_deep t.token ≡ Deep) token same.0))
+            (hole_after n ts front bad tail more whole (omega arith) (omega arith) e all text, not_large bad.token (subst (λ t. too_deep t.token ≡ Deep) token same.0))
       ]
 
   -- where the reader marks the bad token, its fault is the one that is told there
-  at_bad : (n : ℕ) (ts : Tokens) (k : Fault) (bad : Placed) (tail : Tokens) → is_hole_token bad.token ≡ false → query_with (trees grammar) reader.behind n ts ≡ Err (k, bad ∷ tail) → query_with marking reader.marks n ts ≡ Err (Memory, bad ∷ tail) → (k ≡ Memory) ⊎ (k ≡ too_deep bad.token)
+  at_bad : (n : ℕ) (ts : Tokens) (k : Fault) (bad : Placed) (tail : Tokens) → is_hole_token bad.token ≡ false → query_with (trees grammar) reader.after n ts ≡ Err (k, bad ∷ tail) → query_with marking reader.marks n ts ≡ Err (Memory, bad ∷ tail) → (k ≡ Memory) ⊎ (k ≡ too_deep bad.token)
   at_bad n ts k bad tail clean e marked = elim (marked_or_same n ts) [
     | inl s ↦ inl (same_fault (query_with marking reader.marks n ts) k Memory bad bad tail tail (s ∙ ap (mapped forget) e) marked).0
     | inr m ↦
         let same = same_fault (query_with marking reader.marks n ts) Memory Memory m.token bad m.rest tail m.marked marked in
         let token : m.token ≡ bad = (parts m.token bad m.rest tail same.1).0 in
         let cause = cause_at n ts m (subst (λ t. is_hole_token t.token ≡ false) (sym token) clean) in
-        inr ((same_fault (query_with (trees grammar) reader.behind n ts) k (too_deep m.token.token) bad m.token tail m.rest e cause).0 ∙ ap (λ t. too_deep t.token) token)
+        inr ((same_fault (query_with (trees grammar) reader.after n ts) k (too_deep m.token.token) bad m.token tail m.rest e cause).0 ∙ ap (λ t. too_deep t.token) token)
   ]
 
   -- a mark in a lawful text stands at its first hole
-  marked_here : (n : ℕ) (ts front : Tokens) (h : Placed) (other : Tokens) (q : Q) → NoHoles front → h.token ≡ hole_token → ts ≡ front ++ h ∷ other → query_with (trees grammar) reader.behind n ts ≡ Ok (q, []) → (m : Marked (Unit {0}) (trees grammar).cut (query_with (trees grammar) reader.behind n ts) (query_with marking reader.marks n ts)) → Spot n ts m.token m.rest → (hole_there : Bool) → is_hole_token m.token.token ≡ hole_there → (b : Placed) (y : Tokens) → query_with marking reader.marks n (front ++ b ∷ y) ≡ Err (Memory, b ∷ y)
-  marked_here n ts front h other q clean is whole read m at false there b y = absurd (ok_or_err (query_with (trees grammar) reader.behind n ts) (q, []) (too_deep m.token.token, m.token ∷ m.rest) read (cause_at n ts m there))
+  marked_here : (n : ℕ) (ts front : Tokens) (h : Placed) (other : Tokens) (q : Q) → NoHoles front → h.token ≡ hole_token → ts ≡ front ++ h ∷ other → query_with (trees grammar) reader.after n ts ≡ Ok (q, []) → (m : Marked (Unit {0}) (trees grammar).cut (query_with (trees grammar) reader.after n ts) (query_with marking reader.marks n ts)) → Spot n ts m.token m.rest → (hole_there : Bool) → is_hole_token m.token.token ≡ hole_there → (b : Placed) (y : Tokens) → query_with marking reader.marks n (front ++ b ∷ y) ≡ Err (Memory, b ∷ y)
+  marked_here n ts front h other q clean is whole read m at false there b y = absurd (ok_or_err (query_with (trees grammar) reader.after n ts) (q, []) (too_deep m.token.token, m.token ∷ m.rest) read (cause_at n ts m there))
   marked_here n ts front h other q clean is whole read m at true there b y =
       let same : at.front ≡ front = same_front at.front front m.token h m.rest other at.clean clean there (hole_shows h is) (sym at.whole ∙ whole) in
       subst (λ f. query_with marking reader.marks n (f ++ b ∷ y) ≡ Err (Memory, b ∷ y)) same (at.all b y)
 
   -- after tokens that a hole may follow, each token is marked
-  marked_behind : (n : ℕ) (front : Tokens) (h : Placed) (other : Tokens) (q : Q) → NoHoles front → h.token ≡ hole_token → grammar.FitsQuery q → Spells (query_text grammar q) (front ++ h ∷ other) → length (front ++ h ∷ other) < n → (b : Placed) (y : Tokens) → query_with marking reader.marks n (front ++ b ∷ y) ≡ Err (Memory, b ∷ y)
-  marked_behind n front h other q clean is fits spelled lt b y =
+  marked_after : (n : ℕ) (front : Tokens) (h : Placed) (other : Tokens) (q : Q) → NoHoles front → h.token ≡ hole_token → grammar.FitsQuery q → Spells (query_text grammar q) (front ++ h ∷ other) → length (front ++ h ∷ other) < n → (b : Placed) (y : Tokens) → query_with marking reader.marks n (front ++ b ∷ y) ≡ Err (Memory, b ∷ y)
+  marked_after n front h other q clean is fits spelled lt b y =
       let ts = front ++ h ∷ other in
-      let read = lawful_ok (query_with (trees grammar) reader.behind n ts) q [] (query_complete grammar reader.behind reader.rules n q ts lt spelled) fits in
+      let read = lawful_ok (query_with (trees grammar) reader.after n ts) q [] (query_complete grammar reader.after reader.rules n q ts lt spelled) fits in
       elim (marked_or_same n ts) [
         | inl s ↦
             let took : Took ts [] = subst (Told true (query_with marking reader.marks n) ts) (s ∙ ap (mapped forget) read) (query_told reader.marks reader.tells n ts) in
@@ -222,11 +222,11 @@ module _ {F X Q : Type 0} (grammar : Grammar F X Q) (reader : Reader grammar) wh
       ]
 
   -- which kind is told after tokens that a hole may follow
-  pub shallow_rank : (ts front : Tokens) (k : Fault) (bad : Placed) (tail : Tokens) → NoHoles ts → ts ≡ front ++ bad ∷ tail → IsTooDeepIn Texts front → ((n : ℕ) → length ts < n → query_with (trees grammar) reader.behind n ts ≡ Err (k, bad ∷ tail)) → (k ≡ Memory) ⊎ IsDeepKind k
+  pub shallow_rank : (ts front : Tokens) (k : Fault) (bad : Placed) (tail : Tokens) → NoHoles ts → ts ≡ front ++ bad ∷ tail → IsTooDeepIn Texts front → ((n : ℕ) → length ts < n → query_with (trees grammar) reader.after n ts ≡ Err (k, bad ∷ tail)) → (k ≡ Memory) ⊎ IsDeepKind k
   shallow_rank ts front k bad tail clean whole deep reads =
       let n = suc (length ts + length (front ++ deep.0 ∷ deep.1)) in
       let free : NoHoles (front ++ bad ∷ tail) = subst NoHoles whole clean in
-      let marked : query_with marking reader.marks n ts ≡ Err (Memory, bad ∷ tail) = subst (λ x. query_with marking reader.marks n x ≡ Err (Memory, bad ∷ tail)) (sym whole) (marked_behind n front deep.0 deep.1 deep.3.0 (clean_front front (bad ∷ tail) free) deep.2 deep.3.1 deep.3.2 (omega arith) bad tail) in
+      let marked : query_with marking reader.marks n ts ≡ Err (Memory, bad ∷ tail) = subst (λ x. query_with marking reader.marks n x ≡ Err (Memory, bad ∷ tail)) (sym whole) (marked_after n front deep.0 deep.1 deep.3.0 (clean_front front (bad ∷ tail) free) deep.2 deep.3.1 deep.3.2 (omega arith) bad tail) in
       elim (at_bad n ts k bad tail (clean_at front bad tail free) (reads n (omega arith)) marked) [
         | inl e ↦ inl e
         | inr e ↦ inr (subst IsDeepKind (sym e) (deep_kind bad.token))
@@ -247,7 +247,7 @@ module _ {F X Q : Type 0} (grammar : Grammar F X Q) (reader : Reader grammar) wh
   not_period (inr d) = d
 
   -- the kind that is told has its rank
-  pub ranked : (ts front : Tokens) (k : Fault) (bad : Placed) (tail more : Tokens) → NoHoles ts → ts ≡ front ++ bad ∷ tail → Texts true (front ++ more) → IsCause k bad.token → ((n : ℕ) → length ts < n → query_with (trees grammar) reader.behind n ts ≡ Err (k, bad ∷ tail)) → IsRankedIn Texts k front bad.token
+  pub ranked : (ts front : Tokens) (k : Fault) (bad : Placed) (tail more : Tokens) → NoHoles ts → ts ≡ front ++ bad ∷ tail → Texts true (front ++ more) → IsCause k bad.token → ((n : ℕ) → length ts < n → query_with (trees grammar) reader.after n ts ≡ Err (k, bad ∷ tail)) → IsRankedIn Texts k front bad.token
   ranked ts front Deep bad tail more clean whole text cause reads = deep_rank ts front bad tail more clean whole text reads
   ranked ts front TextTooLong bad tail more clean whole text cause reads = λ d. not_long (shallow_rank ts front TextTooLong bad tail clean whole d reads)
   ranked ts front Period bad tail more clean whole text cause reads = λ d. not_period (shallow_rank ts front Period bad tail clean whole d reads)

@@ -5,10 +5,10 @@ use Rattle.lrp_model.specs.declared.tokens.Place.{Place}
 use Rattle.lrp_model.specs.Tokens.{Tokens}
 use Rattle.lrp_text.specs.Parsers.{Parser}
 use Rattle.lrp_text.proofs.Local.{Local}
-use Rattle.lrp_query.specs.Rules.{BehindName}
-use Rattle.lrp_query.proofs.Layers.{Grammar, trees, FormulaRules, BehindRules}
+use Rattle.lrp_query.specs.Rules.{AfterName}
+use Rattle.lrp_query.proofs.Layers.{Grammar, trees, FormulaRules, AfterRules}
 use Rattle.lrp_query.proofs.Natural.{Same, Mapping}
-use Rattle.lrp_query.proofs.Marks.{marking, BehindTells}
+use Rattle.lrp_query.proofs.Marks.{marking, AfterTells}
 
 -- nothing is kept
 abbrev pub forget : {A : Type 0} → A → Unit {0}
@@ -39,9 +39,9 @@ marks_of grammar = record {
 
 -- the reader of a grammar
 pub record Reader {F X Q : Type 0} (grammar : Grammar F X Q) : Type 0 where
-  pub behind : BehindName F
-  pub rules : (inner : Parser F) (d turns : ℕ) → FormulaRules grammar d turns inner → BehindRules grammar d turns (behind inner turns)
-  pub local : (inner : Parser F) → Local inner → (turns : ℕ) (n : Identifier) (p : Place) → Local (behind inner turns n p)
-  pub marks : BehindName (Unit {0})
-  pub tells : BehindTells marks
-  pub same : (inner : Parser F) (other : Parser (Unit {0})) → ((ts : Tokens) → Same (Unit {0}) (trees grammar).cut forget (inner ts) (other ts)) → (turns : ℕ) (n : Identifier) (p : Place) (ts : Tokens) → Same (Unit {0}) (trees grammar).cut forget (behind inner turns n p ts) (marks other turns n p ts)
+  pub after : AfterName F
+  pub rules : (inner : Parser F) (d turns : ℕ) → FormulaRules grammar d turns inner → AfterRules grammar d turns (after inner turns)
+  pub local : (inner : Parser F) → Local inner → (turns : ℕ) (n : Identifier) (p : Place) → Local (after inner turns n p)
+  pub marks : AfterName (Unit {0})
+  pub tells : AfterTells marks
+  pub same : (inner : Parser F) (other : Parser (Unit {0})) → ((ts : Tokens) → Same (Unit {0}) (trees grammar).cut forget (inner ts) (other ts)) → (turns : ℕ) (n : Identifier) (p : Place) (ts : Tokens) → Same (Unit {0}) (trees grammar).cut forget (after inner turns n p ts) (marks other turns n p ts)

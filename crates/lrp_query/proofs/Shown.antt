@@ -16,7 +16,7 @@ use Rattle.lrp_text.specs.Parsers.{accept, look, Reads}
 use Rattle.lrp_text.specs.declared.lexemes.Lexeme.{Lexeme}
 use Rattle.lrp_text.specs.declared.lexemes.Lexeme.TheVariants.{Name, Word, Number, LargeNumber, Text, LongText, Symbol, End, Bad}
 use Rattle.lrp_text.specs.Lexemes.{IsSaid}
-use Rattle.lrp_text.specs.Sources.{Stands, Goes}
+use Rattle.lrp_text.specs.Sources.{Stands, IsInnerToken}
 use Rattle.lrp_text.proofs.Looking.{goes, goes_shown, look_shown, accepts_next, refuses_next}
 use Rattle.lrp_query.specs.declared.starts.Start.TheVariants.{Term as by_term}
 use Rattle.lrp_query.specs.Rules.{op_of, start_of, is_hole_token, too_deep, deep_or_number, cut_at}
@@ -51,7 +51,7 @@ op_goes (Symbol s) op e = refl
 op_goes _ op e = absurd cc
 
 -- where a comparison stands, a cursor may advance
-pub op_goes_on : (ts : Tokens) (l : Lexeme) (slice : List ℕ) (place : Place) (op : Op) → Stands ts l slice place → shown_op l ≡ Ok op → Goes ts
+pub op_goes_on : (ts : Tokens) (l : Lexeme) (slice : List ℕ) (place : Place) (op : Op) → Stands ts l slice place → shown_op l ≡ Ok op → IsInnerToken ts
 op_goes_on ts l slice place op st e = goes_shown ts l slice place st (op_goes l op e)
 
 -- a comparison is taken

@@ -26,12 +26,12 @@ use Rattle.lrp_text.specs.Parsers.{Parser, ParseOutcome, and_then, ◌>>=◌, pu
 use Rattle.lrp_text.specs.Taking.{is_symbol, is_symbol_token, is_word, is_word_token, expect, expect_word, required, period, period_of, is_name_token, IsWrittenPeriod}
 use Rattle.lrp_text.proofs.Complete.{ReadsBack, back_as, IsNot, Sees, bind_back, then_back, pure_back, accept_back, accepts_back, eat_back, eat_none, first_sees_any, first_is_not, last_back, MemberBack, FollowsList, listed_back}
 use Rattle.lrp_text.proofs.Sound.{Sound, bind_ok, accept_gives, accept_sound, eat_sound, eaten_parts, takes_join, takes_front, listed_sound}
-use Rattle.lrp_text.proofs.Viable.{Viable, One, TestStops, accept_viable, bind_err, behind, before, sub_step, sub_short, eat_step, eat_short, spells_join, always, fits_as, listed_viable}
+use Rattle.lrp_text.proofs.Viable.{Viable, One, TestStops, accept_viable, bind_err, after_front, before, sub_step, sub_short, eat_step, eat_short, spells_join, always, fits_as, listed_viable}
 use Rattle.lrp_text.proofs.TokenTests.{symbol_told, symbol_seen, word_told, word_seen, word_expected, word_required, word_stops, expect_told, expect_seen, expect_stops, number_part, period_told, period_fits, period_stops, period_tells}
 use Rattle.lrp_text.proofs.LocatedRule.{Leads, from_place, takes_from}
 use Rattle.lrp_text.specs.IntegerRule.{integer}
 use Rattle.lrp_text.specs.OffsetRule.{Offset, unmoved, moved_by, offset}
-use Rattle.lrp_query.specs.Rules.{with_offset, named_term, unnamed_term, term, op_of, point, comparing, tested, atom_terms, behind_name, unnamed}
+use Rattle.lrp_query.specs.Rules.{with_offset, named_term, unnamed_term, term, op_of, point, comparing, tested, atom_terms, after_name, unnamed}
 use Rattle.lrp_text.proofs.IntegerRule.{integer_back, integer_sound, integer_viable}
 use Rattle.lrp_query.proofs.Layers.{atom, compared, member, Grammar, trees, text_of, FitsLayer, LayerTexts, IsFormula, read_layer}
 use Rattle.lrp_text.proofs.OffsetRule.{NoShift, offset_text, FitsOffset, offset_back, offset_sound, offset_viable}
@@ -248,8 +248,8 @@ module _ {F X Q : Type 0} (grammar : Grammar F X Q) (d : ℕ) where
   -- ---- what begins with a name: complete
 
   -- after a name, an offset or none, and what stands after it
-  pub name_test_back : (turns : ℕ) (p : Place) (n : Identifier) (o : Offset) (k : Token) (ps : List Part) (f : F) (L : Type 0) → Ends k → (L → FitsOffset o) → ReadsBack (tested false (trees grammar) (record { place = p; item = with_offset n o })) (any k ∷ ps) f L NoShift → ReadsBack (behind_name false (trees grammar) turns n p) (offset_text o ++ any k ∷ ps) f L NoShift
-  unfolding behind_name named_term
+  pub name_test_back : (turns : ℕ) (p : Place) (n : Identifier) (o : Offset) (k : Token) (ps : List Part) (f : F) (L : Type 0) → Ends k → (L → FitsOffset o) → ReadsBack (tested false (trees grammar) (record { place = p; item = with_offset n o })) (any k ∷ ps) f L NoShift → ReadsBack (after_name false (trees grammar) turns n p) (offset_text o ++ any k ∷ ps) f L NoShift
+  unfolding after_name named_term
   name_test_back turns p n o k ps f L ends fit back =
       bind_back _ {G = NoShift} (eat_none (is_symbol Open) L)
       (bind_back _ {F = NoShift} (last_back offset (λ x. with_offset n x) (offset_text o) o L NoShift (back_as (FitsOffset o) L fit (offset_back o))) back (λ ts left h g. ends_shift k ps ts left ends h))
@@ -265,8 +265,8 @@ module _ {F X Q : Type 0} (grammar : Grammar F X Q) (d : ℕ) where
       (λ us left h g. closes [] us left h)
 
   -- after a name, the terms of an atom in parentheses are read back
-  pub name_atom_back : (turns : ℕ) (p : Place) (n : Identifier) (ts : List (Located WrittenTerm)) → length ts ≤ turns → ReadsBack (behind_name false (trees grammar) turns n p) (any (symbol_token Open) ∷ (separated comma placed_text ts ++ any (symbol_token Close) ∷ [])) (grammar.roll (atom p n ts)) (FitsLayer grammar d (atom p n ts)) NoShift
-  unfolding behind_name
+  pub name_atom_back : (turns : ℕ) (p : Place) (n : Identifier) (ts : List (Located WrittenTerm)) → length ts ≤ turns → ReadsBack (after_name false (trees grammar) turns n p) (any (symbol_token Open) ∷ (separated comma placed_text ts ++ any (symbol_token Close) ∷ [])) (grammar.roll (atom p n ts)) (FitsLayer grammar d (atom p n ts)) NoShift
+  unfolding after_name
   name_atom_back turns p n ts few = then_back _ (eat_back (is_symbol Open) (any (symbol_token Open)) (FitsLayer grammar d (atom p n ts)) (symbol_seen Open)) (atom_terms_back turns p n ts few)
 
   -- ---- sound
@@ -339,9 +339,9 @@ module _ {F X Q : Type 0} (grammar : Grammar F X Q) (d : ℕ) where
       test_sound left ts o.0.1 q named_left (with_offset_fits n o.0.0 read.1) (subst R (sym h) k.2)
 
   -- what is read after a name is spelled so with it, and lawful
-  pub behind_name_sound : (turns : ℕ) (n : Identifier) (p : Place) (us : Tokens) (q : F × Tokens) → behind_name false (trees grammar) turns n p us ≡ Ok q → IsFormula grammar (suc d) (name_at n p ∷ us) q
-  unfolding behind_name
-  behind_name_sound turns n p us q e =
+  pub after_name_is_sound : (turns : ℕ) (n : Identifier) (p : Place) (us : Tokens) (q : F × Tokens) → after_name false (trees grammar) turns n p us ≡ Ok q → IsFormula grammar (suc d) (name_at n p ∷ us) q
+  unfolding after_name
+  after_name_is_sound turns n p us q e =
       let o = bind_ok (eat (is_symbol Open) us) _ q e in
       after_name_sound turns n p o.0.0 (name_at n p ∷ us) us o.0.1 q ((refl, refl), refl) (eat_sound (is_symbol Open) (any (symbol_token Open)) (symbol_told Open) us o.0 o.1) o.2
 
@@ -410,9 +410,9 @@ module _ {F X Q : Type 0} (grammar : Grammar F X Q) (d : ℕ) where
       (λ u h2 ws s2 f2 d2. absurd cc))
 
   -- the tokens before a fault after a name begin a formula with it
-  pub behind_name_stops : (turns : ℕ) (n : Identifier) (p : Place) (us : Tokens) (e : Fault × Tokens) → length us < turns → behind_name false (trees grammar) turns n p us ≡ Err e → Stops (λ c x. LayerTexts grammar d c (name_at n p ∷ x)) us e
-  unfolding behind_name named_term
-  behind_name_stops turns n p us e lt h =
+  pub after_name_stops : (turns : ℕ) (n : Identifier) (p : Place) (us : Tokens) (e : Fault × Tokens) → length us < turns → after_name false (trees grammar) turns n p us ≡ Err e → Stops (λ c x. LayerTexts grammar d c (name_at n p ∷ x)) us e
+  unfolding after_name named_term
+  after_name_stops turns n p us e lt h =
       let head : Tokens = name_at n p ∷ [] in
       let R : Bool → Tokens → Type 0 = λ c x. LayerTexts grammar d c (name_at n p ∷ x) in
       let named : Spells (at p (name_token n) ∷ []) head = ((refl, refl), refl) in
@@ -448,5 +448,5 @@ module _ {F X Q : Type 0} (grammar : Grammar F X Q) (d : ℕ) where
         let read = unnamed_term_sound (t ∷ us) k.0 k.1 in
         let l : Located WrittenTerm = record { place = t.place; item = k.0.0 } in
         let front = takes_front (placed_text l) (t ∷ us) k.0.1 (from_place t.place (term_text k.0.0) t us k.0.1 (term_leads k.0.0) refl read.0) in
-        behind (λ c x. LayerTexts grammar d c (front.head ++ x)) (LayerTexts grammar d) front.head (t ∷ us) k.0.1 e front.whole (λ c x r. r) (test_stops l front.head k.0.1 e front.spelled read.1 k.2)
+        after_front (λ c x. LayerTexts grammar d c (front.head ++ x)) (LayerTexts grammar d) front.head (t ∷ us) k.0.1 e front.whole (λ c x r. r) (test_stops l front.head k.0.1 e front.spelled read.1 k.2)
   ]

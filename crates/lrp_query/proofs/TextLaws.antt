@@ -76,7 +76,7 @@ module _ {F X Q : Type 0} (grammar : Grammar F X Q) where
   no_fault bytes tree Defined f t r = r
 
   -- a reader that gives what the trees mean
-  module _ (reader : Reader grammar) {R : Type 0} (h : Q → R) (read : ℕ → Parser R) (meant : (n : ℕ) (ts : Tokens) → read n ts ≡ mapped h (query_with (trees grammar) reader.behind n ts)) where
+  module _ (reader : Reader grammar) {R : Type 0} (h : Q → R) (read : ℕ → Parser R) (meant : (n : ℕ) (ts : Tokens) → read n ts ≡ mapped h (query_with (trees grammar) reader.after n ts)) where
     -- what the bytes say
     abbrev pub Says : List ℕ → R → Type 0
     Says = IsTextSaying (query_text grammar) grammar.FitsQuery h
@@ -86,13 +86,13 @@ module _ {F X Q : Type 0} (grammar : Grammar F X Q) where
     query_read bytes r t =
         let ts = tokens bytes in
         let n = suc (length ts) in
-        let w = mapped_ok h (query_with (trees grammar) reader.behind n ts) r [] (sym (meant n ts) ∙ t.reads n (omega arith)) in
-        let k = query_sound grammar reader.behind reader.rules n ts (w.0, []) w.1 in
+        let w = mapped_ok h (query_with (trees grammar) reader.after n ts) r [] (sym (meant n ts) ∙ t.reads n (omega arith)) in
+        let k = query_sound grammar reader.after reader.rules n ts (w.0, []) w.1 in
         record { tree = w.0; text = record { utf8 = t.utf8; spelled = k.0; lawful = k.1 }; meant = w.2 }
 
     -- a text says one query
     pub one_said : (bytes : List ℕ) (q r : R) → Says bytes q → Says bytes r → q ≡ r
-    one_said bytes q r a b = a.meant ∙ ap h (one_tree grammar reader.behind reader.rules a.tree b.tree (tokens bytes) a.text.lawful a.text.spelled b.text.spelled) ∙ sym b.meant
+    one_said bytes q r a b = a.meant ∙ ap h (one_tree grammar reader.after reader.rules a.tree b.tree (tokens bytes) a.text.lawful a.text.spelled b.text.spelled) ∙ sym b.meant
 
     -- and has no fault of the bytes or of the grammar
     pub none_said : (bytes : List ℕ) (q : R) (f : QueryFault) → Says bytes q → IsTextFault Texts bytes f → ⊥
@@ -103,8 +103,8 @@ module _ {F X Q : Type 0} (grammar : Grammar F X Q) where
     refused_there bytes us k l slice place utf8 s reads =
         let ts = tokens bytes in
         let bad : Placed = record { token = s.token; place = place } in
-        let written_reads : (n : ℕ) → length ts < n → query_with (trees grammar) reader.behind n ts ≡ Err (k, bad ∷ s.left) = λ n lt. mapped_err h (query_with (trees grammar) reader.behind n ts) (k, bad ∷ s.left) (sym (meant n ts) ∙ reads n lt ∙ ap (λ x. Err (k, x)) s.whole) in
-        let refused = query_refused grammar reader.behind reader.rules reader.local ts k bad s.left written_reads in
+        let written_reads : (n : ℕ) → length ts < n → query_with (trees grammar) reader.after n ts ≡ Err (k, bad ∷ s.left) = λ n lt. mapped_err h (query_with (trees grammar) reader.after n ts) (k, bad ∷ s.left) (sym (meant n ts) ∙ reads n lt ∙ ap (λ x. Err (k, x)) s.whole) in
+        let refused = query_refused grammar reader.after reader.rules reader.local ts k bad s.left written_reads in
         record {
           refusal = record { utf8 = utf8; bad = bad; tail = s.left; refused = refused; place_is = refl };
           ranked = ranked grammar reader ts refused.front k bad s.left refused.more (tokens_clean false bytes) refused.whole refused.begins refused.cause written_reads;

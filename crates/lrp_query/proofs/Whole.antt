@@ -12,7 +12,7 @@ use Rattle.lrp_model.specs.Databases.{comma}
 use Rattle.lrp_model.specs.Queries.{Language, WrittenFormula, FurtherMembers, WrittenQuery, formula_text, members_text, interval_text, names_text, query_text}
 use Rattle.lrp_model.specs.Queries.WrittenFormula.{atom_formula, compared, member, denied, all_of, any_of, implied, group, some, every, ranged, paired, differing, several, bare_all, bare_any, bare_chain, chain, hole}
 use Rattle.lrp_model.specs.Queries.FurtherMembers.{last, more}
-use Rattle.lrp_text.proofs.NameTokens.{all_front, all_behind}
+use Rattle.lrp_text.proofs.NameTokens.{all_front, all_after}
 use Rattle.lrp_query.specs.Rules.{is_hole_token}
 use Rattle.lrp_query.proofs.Marks.{NoHoles}
 
@@ -61,7 +61,7 @@ module _ (P : Part → Type 0) where
   front_of = all_front P
 
   pub back_of : (xs ys : List Part) → AllByRecursion P (xs ++ ys) → AllByRecursion P ys
-  back_of = all_behind P
+  back_of = all_after P
 
 abbrev pub closing : List Part
 closing = any (symbol_token Close) ∷ []
@@ -92,8 +92,8 @@ mutual
   whole (chain t p f g fs) c =
       let further : List Part = members_text Implies fs ++ closing in
       let rest : List Part = any (word_token Implies) ∷ (formula_text g ++ further) in
-      let behind = (back_of CleanPart (formula_text f) rest c.1).1 in
-      (whole f (front_of CleanPart (formula_text f) rest c.1), whole g (front_of CleanPart (formula_text g) further behind), wholes Implies fs (front_of CleanPart (members_text Implies fs) closing (back_of CleanPart (formula_text g) further behind)))
+      let after = (back_of CleanPart (formula_text f) rest c.1).1 in
+      (whole f (front_of CleanPart (formula_text f) rest c.1), whole g (front_of CleanPart (formula_text g) further after), wholes Implies fs (front_of CleanPart (members_text Implies fs) closing (back_of CleanPart (formula_text g) further after)))
   whole (hole p) c = cc
 
   pub wholes : {l : Language} (w : Word) (fs : FurtherMembers l) → AllByRecursion CleanPart (members_text w fs) → Wholes fs
@@ -103,15 +103,15 @@ mutual
 -- ---- queries
 
 -- what stands after the head
-abbrev pub behind_head : {l : Language} → WrittenFormula l → List Part
-behind_head f = any (symbol_token Bar) ∷ (formula_text f ++ any (symbol_token CloseBrace) ∷ any end_token ∷ [])
+abbrev pub after_head : {l : Language} → WrittenFormula l → List Part
+after_head f = any (symbol_token Bar) ∷ (formula_text f ++ any (symbol_token CloseBrace) ∷ any end_token ∷ [])
 
 abbrev pub ends_query : List Part
 ends_query = any (symbol_token CloseBrace) ∷ any end_token ∷ []
 
 -- what holds of each part of a query holds of those of its body
 pub body_parts : {l : Language} (P : Part → Type 0) (t : WrittenQuery l) → AllByRecursion P (query_text t) → AllByRecursion P (formula_text t.body)
-body_parts P t h = front_of P (formula_text t.body) ends_query (back_of P (separated comma column_text t.head) (behind_head t.body) h.1).1
+body_parts P t h = front_of P (formula_text t.body) ends_query (back_of P (separated comma column_text t.head) (after_head t.body) h.1).1
 
 -- the tokens that spell the body have no holes
 pub whole_body : {l : Language} (t : WrittenQuery l) (ts : Tokens) → Takes (query_text t) ts [] → NoHoles ts → Whole t.body

@@ -34,7 +34,7 @@ use Rattle.lrp_query.proofs.Languages.{FitsAt}
 use Rattle.lrp_query.proofs.WideTold.{Cut, fixed_tells}
 use Rattle.lrp_query.proofs.WideRule.{Language, Rule, alike_rule, sooner_rule, Then, bind_rule, Made, map_rule, TokenRule, After, token_rule, Leaf, leaf_rule, Separated, Members, separated_rule}
 use Rattle.lrp_query.proofs.WideTerms.{symbol_rule, symbol_kind}
-use Rattle.lrp_query.proofs.WideWritten.{Formula, FormulaText, behind_part}
+use Rattle.lrp_query.proofs.WideWritten.{Formula, FormulaText, after_part}
 
 -- ---- names
 
@@ -88,9 +88,9 @@ names_of (n ∷ ns) l = placed n ∷ names_of ns l
 names_read : (c : Bool) (ns : List (Located Identifier)) (l : PlacedName) (ts us : Tokens) → Takes (names_parts ns l) ts us → Separated (NameText c) comma_token (names_of ns l) ts us
 names_read c [] l ts us s = (always (Unit {0}) c tt, s)
 names_read c (n ∷ []) l [] us s = absurd s
-names_read c (n ∷ []) l (t ∷ ts) us s = (ts, (always (Unit {0}) c tt, (s.0, refl)), behind_part comma_token (name_part l ∷ []) (λ ks. NameText c l ks us) ts us s.1 (λ ks h. (always (Unit {0}) c tt, h)))
+names_read c (n ∷ []) l (t ∷ ts) us s = (ts, (always (Unit {0}) c tt, (s.0, refl)), after_part comma_token (name_part l ∷ []) (λ ks. NameText c l ks us) ts us s.1 (λ ks h. (always (Unit {0}) c tt, h)))
 names_read c (n ∷ m ∷ ns) l [] us s = absurd s
-names_read c (n ∷ m ∷ ns) l (t ∷ ts) us s = (ts, (always (Unit {0}) c tt, (s.0, refl)), behind_part comma_token (names_parts (m ∷ ns) l) (λ ks. Separated (NameText c) comma_token (names_of (m ∷ ns) l) ks us) ts us s.1 (λ ks h. names_read c (m ∷ ns) l ks us h))
+names_read c (n ∷ m ∷ ns) l (t ∷ ts) us s = (ts, (always (Unit {0}) c tt, (s.0, refl)), after_part comma_token (names_parts (m ∷ ns) l) (λ ks. Separated (NameText c) comma_token (names_of (m ∷ ns) l) ks us) ts us s.1 (λ ks h. names_read c (m ∷ ns) l ks us h))
 
 -- ---- what is read
 

@@ -29,12 +29,12 @@ use Rattle.lrp_text.specs.Parsers.{ParseOutcome, Parser, ◌>>=◌, fail, accept
 use Rattle.lrp_text.specs.Taking.{here}
 use Rattle.lrp_text.proofs.Complete.{Answers}
 use Rattle.lrp_text.proofs.Sound.{accept_ok}
-use Rattle.lrp_text.proofs.Viable.{at_once, behind, always, spells_join}
+use Rattle.lrp_text.proofs.Viable.{at_once, after_front, always, spells_join}
 use Rattle.lrp_text.proofs.Local.{Local, bind_local, accept_local, look_local, fail_local, if_local}
 use Rattle.lrp_text.proofs.OffsetRule.{NoShift}
 use Rattle.lrp_query.specs.declared.starts.Start.{Start}
 use Rattle.lrp_query.specs.declared.starts.Start.TheVariants.{Term as by_term}
-use Rattle.lrp_query.specs.Rules.{member_of, whole, start_of, is_hole_token, too_deep, deep_or_number, cut_at, started_wide, wide_formula_over, wide_up_to, WideBehindName}
+use Rattle.lrp_query.specs.Rules.{member_of, whole, start_of, is_hole_token, too_deep, deep_or_number, cut_at, started_wide, wide_formula_over, wide_up_to, WideAfterName}
 use Rattle.lrp_query.specs.OperatorRules.{with_wide_operators}
 use Rattle.lrp_query.specs.Grammars.{operators_in}
 use Rattle.lrp_query.proofs.Languages.{FitsAt}
@@ -46,7 +46,7 @@ use Rattle.lrp_query.proofs.WideRule.{holes, Texts, Rule, alike_rule, sooner_rul
 use Rattle.lrp_query.proofs.WideTerms.{Begins}
 use Rattle.lrp_query.proofs.WideWritten.{Formula, FormulaText, wrote_front}
 use Rattle.lrp_query.proofs.WideLevels.{cutting}
-use Rattle.lrp_query.proofs.WideStarts.{StartText, behind_of, start_rule, Started, start_there, NotHole, start_back}
+use Rattle.lrp_query.proofs.WideStarts.{StartText, after_of, start_rule, Started, start_there, NotHole, start_back}
 
 -- ---- how formulas begin
 
@@ -297,10 +297,10 @@ cut_rule size = record {
 
 module _ (size most d : ℕ) (low : d ≤ most) (inner : Cut → ℕ → Parser RawForm) (at_zero : (c : Cut) → inner c 0 ≡ accept c) (rules : (d : ℕ) → d ≤ most → Rule size false NoShift (FormulaText d) (λ c. inner c d)) where
   abbrev over : Cut → Parser RawForm
-  over c = wide_formula_over (cutting c) (behind_of size most d low inner at_zero rules c) (inner c) d size
+  over c = wide_formula_over (cutting c) (after_of size most d low inner at_zero rules c) (inner c) d size
 
   abbrev started : Place → Start → Cut → Parser RawForm
-  started p s c = started_wide (cutting c) (behind_of size most d low inner at_zero rules c) (inner c) d size p s
+  started p s c = started_wide (cutting c) (after_of size most d low inner at_zero rules c) (inner c) d size p s
 
   abbrev body : Cut → Parser RawForm
   body c = here >>= (λ p. look by_term (λ t. start_of t.token) >>= (λ s. started p s c))
@@ -358,11 +358,11 @@ module _ (size most d : ℕ) (low : d ≤ most) (inner : Cut → ℕ → Parser 
   stops_at t ts e true is lt h =
       let k : (Deep, t ∷ ts) ≡ e = cc in
       subst (λ x. Stops (Texts (FormulaText (suc d))) (t ∷ ts) x) k (record { front = []; whole = refl; more = a_start.tokens; begins = (raw_form a_tree.tree, a_text); through = record { token = t; cause = tt; tail = ts; at = refl; more = []; begins = (raw_form (hole_tree t.place), hole_text (suc d) t is) } })
-  stops_at t ts e false is lt h = behind (Texts (StartText d t.place (start_of t.token))) (Texts (FormulaText (suc d))) [] (t ∷ ts) (t ∷ ts) e refl (some_of t.place (start_of t.token)) ((rule_of t.place (start_of t.token)).viable (t ∷ ts) e lt h)
+  stops_at t ts e false is lt h = after_front (Texts (StartText d t.place (start_of t.token))) (Texts (FormulaText (suc d))) [] (t ∷ ts) (t ∷ ts) e refl (some_of t.place (start_of t.token)) ((rule_of t.place (start_of t.token)).viable (t ∷ ts) e lt h)
 
   over_viable : (ts : Tokens) (e : Fault × Tokens) → length ts < size → over holes ts ≡ Err e → Stops (Texts (FormulaText (suc d))) ts e
   unfolding wide_formula_over look
-  over_viable [] e lt h = behind (Texts (StartText d start by_term)) (Texts (FormulaText (suc d))) [] [] [] e refl (some_of start by_term) ((rule_of start by_term).viable [] e lt h)
+  over_viable [] e lt h = after_front (Texts (StartText d start by_term)) (Texts (FormulaText (suc d))) [] [] [] e refl (some_of start by_term) ((rule_of start by_term).viable [] e lt h)
   over_viable (t ∷ ts) e lt h = stops_at t ts e (is_hole_token t.token) refl lt h
 
   over_local : (c : Cut) → Local (over c)
@@ -403,15 +403,15 @@ module _ (size most d : ℕ) (low : d ≤ most) (inner : Cut → ℕ → Parser 
 -- ---- each depth
 
 -- after a name
-abbrev pub behind_cut : Cut → WideBehindName RawForm
-behind_cut c = with_wide_operators (cutting c) (operators_in wide)
+abbrev pub after_cut : Cut → WideAfterName RawForm
+after_cut c = with_wide_operators (cutting c) (operators_in wide)
 
 -- the parsers up to a depth
 abbrev pub up_to : ℕ → ℕ → Cut → ℕ → Parser RawForm
-up_to size most c depth = wide_up_to (cutting c) (behind_cut c) size most depth
+up_to size most c depth = wide_up_to (cutting c) (after_cut c) size most depth
 
 abbrev deepest : ℕ → ℕ → Cut → Parser RawForm
-deepest size most c = wide_formula_over (cutting c) (behind_cut c (up_to size most c most) (member_of (whole (cutting c) (up_to size most c) most size)) size) (up_to size most c) most size
+deepest size most c = wide_formula_over (cutting c) (after_cut c (up_to size most c most) (member_of (whole (cutting c) (up_to size most c) most size)) size) (up_to size most c) most size
 
 pub up_to_zero : (size most : ℕ) (c : Cut) → up_to size most c 0 ≡ accept c
 unfolding wide_up_to

@@ -30,9 +30,9 @@ use Rattle.lrp_model.specs.declared.raw.RawTermKind.{RawTermKind}
 use Rattle.lrp_query.proofs.Languages.{FitsAt}
 use Rattle.lrp_query.proofs.WideTold.{Cut, Told, took, refused, cut_off, fail_tells}
 use Rattle.std.proofs.Math.Dec.{eqb-suc-zero}
-use Rattle.lrp_query.proofs.WideRule.{Language, Texts, Front, Rule, Untold, as_rule, alike_rule, below_rule, follow_rule, Nothing, pure_rule, Then, bind_with, bind_rule, Made, map_rule, KindRule, Behind, Eats, eat_rule, Members as SeparatedMembers, separated_rule}
+use Rattle.lrp_query.proofs.WideRule.{Language, Texts, Front, Rule, Untold, as_rule, alike_rule, below_rule, follow_rule, Nothing, pure_rule, Then, bind_with, bind_rule, Made, map_rule, KindRule, AfterToken, Eats, eat_rule, Members as SeparatedMembers, separated_rule}
 use Rattle.lrp_query.proofs.WideTerms.{word_kind}
-use Rattle.lrp_query.proofs.WideWritten.{Formula, Further, tight_alone, joined_form, Wrote, FormulaText, JoinedText, fit_two, fit_first, fit_second, unlawful, listed_text, members_listed, members_there, forms_of, forms_are, members_back, behind_word, ChainText}
+use Rattle.lrp_query.proofs.WideWritten.{Formula, Further, tight_alone, joined_form, Wrote, FormulaText, JoinedText, fit_two, fit_first, fit_second, unlawful, listed_text, members_listed, members_there, forms_of, forms_are, members_back, after_word, ChainText}
 
 -- the trees of the program, with any cut
 abbrev pub cutting : Cut → Trees RawTermKind RawTerm RawForm RawQuestion
@@ -109,7 +109,7 @@ module _ (n size d : ℕ) (low : n ≤ size) (inner : Cut → Parser RawForm) (o
         raw_form f,
         k.0,
         record { tree = f; tight = o.0; ordered = o.1; means = refl; fits = fit_first c d f fs (FitDepth fs d) fit; spelled = k.1 },
-        inl (behind_word And (listed_text And fs) (λ ns. Made (all_list (raw_form f)) (SeparatedMembers (FormulaText d) (word_token And) (raw_form f ∷ [])) c v ns us) k.0 us (subst (λ ps. Takes ps k.0 us) (members_listed And fs) k.2)
+        inl (after_word And (listed_text And fs) (λ ns. Made (all_list (raw_form f)) (SeparatedMembers (FormulaText d) (word_token And) (raw_form f ∷ [])) c v ns us) k.0 us (subst (λ ps. Takes ps k.0 us) (members_listed And fs) k.2)
             (λ ns h. (raw_form f ∷ forms_of fs, e ∙ ap (λ y. record { formula = raw_and (place_of (raw_form f)) (raw (raw_form f) y); bare = true }) (sym (forms_are fs)), (forms_of fs, refl, members_back And 0 d c fs ns us o.2 (fit_second c d f fs (FitDepth fs d) fit) h)))),
       )
   all_of_tree c v ts us (bare_any t f fs) tight o e fit s = absurd (omega (arith, tight))
@@ -190,7 +190,7 @@ module _ (n size d : ℕ) (low : n ≤ size) (inner : Cut → Parser RawForm) (o
         joined_form f,
         k.0,
         record { tree = f; tight = o.0; ordered = o.1; means = refl; fits = fit_first c d f fs (FitDepth fs d) fit; spelled = k.1 },
-        inl (behind_word Or (listed_text Or fs) (λ ns. Made (any_list (raw_form f)) (SeparatedMembers MemberText (word_token Or) (raw_form f ∷ [])) c v ns us) k.0 us (subst (λ ps. Takes ps k.0 us) (members_listed Or fs) k.2)
+        inl (after_word Or (listed_text Or fs) (λ ns. Made (any_list (raw_form f)) (SeparatedMembers MemberText (word_token Or) (raw_form f ∷ [])) c v ns us) k.0 us (subst (λ ps. Takes ps k.0 us) (members_listed Or fs) k.2)
             (λ ns h. (raw_form f ∷ forms_of fs, e ∙ ap (λ y. record { formula = raw_or (place_of (raw_form f)) (raw (raw_form f) y); bare = true }) (sym (forms_are fs)), (forms_of fs, refl, members_back Or 1 d c fs ns us o.2 (fit_second c d f fs (FitDepth fs d) fit) h)))),
       )
   any_of_tree c v ts us (bare_chain t f fs) tight o e fit s = absurd (omega (arith, tight))
@@ -218,7 +218,7 @@ module _ (n size d : ℕ) (low : n ≤ size) (inner : Cut → Parser RawForm) (o
 -- a formula, after which a word is refused
 module _ {V : Type 0} (size : ℕ) (F : Tokens → Type 0) (test : Placed → Bool) (k : Token) (kind : KindRule test k) (a : V) (S : V → Tokens → Tokens → Type 0) (front_of : (v : V) (ts us : Tokens) → S v ts us → Front (λ c. S) true v ts us) (value : V) (tokens : Tokens) (some_further : S value tokens []) (refuses : (left : Tokens) → F left → IsNot test left) where
   abbrev pub Stopping : Language V
-  Stopping c v ts us = Nothing a c v ts us ⊎ ((c ≡ false) × Behind k (λ ms. S v ms us) ts)
+  Stopping c v ts us = Nothing a c v ts us ⊎ ((c ≡ false) × AfterToken k (λ ms. S v ms us) ts)
 
   abbrev stopping : Bool → Parser V
   stopping further = if further then fail Deep else pure a
@@ -307,8 +307,8 @@ module _ (size : ℕ) (inner : Cut → ℕ → Parser RawForm) where
   chain_of depth n f c = chained (cutting c) (inner c) depth n f
 
   -- the rest of a chain after a member, where one may stand, and where none may
-  abbrev Goes : (RawForm → Language RawForm) → RawForm → Joined RawForm → Language RawForm
-  Goes Rest f j = Eats (word_token Implies) (Made (link f) (Rest j.formula)) (Nothing (link f j.formula))
+  abbrev GoesOn : (RawForm → Language RawForm) → RawForm → Joined RawForm → Language RawForm
+  GoesOn Rest f j = Eats (word_token Implies) (Made (link f) (Rest j.formula)) (Nothing (link f j.formula))
 
   abbrev further_of : RawForm → Joined RawForm → RawForm → Tokens → Tokens → Type 0
   further_of f j = Made (link f) (ChainText 0 j.formula) false
@@ -317,10 +317,10 @@ module _ (size : ℕ) (inner : Cut → ℕ → Parser RawForm) where
   further_front f j v ts us m = let k = chain_front 0 j.formula false m.0 ts us m.2 in record { head = k.head; whole = k.whole; again = λ x. (m.0, m.1, k.again x) }
 
   abbrev Ends : RawForm → Joined RawForm → Language RawForm
-  Ends f j c v ts us = Nothing (link f j.formula) c v ts us ⊎ ((c ≡ false) × Behind (word_token Implies) (λ ms. further_of f j v ms us) ts)
+  Ends f j c v ts us = Nothing (link f j.formula) c v ts us ⊎ ((c ≡ false) × AfterToken (word_token Implies) (λ ms. further_of f j v ms us) ts)
 
   -- where a depth is left
-  goes_there : (d : ℕ) (f : RawForm) (c : Bool) (v : RawForm) (ts us : Tokens) → Then (JoinedText 2 (suc d)) (Goes (ChainText d) f) c v ts us → ChainText (suc d) f c v ts us
+  goes_there : (d : ℕ) (f : RawForm) (c : Bool) (v : RawForm) (ts us : Tokens) → Then (JoinedText 2 (suc d)) (GoesOn (ChainText d) f) c v ts us → ChainText (suc d) f c v ts us
   goes_there d f c v ts us (j, [], t, inl m) = absurd m
   goes_there d f c v ts us (j, u ∷ ms, t, inl (is, (g, e, r))) =
       record {
@@ -332,14 +332,14 @@ module _ (size : ℕ) (inner : Cut → ℕ → Parser RawForm) where
       }
   goes_there d f c v ts us (j, ms, t, inr (e, q)) = record { members = last t.tree; ordered = (t.tight, t.ordered); means = e ∙ ap (λ x. link f x.formula) t.means; fits = t.fits; spelled = subst (Takes (formula_text t.tree) ts) q t.spelled }
 
-  goes_back : (d : ℕ) (f : RawForm) (c : Bool) (v : RawForm) (ts us : Tokens) (members : Further) → AreOrdered members 2 → v ≡ raw_chain (place_of f) f members → Fitting c (FitSizes members × FitsChain members (suc d)) → Takes (listed_text Implies members) ts us → Then (JoinedText 2 (suc d)) (Goes (ChainText d) f) c v ts us
+  goes_back : (d : ℕ) (f : RawForm) (c : Bool) (v : RawForm) (ts us : Tokens) (members : Further) → AreOrdered members 2 → v ≡ raw_chain (place_of f) f members → Fitting c (FitSizes members × FitsChain members (suc d)) → Takes (listed_text Implies members) ts us → Then (JoinedText 2 (suc d)) (GoesOn (ChainText d) f) c v ts us
   goes_back d f c v ts us (last g) o e fit s = (joined_form g, us, record { tree = g; tight = o.0; ordered = o.1; means = refl; fits = fit; spelled = s }, inr (e, refl))
   goes_back d f c v ts us (more g gs) o e fit s =
       let k = takes_split (formula_text g) (any (word_token Implies) ∷ listed_text Implies gs) ts us s in (
         joined_form g,
         k.0,
         record { tree = g; tight = o.0; ordered = o.1; means = refl; fits = fit_first c (suc d) g gs (FitsChain gs d) fit; spelled = k.1 },
-        inl (behind_word Implies (listed_text Implies gs) (λ ns. Made (link f) (ChainText d (raw_form g)) c v ns us) k.0 us k.2
+        inl (after_word Implies (listed_text Implies gs) (λ ns. Made (link f) (ChainText d (raw_form g)) c v ns us) k.0 us k.2
             (λ ns h. (raw_chain (place_of (raw_form g)) (raw_form g) gs, e, record { members = gs; ordered = o.2; means = refl; fits = fit_second c (suc d) g gs (FitsChain gs d) fit; spelled = h }))),
       )
 
@@ -366,12 +366,12 @@ module _ (size : ℕ) (inner : Cut → ℕ → Parser RawForm) where
         record { tree = g; tight = o.0; ordered = o.1; means = refl; fits = tt; spelled = k.1 },
         inr (
           refl,
-          behind_word Implies (listed_text Implies gs) (λ ns. further_of f (joined_form g) v ns us) k.0 us k.2
+          after_word Implies (listed_text Implies gs) (λ ns. further_of f (joined_form g) v ns us) k.0 us k.2
               (λ ns h. (raw_chain (place_of (raw_form g)) (raw_form g) gs, e, record { members = gs; ordered = o.2; means = refl; fits = tt; spelled = h })),
         ),
       )
 
-  goes_follows : (Rest : RawForm → Language RawForm) (f : RawForm) (j : Joined RawForm) (c : Bool) (v : RawForm) (ms left : Tokens) → Goes Rest f j c v ms left → FollowsWhole left → FollowsAny ms
+  goes_follows : (Rest : RawForm → Language RawForm) (f : RawForm) (j : Joined RawForm) (c : Bool) (v : RawForm) (ms left : Tokens) → GoesOn Rest f j c v ms left → FollowsWhole left → FollowsAny ms
   goes_follows Rest f j c v [] left (inl m) g = absurd m
   goes_follows Rest f j c v (t ∷ ms) left (inl m) g = implies_follows t ms m.0
   goes_follows Rest f j c v ms left (inr m) g = subst FollowsAny (sym m.1) g.0

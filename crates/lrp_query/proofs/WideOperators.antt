@@ -34,7 +34,7 @@ use Rattle.lrp_text.proofs.TokenTests.{name_part}
 use Rattle.lrp_text.proofs.OffsetRule.{NoShift}
 use Rattle.lrp_query.specs.declared.words.Leading.{Leading}
 use Rattle.lrp_query.specs.declared.words.Leading.TheVariants.{OfRange, OfPair}
-use Rattle.lrp_query.specs.Rules.{behind_name}
+use Rattle.lrp_query.specs.Rules.{after_name}
 use Rattle.lrp_query.specs.OperatorRules.{ends, ranged, paired, wide_operator, with_wide_operators}
 use Rattle.lrp_query.specs.Grammars.{word_of, operators_in}
 use Rattle.lrp_query.proofs.Languages.{FitsAt}
@@ -93,8 +93,8 @@ OperatorText d (Some (OfRange word)) p = RangedText d word p
 OperatorText d (Some (OfPair word)) p = PairedText d word p
 OperatorText d None p = λ c v ts us. ⊥
 
-abbrev pub BehindText : ℕ → Identifier → Place → Language RawForm
-BehindText d n p = Either (OperatorText d (word_of n) p) (PlainText n p)
+abbrev pub AfterText : ℕ → Identifier → Place → Language RawForm
+AfterText d n p = Either (OperatorText d (word_of n) p) (PlainText n p)
 
 -- ---- rules
 
@@ -201,7 +201,7 @@ module _ (size d : ℕ) (inner outer : Cut → Parser RawForm) (one : Rule size 
 
   -- after a name, by the operator whose first word it is
   abbrev by_word : Option (Leading Ranged Paired) → Identifier → Place → Bool → Cut → Parser RawForm
-  by_word o n p again c = if again then wide_operator (operators_in wide) (inner c) (outer c) p o else behind_name true (cutting c) size n p
+  by_word o n p again c = if again then wide_operator (operators_in wide) (inner c) (outer c) p o else after_name true (cutting c) size n p
 
   ranged_sees : (word : Ranged) (p : Place) (c : Bool) (v : RawForm) (ts left : Tokens) → RangedText d word p c v ts left → Sees false is_name true ts
   ranged_sees word p c v [] left t = absurd t
@@ -218,15 +218,15 @@ module _ (size d : ℕ) (inner outer : Cut → Parser RawForm) (one : Rule size 
   word_rule : (o : Option (Leading Ranged Paired)) (n : Identifier) (p : Place) → Rule size true NoShift (Either (OperatorText d o p) (PlainText n p)) (λ c. look false is_name >>= (λ again. by_word o n p again c))
   word_rule (Some (OfRange word)) n p = look_rule (by_word (Some (OfRange word)) n p) (ranged_rule word p) (plain_rule size n p) (λ c v ts left t g. ranged_sees word p c v ts left t) (λ c v ts left t g. not_named ts (plain_no_name n p c v ts left t g))
   word_rule (Some (OfPair word)) n p = look_rule (by_word (Some (OfPair word)) n p) (paired_rule word p) (plain_rule size n p) (λ c v ts left t g. paired_sees word p c v ts left t) (λ c v ts left t g. not_named ts (plain_no_name n p c v ts left t g))
-  word_rule None n p = as_rule (Either (OperatorText d None p) (PlainText n p)) (refusing_rule size NoShift (PlainText n p) is_name (λ c. behind_name true (cutting c) size n p) (plain_rule size n p) (plain_no_name n p)) (λ c v ts us t. inr t) none_back
+  word_rule None n p = as_rule (Either (OperatorText d None p) (PlainText n p)) (refusing_rule size NoShift (PlainText n p) is_name (λ c. after_name true (cutting c) size n p) (plain_rule size n p) (plain_no_name n p)) (λ c v ts us t. inr t) none_back
     where
       none_back : (c : Bool) (v : RawForm) (ts us : Tokens) → Either (OperatorText d None p) (PlainText n p) c v ts us → PlainText n p c v ts us
       none_back c v ts us (inl t) = absurd t
       none_back c v ts us (inr t) = t
 
-  pub behind_rule : (n : Identifier) (p : Place) → Rule size true NoShift (BehindText d n p) (λ c. with_wide_operators (cutting c) (operators_in wide) (inner c) (outer c) size n p)
+  pub after_rule : (n : Identifier) (p : Place) → Rule size true NoShift (AfterText d n p) (λ c. with_wide_operators (cutting c) (operators_in wide) (inner c) (outer c) size n p)
   unfolding with_wide_operators
-  behind_rule n p = word_rule (word_of n) n p
+  after_rule n p = word_rule (word_of n) n p
 
 -- ---- trees
 

@@ -8,13 +8,13 @@ use Rattle.lrp_model.specs.declared.raw.RawColumn.{RawColumn}
 use Rattle.lrp_model.specs.Tokens.{Tokens}
 use Rattle.lrp_text.specs.Parsers.{Parser, ◌>>=◌, ◌>>◌, and_then, pure, eat, look}
 use Rattle.lrp_text.specs.Taking.{is_name, is_word, expect, name}
-use Rattle.lrp_query.specs.Rules.{Trees, Joined, WideBehindName, either, chained, last_link, whole, closed, closed_whole, enclosed_whole, quantified, binders_rule, each_bound, wide_up_to}
-use Rattle.lrp_query.specs.Rules.{behind_name}
+use Rattle.lrp_query.specs.Rules.{Trees, Joined, WideAfterName, either, chained, last_link, whole, closed, closed_whole, enclosed_whole, quantified, binders_rule, each_bound, wide_up_to}
+use Rattle.lrp_query.specs.Rules.{after_name}
 use Rattle.lrp_query.specs.OperatorRules.{OperatorTrees, opening, paired, wide_operator, with_wide_operators}
 use Rattle.lrp_query.specs.declared.words.Leading.{Leading}
 use Rattle.lrp_query.specs.declared.words.Leading.TheVariants.{OfRange, OfPair}
 use Rattle.lrp_model.specs.Texts.{Identifier}
-use Rattle.lrp_query.proofs.Behind.{alike}
+use Rattle.lrp_query.proofs.After.{alike}
 
 -- parsers of each depth that are the same up to one
 abbrev pub AgreeTo : {F : Type 0} → ℕ → (ℕ → Parser F) → (ℕ → Parser F) → Type 0
@@ -62,15 +62,15 @@ module _ {K T F Q : Type 0} (make : Trees K T F Q) (f g : ℕ → Parser F) wher
   quantified_same bind depth turns agree p ts = alike (binders_rule turns ts) _ _ (λ cs us. ap (λ (q : Parser F). (q >>= (λ h. pure (each_bound bind p cs h))) us) (agree (depth - (length cs - 1)) (omega arith)))
 
 -- the parser of a depth is the same among those up to each greater one
-one_further : {K T F Q : Type 0} (make : Trees K T F Q) (behind : WideBehindName F) (turns most e : ℕ) (b : Bool) → (e == suc most) ≡ b → e ≤ suc most → (e ≤ most → wide_up_to make behind turns most e ≡ wide_up_to make behind turns e e) → wide_up_to make behind turns (suc most) e ≡ wide_up_to make behind turns e e
+one_further : {K T F Q : Type 0} (make : Trees K T F Q) (after : WideAfterName F) (turns most e : ℕ) (b : Bool) → (e == suc most) ≡ b → e ≤ suc most → (e ≤ most → wide_up_to make after turns most e ≡ wide_up_to make after turns e e) → wide_up_to make after turns (suc most) e ≡ wide_up_to make after turns e e
 unfolding wide_up_to
-one_further make behind turns most e true same low below = subst (λ n. wide_up_to make behind turns n e ≡ wide_up_to make behind turns e e) (eqb-true e (suc most) same) refl
-one_further make behind turns most e false other low below = rw other (below (omega (arith, low, eqb-false e (suc most) other)))
+one_further make after turns most e true same low below = subst (λ n. wide_up_to make after turns n e ≡ wide_up_to make after turns e e) (eqb-true e (suc most) same) refl
+one_further make after turns most e false other low below = rw other (below (omega (arith, low, eqb-false e (suc most) other)))
 
-pub up_to_same : {K T F Q : Type 0} (make : Trees K T F Q) (behind : WideBehindName F) (turns most e : ℕ) → e ≤ most → wide_up_to make behind turns most e ≡ wide_up_to make behind turns e e
-up_to_same make behind turns zero zero low = refl
-up_to_same make behind turns zero (suc e) low = absurd (omega (arith, low))
-up_to_same make behind turns (suc most) e low = one_further make behind turns most e (e == suc most) refl low (up_to_same make behind turns most e)
+pub up_to_same : {K T F Q : Type 0} (make : Trees K T F Q) (after : WideAfterName F) (turns most e : ℕ) → e ≤ most → wide_up_to make after turns most e ≡ wide_up_to make after turns e e
+up_to_same make after turns zero zero low = refl
+up_to_same make after turns zero (suc e) low = absurd (omega (arith, low))
+up_to_same make after turns (suc most) e low = one_further make after turns most e (e == suc most) refl low (up_to_same make after turns most e)
 
 -- ---- after a name
 
@@ -91,10 +91,10 @@ module _ {R P N F : Type 0} (make : OperatorTrees R P N F) (f g : Parser F) (sam
   operator_same inner p None ts = refl
 
 module _ {K T F Q R P N : Type 0} (trees : Trees K T F Q) (make : OperatorTrees R P N F) (f g : Parser F) (same : (ts : Tokens) → f ts ≡ g ts) where
-  pub behind_same : (inner : Parser F) (turns : ℕ) (n : Identifier) (p : Place) (ts : Tokens) → with_wide_operators trees make inner f turns n p ts ≡ with_wide_operators trees make inner g turns n p ts
+  pub after_same : (inner : Parser F) (turns : ℕ) (n : Identifier) (p : Place) (ts : Tokens) → with_wide_operators trees make inner f turns n p ts ≡ with_wide_operators trees make inner g turns n p ts
   unfolding with_wide_operators
-  behind_same inner turns n p ts = alike (look false is_name ts) _ _ (λ again us. either_way again us)
+  after_same inner turns n p ts = alike (look false is_name ts) _ _ (λ again us. either_way again us)
     where
-      either_way : (again : Bool) (us : Tokens) → (if again then wide_operator make inner f p (make.word_of n) else behind_name true trees turns n p) us ≡ (if again then wide_operator make inner g p (make.word_of n) else behind_name true trees turns n p) us
+      either_way : (again : Bool) (us : Tokens) → (if again then wide_operator make inner f p (make.word_of n) else after_name true trees turns n p) us ≡ (if again then wide_operator make inner g p (make.word_of n) else after_name true trees turns n p) us
       either_way true us = operator_same make f g same inner p (make.word_of n) us
       either_way false us = refl

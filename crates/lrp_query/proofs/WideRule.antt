@@ -8,7 +8,7 @@ use Rattle.lrp_model.specs.Refused.{Fitting, Stops, TextOf}
 use Rattle.lrp_text.specs.Parsers.{Parser, and_then, ◌>>=◌, pure, accept, look, eat, eaten, separated_from}
 use Rattle.lrp_text.proofs.Complete.{Answers, answers_then, answers_as, ReadsBack, IsNot, Sees, accept_back, eats_none, looks, Tells as TestTells}
 use Rattle.lrp_text.proofs.Sound.{Sound, bind_ok, accept_ok, eat_ok, Eaten, look_ok, takes_onto, takes_front}
-use Rattle.lrp_text.proofs.Viable.{Viable, One, TestStops, accept_viable, bind_err, before, behind, always, eat_err, look_err}
+use Rattle.lrp_text.proofs.Viable.{Viable, One, TestStops, accept_viable, bind_err, before, after_front, always, eat_err, look_err}
 use Rattle.lrp_text.proofs.Local.{Local, bind_local, accept_local, pure_local, fail_local, eat_local, look_local}
 use Rattle.lrp_query.specs.Rules.{is_hole_token}
 use Rattle.lrp_query.specs.Grammars.{meant}
@@ -97,7 +97,7 @@ as_rule {V} {size} {late} {F} {T} U one there back = record {
   value = one.value;
   tokens = one.tokens;
   some = there true one.value one.tokens [] one.some;
-  viable = λ ts e lt h. behind (Texts T) (Texts U) [] ts ts e refl (λ c x t. (t.0, there c t.0 x [] t.1)) (one.viable ts e lt h);
+  viable = λ ts e lt h. after_front (Texts T) (Texts U) [] ts ts e refl (λ c x t. (t.0, there c t.0 x [] t.1)) (one.viable ts e lt h);
   local = one.local;
   told = one.told;
 }
@@ -186,7 +186,7 @@ bind_with {A} {B} {size} {late} {F} {G} {T} {U} {p} f one two may told = record 
     | inr a ↦
         let m = one.front true a.0.0 ts a.0.1 (one.sound ts a.0 a.1) in
         let less : length a.0.1 ≤ length ts = fewer T true a.0.0 ts a.0.1 m in
-        behind (Texts (U a.0.0)) (Texts (Then T U)) m.head ts a.0.1 e m.whole (λ c x t. (t.0, (a.0.0, x, one.weaker c a.0.0 (m.head ++ x) x (m.again x), t.1))) ((two a.0.0).viable a.0.1 e (omega (arith, lt, less)) a.2)
+        after_front (Texts (U a.0.0)) (Texts (Then T U)) m.head ts a.0.1 e m.whole (λ c x t. (t.0, (a.0.0, x, one.weaker c a.0.0 (m.head ++ x) x (m.again x), t.1))) ((two a.0.0).viable a.0.1 e (omega (arith, lt, less)) a.2)
   ];
   local = λ c. bind_local (p c) (λ a. f a c) (one.local c) (λ a. (two a).local c);
   told = told;
@@ -242,7 +242,7 @@ token_less_rule {A} {B} {size} {n} {G} {U} {test} {part} {Fits} f token low next
     | inr a ↦
         let k = accept_ok test ts a.0 a.1 in
         let long : length ts ≡ length (k.t ∷ a.0.1) = ap length k.whole in
-        behind (Texts (U a.0.0)) (Texts (After part Fits U)) (k.t ∷ []) ts a.0.1 e k.whole (λ c x r. (r.0, (a.0.0, (token.told k.t a.0.0 k.told, always (Fits a.0.0) c (token.fits k.t a.0.0 k.told)), r.1))) ((next a.0.0).viable a.0.1 e (omega (arith, lt, long, low)) a.2)
+        after_front (Texts (U a.0.0)) (Texts (After part Fits U)) (k.t ∷ []) ts a.0.1 e k.whole (λ c x r. (r.0, (a.0.0, (token.told k.t a.0.0 k.told, always (Fits a.0.0) c (token.fits k.t a.0.0 k.told)), r.1))) ((next a.0.0).viable a.0.1 e (omega (arith, lt, long, low)) a.2)
   ];
   local = λ c. bind_local (accept test) (λ a. f a c) (accept_local test) (λ a. (next a).local c);
   told = token_tells test f token.leaf (λ a. (next a).told);
@@ -273,9 +273,9 @@ pub record KindRule (test : Placed → Bool) (k : Token) : Type 0 where
   pub clean : is_hole_token k ≡ false
 
 -- such a token, and what follows it
-abbrev pub Behind : Token → (Tokens → Type 0) → Tokens → Type 0
-Behind k R [] = ⊥
-Behind k R (t ∷ ts) = (t.token ≡ k) × R ts
+abbrev pub AfterToken : Token → (Tokens → Type 0) → Tokens → Type 0
+AfterToken k R [] = ⊥
+AfterToken k R (t ∷ ts) = (t.token ≡ k) × R ts
 
 -- it is eaten
 eats_one : (test : Placed → Bool) (t : Placed) (us : Tokens) → test t ≡ true → eat test (t ∷ us) ≡ Ok (true, us)
@@ -284,7 +284,7 @@ eats_one test t us is = ap (λ r. eaten r t us) is
 
 -- what is read after such a token, or where none stands
 abbrev pub Eats : {B : Type 0} → Token → Language B → Language B → Language B
-Eats k T U c v ts us = Behind k (λ ms. T c v ms us) ts ⊎ U c v ts us
+Eats k T U c v ts us = AfterToken k (λ ms. T c v ms us) ts ⊎ U c v ts us
 
 pub eat_rule : {B : Type 0} {size n : ℕ} {G : Tokens → Type 0} {T U : Language B} {test : Placed → Bool} {k : Token} (f : Bool → Cut → Parser B) → KindRule test k → size ≤ suc n → Rule n false G T (f true) → Rule size true G U (f false) → ((c : Bool) (v : B) (ts left : Tokens) → U c v ts left → G left → IsNot test ts) → Rule size true G (Eats k T U) (λ c. eat test >>= (λ b. f b c))
 eat_rule {B} {size} {n} {G} {T} {U} {test} {k} f kind low one two apart = record {
@@ -325,10 +325,10 @@ eat_rule {B} {size} {n} {G} {T} {U} {test} {k} f kind low one two apart = record
     stops : (ts us : Tokens) (b : Bool) (e : Fault × Tokens) → length ts < size → Eaten test ts b us → f b holes us ≡ Err e → Stops (Texts (Eats k T U)) ts e
     stops ts us true e lt w h =
         let long : length ts ≡ length (w.0 ∷ us) = ap length w.1 in
-        behind (Texts T) (Texts (Eats k T U)) (w.0 ∷ []) ts us e w.1 (λ c x r. (r.0, inl (kind.told w.0 w.2, r.1))) (one.viable us e (omega (arith, lt, long, low)) h)
+        after_front (Texts T) (Texts (Eats k T U)) (w.0 ∷ []) ts us e w.1 (λ c x r. (r.0, inl (kind.told w.0 w.2, r.1))) (one.viable us e (omega (arith, lt, long, low)) h)
     stops ts us false e lt w h =
         let long : length ts ≡ length us = ap length w in
-        behind (Texts U) (Texts (Eats k T U)) [] ts us e w (λ c x r. (r.0, inr r.1)) (two.viable us e (omega (arith, lt, long)) h)
+        after_front (Texts U) (Texts (Eats k T U)) [] ts us e w (λ c x r. (r.0, inr r.1)) (two.viable us e (omega (arith, lt, long)) h)
 
     either_local : (c : Cut) (b : Bool) → Local (f b c)
     either_local c true = one.local c
@@ -375,10 +375,10 @@ look_rule {B} {size} {G} {T} {U} {test} f one two sees misses = record {
     stops : (ts us : Tokens) (b : Bool) (e : Fault × Tokens) → length ts < size → ts ≡ us → f b holes us ≡ Err e → Stops (Texts (Either T U)) ts e
     stops ts us true e lt w h =
         let long : length ts ≡ length us = ap length w in
-        behind (Texts T) (Texts (Either T U)) [] ts us e w (λ c x r. (r.0, inl r.1)) (one.viable us e (omega (arith, lt, long)) h)
+        after_front (Texts T) (Texts (Either T U)) [] ts us e w (λ c x r. (r.0, inl r.1)) (one.viable us e (omega (arith, lt, long)) h)
     stops ts us false e lt w h =
         let long : length ts ≡ length us = ap length w in
-        behind (Texts U) (Texts (Either T U)) [] ts us e w (λ c x r. (r.0, inr r.1)) (two.viable us e (omega (arith, lt, long)) h)
+        after_front (Texts U) (Texts (Either T U)) [] ts us e w (λ c x r. (r.0, inr r.1)) (two.viable us e (omega (arith, lt, long)) h)
 
     either_local : (c : Cut) (b : Bool) → Local (f b c)
     either_local c true = one.local c
@@ -402,7 +402,7 @@ leaf_rule size p text Fits F sound back viable local told a x fits spelled = rec
   value = a;
   tokens = x;
   some = (fits, spelled);
-  viable = λ ts e lt h. behind (TextOf text Fits) (Texts (Leaf text Fits)) [] ts ts e refl (λ c y t. (t.0, (t.1, t.2))) (viable ts e h);
+  viable = λ ts e lt h. after_front (TextOf text Fits) (Texts (Leaf text Fits)) [] ts ts e refl (λ c y t. (t.0, (t.1, t.2))) (viable ts e h);
   local = λ c. local;
   told = told;
 }
@@ -413,7 +413,7 @@ leaf_rule size p text Fits F sound back viable local told a x fits spelled = rec
 abbrev pub Separated : {V : Type 0} → (V → Tokens → Tokens → Type 0) → Token → List V → Tokens → Tokens → Type 0
 Separated T k [] ts us = ⊥
 Separated T k (v ∷ []) ts us = T v ts us
-Separated T k (v ∷ w ∷ vs) ts us = (ms : Tokens) × T v ts ms × Behind k (λ ns. Separated T k (w ∷ vs) ns us) ms
+Separated T k (v ∷ w ∷ vs) ts us = (ms : Tokens) × T v ts ms × AfterToken k (λ ns. Separated T k (w ∷ vs) ns us) ms
 
 -- those that are read after others
 abbrev pub Members : {V : Type 0} → Language V → Token → List V → Language (List V)

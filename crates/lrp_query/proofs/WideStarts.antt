@@ -50,7 +50,7 @@ use Rattle.lrp_query.proofs.WideLevels.{cutting}
 use Rattle.lrp_query.proofs.WideWhole.{EnclosedText, inside_there, enclosed_back, enclosed_rule, part_rule, close_takes, close_back}
 use Rattle.lrp_query.proofs.WideBinders.{QuantifiedText, quantified_there, quantified_of, quantified_rule}
 use Rattle.lrp_query.proofs.WideTests.{TestText, test_rule, test_there, compared_back, differing_back, member_back, given_there, given_back, PlainText}
-use Rattle.lrp_query.proofs.WideOperators.{HasWord, word_told, ranged_again, paired_again, OperatorText, BehindText, Operated, ranged_there, paired_there, ranged_back, paired_back, behind_rule}
+use Rattle.lrp_query.proofs.WideOperators.{HasWord, word_told, ranged_again, paired_again, OperatorText, AfterText, Operated, ranged_there, paired_there, ranged_back, paired_back, after_rule}
 
 -- what is read of a formula that begins so
 abbrev pub StartText : ℕ → Place → Start → Language RawForm
@@ -58,21 +58,21 @@ StartText d p by_not = After (λ (u : Unit {0}). any (word_token Not)) (λ u. Un
 StartText d p by_exists = After (λ (u : Unit {0}). any (word_token Exists)) (λ u. Unit {0}) (λ u. QuantifiedText d existential p)
 StartText d p by_forall = After (λ (u : Unit {0}). any (word_token Forall)) (λ u. Unit {0}) (λ u. QuantifiedText d universal p)
 StartText d p by_open = EnclosedText d p
-StartText d p by_name = After name_part (λ v. Unit {0}) (λ n. BehindText d n.0 n.1)
+StartText d p by_name = After name_part (λ v. Unit {0}) (λ n. AfterText d n.0 n.1)
 StartText d p by_term = Then Unnamed (λ k. TestText (term_of p k))
 
 module _ (size most d : ℕ) (low : d ≤ most) (inner : Cut → ℕ → Parser RawForm) (at_zero : (c : Cut) → inner c 0 ≡ accept c) (rules : (d : ℕ) → d ≤ most → Rule size false NoShift (FormulaText d) (λ c. inner c d)) where
   -- after a name
-  abbrev pub behind_of : Cut → Identifier → Place → Parser RawForm
-  behind_of c = with_wide_operators (cutting c) (operators_in wide) (inner c d) (member_of (whole (cutting c) (inner c) d size)) size
+  abbrev pub after_of : Cut → Identifier → Place → Parser RawForm
+  after_of c = with_wide_operators (cutting c) (operators_in wide) (inner c d) (member_of (whole (cutting c) (inner c) d size)) size
 
-  pub start_rule : (p : Place) (s : Start) → Rule size true NoShift (StartText d p s) (λ c. started_wide (cutting c) (behind_of c) (inner c) d size p s)
+  pub start_rule : (p : Place) (s : Start) → Rule size true NoShift (StartText d p s) (λ c. started_wide (cutting c) (after_of c) (inner c) d size p s)
   unfolding negated named unnamed
   start_rule p by_not = token_rule (λ u c. inner c d >>= (λ f. pure (raw_not p f))) (word_rule Not) (λ u. map_rule (raw_not p) (rules d low))
   start_rule p by_exists = token_rule (λ u c. quantified (cutting c).formulas.existential (inner c) d size p) (word_rule Exists) (λ u. sooner_rule true (quantified_rule size most d inner rules low existential p))
   start_rule p by_forall = token_rule (λ u c. quantified (cutting c).formulas.universal (inner c) d size p) (word_rule Forall) (λ u. sooner_rule true (quantified_rule size most d inner rules low universal p))
   start_rule p by_open = enclosed_rule size most inner at_zero rules d low p
-  start_rule p by_name = token_rule (λ n c. behind_of c n.0 n.1) name_rule (λ n. sooner_rule true (behind_rule size d (λ c. inner c d) (λ c. member_of (whole (cutting c) (inner c) d size)) (rules d low) (part_rule size most inner at_zero rules d low) n.0 n.1))
+  start_rule p by_name = token_rule (λ n c. after_of c n.0 n.1) name_rule (λ n. sooner_rule true (after_rule size d (λ c. inner c d) (λ c. member_of (whole (cutting c) (inner c) d size)) (rules d low) (part_rule size most inner at_zero rules d low) n.0 n.1))
   start_rule p by_term = bind_rule (λ k c. tested true (cutting c) (term_of p k)) (unnamed_rule size) (λ k. test_rule size (term_of p k)) (λ k c v ms left t g. tt)
 
 -- ---- trees of what is read
@@ -126,9 +126,9 @@ plain_there d n p c v t ts us is (inr (k, ms, (o, e, (fit, s)), test)) =
     let f = test_there l c v (t ∷ ts) ms us one (fits_as (FitsOffset o) (FitsTerm (with_offset n o)) c (with_offset_fits n o) fit) (subst (λ x. TestText (term_of p x) c v ms us) e test) in
     record { tree = f.tree; tight = f.tight; ordered = f.ordered; means = f.means; fits = f.fits d; spelled = f.spelled }
 
-behind_there : (d : ℕ) (n : Identifier) (p : Place) (c : Bool) (v : RawForm) (t : Placed) (ts us : Tokens) → IsPart (at p (name_token n)) t → BehindText d n p c v ts us → Operated d c v (t ∷ ts) us
-behind_there d n p c v t ts us is (inl r) = operator_there d (word_of n) n p c v t ts us (word_told n) is r
-behind_there d n p c v t ts us is (inr r) = plain_there d n p c v t ts us is r
+after_there : (d : ℕ) (n : Identifier) (p : Place) (c : Bool) (v : RawForm) (t : Placed) (ts us : Tokens) → IsPart (at p (name_token n)) t → AfterText d n p c v ts us → Operated d c v (t ∷ ts) us
+after_there d n p c v t ts us is (inl r) = operator_there d (word_of n) n p c v t ts us (word_told n) is r
+after_there d n p c v t ts us is (inr r) = plain_there d n p c v t ts us is r
 
 pub start_there : (d : ℕ) (p : Place) (s : Start) (c : Bool) (v : RawForm) (ts us : Tokens) → StartText d p s c v ts us → Started d p c v ts us
 start_there d p by_not c v [] us r = absurd r
@@ -149,7 +149,7 @@ start_there d p by_not c v (t ∷ ts) us (u, is, (f, e, w)) =
 start_there d p by_exists c v (t ∷ ts) us (u, is, r) = let w = quantified_there d existential p t.place c v t ts us (is.0, refl) r in record { tree = w.0; tight = w.1; ordered = w.2; means = w.3; fits = w.4; spelled = w.5 }
 start_there d p by_forall c v (t ∷ ts) us (u, is, r) = let w = quantified_there d universal p t.place c v t ts us (is.0, refl) r in record { tree = w.0; tight = w.1; ordered = w.2; means = w.3; fits = w.4; spelled = w.5 }
 start_there d p by_open c v (t ∷ ts) us (u, is, r) = let w = inside_there d p t.place c v t ts us (is.0, refl) r in record { tree = w.0; tight = w.1; ordered = w.2; means = w.3; fits = w.4; spelled = w.5 }
-start_there d p by_name c v (t ∷ ts) us (n, is, r) = let w = behind_there d n.0 n.1 c v t ts us is.0 r in record { tree = w.tree; tight = w.tight; ordered = w.ordered; means = λ b. w.means; fits = w.fits; spelled = w.spelled }
+start_there d p by_name c v (t ∷ ts) us (n, is, r) = let w = after_there d n.0 n.1 c v t ts us is.0 r in record { tree = w.tree; tight = w.tight; ordered = w.ordered; means = λ b. w.means; fits = w.fits; spelled = w.spelled }
 start_there d p by_term c v (t ∷ ts) us (k, ms, un, test) =
     let l : Located WrittenTerm = record { item = un.item; place = t.place } in
     let one : Takes (placed_text l) (t ∷ ts) ms = from_first un.item t ts ms un.spelled in
@@ -193,8 +193,8 @@ NotHole (hole p) = ⊥
 NotHole _ = Unit {0}
 
 -- a name, and what stands after it
-behind_name_back : (d : ℕ) (c : Bool) (v : RawForm) (n : Identifier) (p : Place) (t : Placed) (ts us : Tokens) → IsPart (at p (name_token n)) t → BehindText d n p c v ts us → StartText d t.place (start_of t.token) c v (t ∷ ts) us
-behind_name_back d c v n p t ts us is r = at_start d p by_name c v t ts us is.1 (ap start_of is.0) ((n, p), (is, always (Unit {0}) c tt), r)
+after_name_back : (d : ℕ) (c : Bool) (v : RawForm) (n : Identifier) (p : Place) (t : Placed) (ts us : Tokens) → IsPart (at p (name_token n)) t → AfterText d n p c v ts us → StartText d t.place (start_of t.token) c v (t ∷ ts) us
+after_name_back d c v n p t ts us is r = at_start d p by_name c v t ts us is.1 (ap start_of is.0) ((n, p), (is, always (Unit {0}) c tt), r)
 
 pub start_back : (d : ℕ) (c : Bool) (w : Formula) (t : Placed) (ts us : Tokens) → NotHole w → looseness w ≤ 0 → IsOrdered w → Fitting c (FitsAt (suc d) w) → Takes (formula_text w) (t ∷ ts) us → StartText d t.place (start_of t.token) c (raw_form w) (t ∷ ts) us
 start_back d c (hole p) t ts us real low o fit s = absurd real
@@ -211,12 +211,12 @@ start_back d c (some p b f) t ts us real low o fit s = at_start d p by_exists c 
 start_back d c (every p b f) t ts us real low o fit s = at_start d p by_forall c _ t ts us s.0.1 (ap start_of s.0.0) (tt, (s.0.0, always (Unit {0}) c tt), quantified_of d universal p c [] b f ts us o.0 o.1 (subst (λ k. Fitting c (FitsAt k f)) (omega arith) fit) s.1)
 start_back d c (several x existential p ns b f) t ts us real low o fit s = at_start d p by_exists c _ t ts us s.0.1 (ap start_of s.0.0) (tt, (s.0.0, always (Unit {0}) c tt), quantified_of d existential p c (ns.first ∷ ns.others) b f ts us o.0 o.1 fit s.1)
 start_back d c (several x universal p ns b f) t ts us real low o fit s = at_start d p by_forall c _ t ts us s.0.1 (ap start_of s.0.0) (tt, (s.0.0, always (Unit {0}) c tt), quantified_of d universal p c (ns.first ∷ ns.others) b f ts us o.0 o.1 fit s.1)
-start_back d c (ranged x word q a b f) t ts us real low o fit s = behind_name_back d c _ (ranged_word word) q.place t ts us s.0 (inl (subst (λ z. OperatorText d z q.place c (raw_form (ranged_form word q a b f)) ts us) (sym (ranged_again word)) (ranged_back d c word q a b f t ts us o.0 o.1 fit s)))
-start_back d c (paired x word q f g) t ts us real low o fit s = behind_name_back d c _ (paired_word word) q.place t ts us s.0 (inl (subst (λ z. OperatorText d z q.place c (raw_form (paired_form word q f g)) ts us) (sym (paired_again word)) (paired_back d c word q f g t ts us o.0 o.1 fit s)))
+start_back d c (ranged x word q a b f) t ts us real low o fit s = after_name_back d c _ (ranged_word word) q.place t ts us s.0 (inl (subst (λ z. OperatorText d z q.place c (raw_form (ranged_form word q a b f)) ts us) (sym (ranged_again word)) (ranged_back d c word q a b f t ts us o.0 o.1 fit s)))
+start_back d c (paired x word q f g) t ts us real low o fit s = after_name_back d c _ (paired_word word) q.place t ts us s.0 (inl (subst (λ z. OperatorText d z q.place c (raw_form (paired_form word q f g)) ts us) (sym (paired_again word)) (paired_back d c word q f g t ts us o.0 o.1 fit s)))
 start_back d c (atom_formula p n xs) t [] us real low o fit s = absurd s.1
 start_back d c (atom_formula p n xs) t (u ∷ ts) us real low o fit s =
     let k = takes_split (separated comma (located_text argument_text) xs) (any (symbol_token Close) ∷ []) ts us s.1.1 in
-    behind_name_back d c _ n p t (u ∷ ts) us s.0 (inr (inl (s.1.0, (map raw_argument xs, k.0, given_back c xs ts k.0 (fit_left c (AllByRecursion (λ (a : Located (WrittenArgument wide)). FitsArgument a.item) xs) (Unit {0}) fit) k.1, close_back (raw_atom p n (map raw_argument xs)) c k.0 us k.2))))
+    after_name_back d c _ n p t (u ∷ ts) us s.0 (inr (inl (s.1.0, (map raw_argument xs, k.0, given_back c xs ts k.0 (fit_left c (AllByRecursion (λ (a : Located (WrittenArgument wide)). FitsArgument a.item) xs) (Unit {0}) fit) k.1, close_back (raw_atom p n (map raw_argument xs)) c k.0 us k.2))))
 start_back d c (compared l op r) t ts us real low o fit s =
     let k = takes_split (placed_text l) (any (symbol_token (op_symbol op)) ∷ placed_text r) (t ∷ ts) us s in
     let sides = fit_left c (FitsTerm l.item × FitsTerm r.item) (Unit {0}) fit in

@@ -28,7 +28,7 @@ use Rattle.lrp_text.specs.IntegerRule.{integer}
 use Rattle.lrp_text.specs.OffsetRule.{unmoved, moved_by, offset}
 use Rattle.lrp_text.proofs.Complete.{Answers, answers_then, accepts_back, Anything, Sees, IsNot, first_sees_any}
 use Rattle.lrp_text.proofs.Sound.{bind_ok}
-use Rattle.lrp_text.proofs.Viable.{One, always, fits_as, bind_err, behind}
+use Rattle.lrp_text.proofs.Viable.{One, always, fits_as, bind_err, after_front}
 use Rattle.lrp_text.proofs.Local.{accept_local, bind_local, look_local, pure_local}
 use Rattle.lrp_text.proofs.TokenTests.{symbol_told, symbol_seen, word_told, word_seen, expect_told, expect_seen, expect_stops, word_expected, word_required, word_stops, name_part, name_told, name_seen, name_stops, text_part, text_told, text_fits, text_stops, text_tells, number_part, period_told, period_fits, period_stops, period_tells, end_expected, end_required, end_stops}
 use Rattle.lrp_text.proofs.IntegerRule.{integer_back, integer_sound, integer_viable, integer_local, no_quote, no_name}
@@ -241,7 +241,7 @@ module _ {A B : Type 0} (size : ℕ) (F : Tokens → Type 0) (T : Language A) (p
     value = h (first_place one.tokens) one.value;
     tokens = one.tokens;
     some = (one.value, first_place one.tokens, refl, begun true one.value one.tokens [] one.some, one.some);
-    viable = λ ts e lt g. behind (Texts T) (Texts (AtPlace h T)) [] ts ts e refl (λ c x t. (h (first_place x) t.0, (t.0, first_place x, refl, begun c t.0 x [] t.1, t.1))) (one.viable ts e lt (fails ts e g));
+    viable = λ ts e lt g. after_front (Texts T) (Texts (AtPlace h T)) [] ts ts e refl (λ c x t. (h (first_place x) t.0, (t.0, first_place x, refl, begun c t.0 x [] t.1, t.1))) (one.viable ts e lt (fails ts e g));
     local = λ c. bind_local here (λ q. p c >>= (λ a. pure (h q a))) (look_local start (λ t. t.place)) (λ q. bind_local (p c) (λ a. pure (h q a)) (one.local c) (λ a. pure_local (h q a)));
     told = look_tells start (λ t. t.place) (λ q c. p c >>= (λ a. pure (h q a))) (λ q. (map_rule (h q) one).told);
   }

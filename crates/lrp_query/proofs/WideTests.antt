@@ -29,14 +29,14 @@ use Rattle.lrp_text.proofs.Sound.{takes_join, takes_split}
 use Rattle.lrp_text.proofs.Viable.{always, fits_as, fitting}
 use Rattle.lrp_text.proofs.TokenTests.{number_part}
 use Rattle.lrp_text.proofs.OffsetRule.{NoShift}
-use Rattle.lrp_query.specs.Rules.{named_term, term, op_of, point, point_of, comparing, differing as differing_rule, tested, atom_terms, behind_name, raw_terms}
+use Rattle.lrp_query.specs.Rules.{named_term, term, op_of, point, point_of, comparing, differing as differing_rule, tested, atom_terms, after_name, raw_terms}
 use Rattle.lrp_query.proofs.Languages.{FitsAt}
 use Rattle.lrp_query.proofs.TermRules.{placed_text}
 use Rattle.lrp_query.proofs.TestRules.{op_part, op_told, op_seen, op_stops}
 use Rattle.lrp_query.proofs.Marks.{op_leaf}
 use Rattle.lrp_query.proofs.WideRule.{Language, Rule, sooner_rule, Nothing, pure_rule, Then, bind_rule, Made, map_rule, TokenRule, After, token_rule, Eats, eat_rule, Separated}
 use Rattle.lrp_query.proofs.WideTerms.{symbol_rule, word_rule, period_rule, symbol_kind, word_kind, IntegerText, integer_rule, Named, named_rule, TermText, term_rule, term_of, ArgumentText, Arguments, ClosesArguments, arguments_rule}
-use Rattle.lrp_query.proofs.WideWritten.{Formula, behind_part}
+use Rattle.lrp_query.proofs.WideWritten.{Formula, after_part}
 use Rattle.lrp_query.proofs.WideLevels.{cutting}
 use Rattle.lrp_query.proofs.WideWhole.{CloseText}
 
@@ -220,7 +220,7 @@ given_back c [] ts us f s = s
 given_back c (x ∷ []) ts us f s = record { item = x; means = refl; fits = fits_as (AllFit (x ∷ [])) (FitsArgument x.item) c (λ h. h.0) f; spelled = s }
 given_back c (x ∷ y ∷ xs) ts us f s =
     let k = takes_split (located_text argument_text x) (comma ∷ separated comma (located_text argument_text) (y ∷ xs)) ts us s in
-    (k.0, record { item = x; means = refl; fits = fits_as (AllFit (x ∷ y ∷ xs)) (FitsArgument x.item) c (λ h. h.0) f; spelled = k.1 }, behind_part (symbol_token Comma) (separated comma (located_text argument_text) (y ∷ xs)) (λ ns. Separated (ArgumentText c) (symbol_token Comma) (map raw_argument (y ∷ xs)) ns us) k.0 us k.2 (λ ns h. given_back c (y ∷ xs) ns us (fits_as (AllFit (x ∷ y ∷ xs)) (AllFit (y ∷ xs)) c (λ a. a.1) f) h))
+    (k.0, record { item = x; means = refl; fits = fits_as (AllFit (x ∷ y ∷ xs)) (FitsArgument x.item) c (λ h. h.0) f; spelled = k.1 }, after_part (symbol_token Comma) (separated comma (located_text argument_text) (y ∷ xs)) (λ ns. Separated (ArgumentText c) (symbol_token Comma) (map raw_argument (y ∷ xs)) ns us) k.0 us k.2 (λ ns h. given_back c (y ∷ xs) ns us (fits_as (AllFit (x ∷ y ∷ xs)) (AllFit (y ∷ xs)) c (λ a. a.1) f) h))
 
 -- ---- after a name
 
@@ -259,21 +259,21 @@ test_shift : (l : RawTerm) (c : Bool) (v : RawForm) (ms left : Tokens) → TestT
 test_shift l c v ms left t = (test_first (is_symbol_token Plus) refl refl op_no_plus l c v ms left t, test_first (is_symbol_token Minus) refl refl op_no_minus l c v ms left t)
 
 -- what nothing after a name begins with but a parenthesis
-behind_first : (test : Token → Bool) → test (symbol_token Plus) ≡ false → test (symbol_token Minus) ≡ false → test (word_token In) ≡ false → test (symbol_token Differs) ≡ false → ((op : Op) → test (symbol_token (op_symbol op)) ≡ false) → (n : Identifier) (p : Place) (c : Bool) (v : RawForm) (ts left : Tokens) → Then (Named n) (λ k. TestText (term_of p k)) c v ts left → IsNot (λ t. test t.token) ts
-behind_first test plus minus inside differs op n p c v ts left (k, ms, (unmoved, e, s), t) = subst (IsNot (λ t. test t.token)) (sym s.1) (test_first test inside differs op (term_of p k) c v ms left t)
-behind_first test plus minus inside differs op n p c v ts left (k, ms, (moved_by true j, e, s), t) = first_is_not test (symbol_token Minus) (any (number_token j) ∷ []) ts ms minus s.1
-behind_first test plus minus inside differs op n p c v ts left (k, ms, (moved_by false j, e, s), t) = first_is_not test (symbol_token Plus) (any (number_token j) ∷ []) ts ms plus s.1
+after_first : (test : Token → Bool) → test (symbol_token Plus) ≡ false → test (symbol_token Minus) ≡ false → test (word_token In) ≡ false → test (symbol_token Differs) ≡ false → ((op : Op) → test (symbol_token (op_symbol op)) ≡ false) → (n : Identifier) (p : Place) (c : Bool) (v : RawForm) (ts left : Tokens) → Then (Named n) (λ k. TestText (term_of p k)) c v ts left → IsNot (λ t. test t.token) ts
+after_first test plus minus inside differs op n p c v ts left (k, ms, (unmoved, e, s), t) = subst (IsNot (λ t. test t.token)) (sym s.1) (test_first test inside differs op (term_of p k) c v ms left t)
+after_first test plus minus inside differs op n p c v ts left (k, ms, (moved_by true j, e, s), t) = first_is_not test (symbol_token Minus) (any (number_token j) ∷ []) ts ms minus s.1
+after_first test plus minus inside differs op n p c v ts left (k, ms, (moved_by false j, e, s), t) = first_is_not test (symbol_token Plus) (any (number_token j) ∷ []) ts ms plus s.1
 
 -- no name follows
 pub plain_no_name : (n : Identifier) (p : Place) (c : Bool) (v : RawForm) (ts left : Tokens) → PlainText n p c v ts left → NoShift left → IsNot is_name ts
 plain_no_name n p c v [] left (inl t) g = absurd t
 plain_no_name n p c v (u ∷ ts) left (inl t) g = ap is_name_token t.0
-plain_no_name n p c v ts left (inr t) g = behind_first is_name_token refl refl refl refl (λ op. refl) n p c v ts left t
+plain_no_name n p c v ts left (inr t) g = after_first is_name_token refl refl refl refl (λ op. refl) n p c v ts left t
 
-pub plain_rule : (size : ℕ) (n : Identifier) (p : Place) → Rule size true NoShift (PlainText n p) (λ c. behind_name true (cutting c) size n p)
-unfolding behind_name atom_terms
+pub plain_rule : (size : ℕ) (n : Identifier) (p : Place) → Rule size true NoShift (PlainText n p) (λ c. after_name true (cutting c) size n p)
+unfolding after_name atom_terms
 plain_rule size n p =
     eat_rule (λ opens c. if opens then atom_terms true (cutting c) size n p else (named_term raw_terms n >>= (λ k. tested true (cutting c) (term_of p k)))) (symbol_kind Open) (omega arith)
     (sooner_rule true (bind_rule (λ xs c. expect Close >>= (λ u. pure (raw_atom p n xs))) (arguments_rule size) (λ xs. token_rule (λ u c. pure (raw_atom p n xs)) (symbol_rule Close) (λ u. pure_rule size false NoShift (raw_atom p n xs))) (close_stops n p)))
     (bind_rule (λ k c. tested true (cutting c) (term_of p k)) (named_rule size n) (λ k. test_rule size (term_of p k)) (λ k c v ms left t g. test_shift (term_of p k) c v ms left t))
-    (λ c v ts left t g. behind_first (is_symbol_token Open) refl refl refl refl op_no_open n p c v ts left t)
+    (λ c v ts left t g. after_first (is_symbol_token Open) refl refl refl refl op_no_open n p c v ts left t)

@@ -114,14 +114,14 @@ none_tells p q same tells = none_at p q same (tells [])
 
 -- ---- a token, and then a parser
 
-behind_token : {A : Type 0} (p q : Cut → Parser A) (t : Placed) (ts : Tokens) → is_hole_token t.token ≡ false → ((c : Cut) (us : Tokens) → p c (t ∷ us) ≡ q c us) → Told false q ts → Told true p (t ∷ ts)
-behind_token p q t ts n same (took a left front w cl all) = took a left (t ∷ front) (ap (λ x. t ∷ x) w) (n, cl) (λ c. same c ts ∙ all c)
-behind_token p q t ts n same (refused k us never all) = refused k us (λ d h. never d h.1) (λ c. same c ts ∙ all c)
-behind_token p q t ts n same (cut_off front u us ne w cl all) = cut_off (t ∷ front) u us tt (ap (λ x. t ∷ x) w) (n, cl) (λ c k b y e. same c (front ++ b ∷ y) ∙ all c k b y e)
+after_token : {A : Type 0} (p q : Cut → Parser A) (t : Placed) (ts : Tokens) → is_hole_token t.token ≡ false → ((c : Cut) (us : Tokens) → p c (t ∷ us) ≡ q c us) → Told false q ts → Told true p (t ∷ ts)
+after_token p q t ts n same (took a left front w cl all) = took a left (t ∷ front) (ap (λ x. t ∷ x) w) (n, cl) (λ c. same c ts ∙ all c)
+after_token p q t ts n same (refused k us never all) = refused k us (λ d h. never d h.1) (λ c. same c ts ∙ all c)
+after_token p q t ts n same (cut_off front u us ne w cl all) = cut_off (t ∷ front) u us tt (ap (λ x. t ∷ x) w) (n, cl) (λ c k b y e. same c (front ++ b ∷ y) ∙ all c k b y e)
 
 token_at : {A B : Type 0} (test : Placed → Result A Fault) (f : A → Cut → Parser B) → ((a : A) → Tells false (f a)) → (t : Placed) (ts : Tokens) (r : Result A Fault) → test t ≡ r → LeafAt t.token r → Told true (λ c. accept test >>= (λ a. f a c)) (t ∷ ts)
 unfolding accept
-token_at test f next t ts (Ok a) is l = behind_token (λ c. accept test >>= (λ a. f a c)) (f a) t ts l (λ c us. ap (λ r. and_then (taken r t us) (λ a. f a c)) is) (next a ts)
+token_at test f next t ts (Ok a) is l = after_token (λ c. accept test >>= (λ a. f a c)) (f a) t ts l (λ c us. ap (λ r. and_then (taken r t us) (λ a. f a c)) is) (next a ts)
 token_at test f next t ts (Err k) is l = refused k (t ∷ ts) (λ d n. not_deep k l d) (λ c. ap (λ r. and_then (taken r t ts) (λ a. f a c)) is)
 
 pub token_tells : {A B : Type 0} (test : Placed → Result A Fault) (f : A → Cut → Parser B) → ((t : Placed) → LeafAt t.token (test t)) → ((a : A) → Tells false (f a)) → Tells true (λ c. accept test >>= (λ a. f a c))
@@ -132,7 +132,7 @@ token_tells test f leaf next (t ∷ ts) = token_at test f next t ts (test t) ref
 -- a token that is eaten or not
 eat_at : {B : Type 0} (test : Placed → Bool) (f : Bool → Cut → Parser B) → ((t : Placed) → test t ≡ true → is_hole_token t.token ≡ false) → Tells false (f true) → Tells true (f false) → (t : Placed) (ts : Tokens) (b : Bool) → test t ≡ b → Told true (λ c. eat test >>= (λ b. f b c)) (t ∷ ts)
 unfolding eat
-eat_at test f clean some none t ts true is = behind_token (λ c. eat test >>= (λ b. f b c)) (f true) t ts (clean t is) (λ c us. ap (λ r. and_then (eaten r t us) (λ b. f b c)) is) (some ts)
+eat_at test f clean some none t ts true is = after_token (λ c. eat test >>= (λ b. f b c)) (f true) t ts (clean t is) (λ c us. ap (λ r. and_then (eaten r t us) (λ b. f b c)) is) (some ts)
 eat_at test f clean some none t ts false is = first_tells (λ c. eat test >>= (λ b. f b c)) (f false) t ts (λ c us. ap (λ r. and_then (eaten r t us) (λ b. f b c)) is) none
 
 pub eat_tells : {B : Type 0} (test : Placed → Bool) (f : Bool → Cut → Parser B) → ((t : Placed) → test t ≡ true → is_hole_token t.token ≡ false) → Tells false (f true) → Tells true (f false) → Tells true (λ c. eat test >>= (λ b. f b c))

@@ -24,7 +24,7 @@ use Rattle.lrp_query.proofs.Languages.{FitsAt}
 use Rattle.lrp_query.proofs.WideTold.{Cut}
 use Rattle.lrp_query.proofs.WideRule.{Language, Rule, as_rule, Nothing, pure_rule, Then, bind_rule, Made, map_rule, After, token_rule, Eats, eat_rule}
 use Rattle.lrp_query.proofs.WideTerms.{symbol_rule, word_kind}
-use Rattle.lrp_query.proofs.WideWritten.{Formula, joined_form, Wrote, FormulaText, JoinedText, fit_two, fit_first, fit_second, members_listed, listed_text, behind_word, ChainText}
+use Rattle.lrp_query.proofs.WideWritten.{Formula, joined_form, Wrote, FormulaText, JoinedText, fit_two, fit_first, fit_second, members_listed, listed_text, after_word, ChainText}
 use Rattle.lrp_query.proofs.WideLevels.{cutting, FollowsAny, FollowsWhole, closer_follows, implies_follows, either_rule, low_before, chain_of, chained_rule}
 
 -- ---- formulas in parentheses
@@ -174,7 +174,7 @@ module _ (size most : ℕ) (inner : Cut → ℕ → Parser RawForm) (at_zero : (
         joined_form f,
         k.0,
         record { tree = f; tight = o.0; ordered = o.1; means = refl; fits = fit_first c d f fs (FitsChain fs d) fit; spelled = k.1 },
-        inl (behind_word Implies (listed_text Implies fs) (λ ns. Made bare_form (ChainText d (raw_form f)) c v ns us) k.0 us (subst (λ ps. Takes ps k.0 us) (members_listed Implies fs) k.2)
+        inl (after_word Implies (listed_text Implies fs) (λ ns. Made bare_form (ChainText d (raw_form f)) c v ns us) k.0 us (subst (λ ps. Takes ps k.0 us) (members_listed Implies fs) k.2)
             (λ ns h. (raw_chain (place_of (raw_form f)) (raw_form f) fs, e, record { members = fs; ordered = o.2; means = refl; fits = fit_second c d f fs (FitsChain fs d) fit; spelled = h }))),
       )
   whole_of_tree d c v ts us (bare_all t f fs) tight o e fit s = below_whole d c v ts us (record { tree = bare_all t f fs; tight = tight; ordered = o; means = e; fits = fit; spelled = s }) (omega arith)

@@ -15,7 +15,7 @@ use Rattle.lrp_model.specs.RawQueries.{RawForm, raw, no_raws, place_of}
 use Rattle.lrp_text.proofs.Sound.{takes_join, takes_split, takes_front, takes_onto}
 use Rattle.lrp_query.specs.Rules.{Joined, raws}
 use Rattle.lrp_query.proofs.Languages.{FitsAt}
-use Rattle.lrp_query.proofs.WideRule.{Language, Front, Behind, Separated}
+use Rattle.lrp_query.proofs.WideRule.{Language, Front, AfterToken, Separated}
 
 abbrev pub Formula : Type 0
 Formula = WrittenFormula wide
@@ -82,13 +82,13 @@ unlawful P false e = tt
 -- ---- further members
 
 -- a token of parts, and what stands after it
-pub behind_part : (k : Token) (ps : List Part) (R : Tokens → Type 0) (ms us : Tokens) → Takes (any k ∷ ps) ms us → ((ns : Tokens) → Takes ps ns us → R ns) → Behind k R ms
-behind_part k ps R [] us h onward = absurd h
-behind_part k ps R (t ∷ ms) us h onward = (h.0, onward ms h.1)
+pub after_part : (k : Token) (ps : List Part) (R : Tokens → Type 0) (ms us : Tokens) → Takes (any k ∷ ps) ms us → ((ns : Tokens) → Takes ps ns us → R ns) → AfterToken k R ms
+after_part k ps R [] us h onward = absurd h
+after_part k ps R (t ∷ ms) us h onward = (h.0, onward ms h.1)
 
 -- the same of a reserved word
-pub behind_word : (w : Word) (ps : List Part) (R : Tokens → Type 0) (ms us : Tokens) → Takes (any (word_token w) ∷ ps) ms us → ((ns : Tokens) → Takes ps ns us → R ns) → Behind (word_token w) R ms
-behind_word w = behind_part (word_token w)
+pub after_word : (w : Word) (ps : List Part) (R : Tokens → Type 0) (ms us : Tokens) → Takes (any (word_token w) ∷ ps) ms us → ((ns : Tokens) → Takes ps ns us → R ns) → AfterToken (word_token w) R ms
+after_word w = after_part (word_token w)
 
 -- with the word between alone
 abbrev pub listed_text : Word → Further → List Part
@@ -133,11 +133,11 @@ pub members_back : (w : Word) (most d : ℕ) (c : Bool) (fs : Further) (ts us : 
 members_back w most d c (last f) ts us o fit s = record { tree = f; tight = o.0; ordered = o.1; means = refl; fits = fit; spelled = s }
 members_back w most d c (more f (last g)) ts us o fit s =
     let k = takes_split (formula_text f) (any (word_token w) ∷ formula_text g) ts us s in
-    (k.0, record { tree = f; tight = o.0; ordered = o.1; means = refl; fits = fit_first c d f (last g) (FitDepth (last g) d) fit; spelled = k.1 }, behind_word w (formula_text g) (λ ns. Wrote raw_form most d c (raw_form g) ns us) k.0 us k.2 (λ ns h. members_back w most d c (last g) ns us o.2 (fit_second c d f (last g) (FitDepth (last g) d) fit) h))
+    (k.0, record { tree = f; tight = o.0; ordered = o.1; means = refl; fits = fit_first c d f (last g) (FitDepth (last g) d) fit; spelled = k.1 }, after_word w (formula_text g) (λ ns. Wrote raw_form most d c (raw_form g) ns us) k.0 us k.2 (λ ns h. members_back w most d c (last g) ns us o.2 (fit_second c d f (last g) (FitDepth (last g) d) fit) h))
 members_back w most d c (more f (more g gs)) ts us o fit s =
     let rest : List Part = listed_text w (more g gs) in
     let k = takes_split (formula_text f) (any (word_token w) ∷ rest) ts us s in
-    (k.0, record { tree = f; tight = o.0; ordered = o.1; means = refl; fits = fit_first c d f (more g gs) (FitDepth (more g gs) d) fit; spelled = k.1 }, behind_word w rest (λ ns. Separated (Wrote raw_form most d c) (word_token w) (forms_of (more g gs)) ns us) k.0 us k.2 (λ ns h. members_back w most d c (more g gs) ns us o.2 (fit_second c d f (more g gs) (FitDepth (more g gs) d) fit) h))
+    (k.0, record { tree = f; tight = o.0; ordered = o.1; means = refl; fits = fit_first c d f (more g gs) (FitDepth (more g gs) d) fit; spelled = k.1 }, after_word w rest (λ ns. Separated (Wrote raw_form most d c) (word_token w) (forms_of (more g gs)) ns us) k.0 us k.2 (λ ns h. members_back w most d c (more g gs) ns us o.2 (fit_second c d f (more g gs) (FitDepth (more g gs) d) fit) h))
 
 -- ---- chains
 

@@ -36,7 +36,7 @@ use Rattle.lrp_query.specs.declared.trees.Quantifier.TheVariants.{Existential, U
 use Rattle.lrp_query.specs.declared.words.Leading.{Leading}
 use Rattle.lrp_query.specs.declared.words.Leading.TheVariants.{OfRange, OfPair}
 use Rattle.lrp_query.specs.declared.words.Opening.{Opening}
-use Rattle.lrp_query.specs.Rules.{FormulaTrees, Trees, BehindName, raw_terms, raw_formulas, cut_at, existing, holding, enclosed, enclosed_whole, quantified, formula_with, query_over, query_with, WideBehindName, Joined, Definition, whole, member_of, wide_formula_with, file_with}
+use Rattle.lrp_query.specs.Rules.{FormulaTrees, Trees, AfterName, raw_terms, raw_formulas, cut_at, existing, holding, enclosed, enclosed_whole, quantified, formula_with, query_over, query_with, WideAfterName, Joined, Definition, whole, member_of, wide_formula_with, file_with}
 use Rattle.lrp_query.specs.OperatorRules.{OperatorTrees, with_operators, with_wide_operators}
 
 -- formulas over raw terms, operators with these first words, and queries
@@ -57,16 +57,16 @@ module _ {R P F Q : Type 0} (make : Making R P F Q) where
   operators_made = record { word_of = make.word_of; number_of = integer_of; ranged = make.ranged; paired = make.paired }
 
   -- what stands after a name that begins a formula
-  abbrev pub behind_made : BehindName F
-  behind_made = with_operators trees_made operators_made
+  abbrev pub after_made : AfterName F
+  after_made = with_operators trees_made operators_made
 
   -- a formula of at most this depth; the second number bounds the turns of each list
   abbrev pub formula_made : ℕ → ℕ → Parser F
-  formula_made = formula_with trees_made behind_made
+  formula_made = formula_with trees_made after_made
 
   -- a query, and then the end
   abbrev pub query_made : ℕ → Parser Q
-  query_made = query_with trees_made behind_made
+  query_made = query_with trees_made after_made
 
 -- ---- the languages
 
@@ -101,17 +101,17 @@ meant = trees_made (raw_making first_order)
 abbrev pub operators_in : Language → OperatorTrees Ranged Paired ℤ RawForm
 operators_in l = operators_made (raw_making l)
 
-abbrev pub behind_in : Language → BehindName RawForm
-behind_in l = behind_made (raw_making l)
+abbrev pub after_in : Language → AfterName RawForm
+after_in l = after_made (raw_making l)
 
 -- ---- the wide language, whose formulas go on after one that stands alone
 
-abbrev pub wide_behind : WideBehindName RawForm
-wide_behind = with_wide_operators meant (operators_in wide)
+abbrev pub wide_after : WideAfterName RawForm
+wide_after = with_wide_operators meant (operators_in wide)
 
 -- one that stands alone, of at most this depth
 abbrev pub wide_formula : ℕ → ℕ → Parser RawForm
-wide_formula depth turns = wide_formula_with meant wide_behind depth turns
+wide_formula depth turns = wide_formula_with meant wide_after depth turns
 
 -- the same in each language
 abbrev pub formula_in : Language → ℕ → ℕ → Parser RawForm
@@ -138,10 +138,10 @@ part_in temporal depth turns = formula_in temporal depth turns
 part_in wide depth turns = member_of (wide_joined depth turns)
 
 -- what stands after a name that begins a formula, a quantifier, and formulas in parentheses, whose parts are at most so deep
-abbrev pub behind_at : Language → ℕ → ℕ → Identifier → Place → Parser RawForm
-behind_at first_order depth turns = behind_in first_order (formula_in first_order depth turns) turns
-behind_at temporal depth turns = behind_in temporal (formula_in temporal depth turns) turns
-behind_at wide depth turns = wide_behind (wide_formula depth turns) (member_of (wide_joined depth turns)) turns
+abbrev pub after_at : Language → ℕ → ℕ → Identifier → Place → Parser RawForm
+after_at first_order depth turns = after_in first_order (formula_in first_order depth turns) turns
+after_at temporal depth turns = after_in temporal (formula_in temporal depth turns) turns
+after_at wide depth turns = wide_after (wide_formula depth turns) (member_of (wide_joined depth turns)) turns
 
 abbrev pub existing_at : Language → ℕ → ℕ → Place → Parser RawForm
 existing_at first_order depth turns p = existing meant (formula_in first_order depth turns) p
@@ -188,7 +188,7 @@ raw_definition_read d = record { name = d.name; place = d.place; columns = d.col
 -- a file, and then the end
 abbrev pub file_in : ℕ → Parser RawFileView
 file_in turns = do
-  read ← file_with meant wide_behind turns
+  read ← file_with meant wide_after turns
   pure (record { definitions = map raw_definition_read read.0; query = read.1 })
 
 -- ---- bytes

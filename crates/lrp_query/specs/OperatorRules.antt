@@ -12,7 +12,7 @@ use Rattle.lrp_text.specs.IntegerRule.{integer}
 use Rattle.lrp_query.specs.declared.words.Leading.{Leading}
 use Rattle.lrp_query.specs.declared.words.Leading.TheVariants.{OfRange, OfPair}
 use Rattle.lrp_query.specs.declared.words.Opening.{Opening}
-use Rattle.lrp_query.specs.Rules.{Trees, BehindName, behind_name}
+use Rattle.lrp_query.specs.Rules.{Trees, AfterName, after_name}
 
 -- how operators are put together, those with an interval and those over two formulas
 pub record OperatorTrees (R P N F : Type 0) : Type 0 where
@@ -67,16 +67,16 @@ wide_operator make inner outer p (Some (OfPair word)) = paired make outer word p
 wide_operator make inner outer p None = fail Syntax
 
 -- after a name that begins a formula: an operator where another name follows, and else what stands there without operators
-unfoldable pub with_operators : {K T F Q R P N : Type 0} → Trees K T F Q → OperatorTrees R P N F → BehindName F
+unfoldable pub with_operators : {K T F Q R P N : Type 0} → Trees K T F Q → OperatorTrees R P N F → AfterName F
 with_operators make operators inner turns n p = do
   again ← look false is_name
-  if again then operator operators inner p (operators.word_of n) else behind_name false make turns n p
+  if again then operator operators inner p (operators.word_of n) else after_name false make turns n p
 
 -- the same in the wide language, where `inner` reads what `once` and `always` take, and `outer` what `since` and `until` take
-unfoldable pub with_wide_operators : {K T F Q R P N : Type 0} → Trees K T F Q → OperatorTrees R P N F → Parser F → BehindName F
+unfoldable pub with_wide_operators : {K T F Q R P N : Type 0} → Trees K T F Q → OperatorTrees R P N F → Parser F → AfterName F
 with_wide_operators make operators inner outer turns n p = do
   again ← look false is_name
-  if again then wide_operator operators inner outer p (operators.word_of n) else behind_name true make turns n p
+  if again then wide_operator operators inner outer p (operators.word_of n) else after_name true make turns n p
 
 -- ---- the same part by part, as it is read
 

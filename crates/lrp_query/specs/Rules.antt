@@ -222,8 +222,8 @@ atom_terms wide make turns n p = do
   pure (make.formulas.atom_of p n ts)
 
 -- after a name that begins a formula: an atom where a parenthesis follows, and else a term
-unfoldable pub behind_name : {K T F Q : Type 0} → Bool → Trees K T F Q → ℕ → Identifier → Place → Parser F
-behind_name wide make turns n p = do
+unfoldable pub after_name : {K T F Q : Type 0} → Bool → Trees K T F Q → ℕ → Identifier → Place → Parser F
+after_name wide make turns n p = do
   opens ← eat (is_symbol Open)
   if opens then atom_terms wide make turns n p else (do
     k ← named_term make.terms n
@@ -231,9 +231,9 @@ behind_name wide make turns n p = do
 
 -- a formula that begins with a name, and what stands after it
 unfoldable pub named : {F : Type 0} → (Identifier → Place → Parser F) → Parser F
-named behind = do
+named after = do
   n ← name
-  behind n.0 n.1
+  after n.0 n.1
 
 -- a formula that begins with a term other than a name, at its place
 unfoldable pub unnamed : {K T F Q : Type 0} → Bool → Trees K T F Q → Place → Parser F
@@ -294,8 +294,8 @@ alone make p f = do
   pure (make.formulas.parenthesis p f)
 
 -- what stands after a parenthesis and a formula
-unfoldable pub behind_first : {K T F Q : Type 0} → Trees K T F Q → Parser F → ℕ → Place → F → Parser F
-behind_first make inner turns p f = do
+unfoldable pub after_first : {K T F Q : Type 0} → Trees K T F Q → Parser F → ℕ → Place → F → Parser F
+after_first make inner turns p f = do
   implies ← eat (is_word Implies)
   if implies then implying make inner p f else (do
     ands ← eat (is_word And)
@@ -308,7 +308,7 @@ unfoldable pub enclosed : {K T F Q : Type 0} → Trees K T F Q → Parser F → 
 enclosed make inner turns p = do
   expect Open
   f ← inner
-  behind_first make inner turns p f
+  after_first make inner turns p f
 
 -- ---- formulas without parentheses
 
@@ -435,47 +435,47 @@ is_hole_token _ = false
 
 -- a formula that begins so, with others inside that are read so, and what stands after a name
 abbrev pub started : {K T F Q : Type 0} → Trees K T F Q → (Identifier → Place → Parser F) → Parser F → ℕ → Place → Start → Parser F
-started make behind inner turns p by_not = negated make inner p
-started make behind inner turns p by_exists = existing make inner p
-started make behind inner turns p by_forall = holding make inner p
-started make behind inner turns p by_open = enclosed make inner turns p
-started make behind inner turns p by_name = named behind
-started make behind inner turns p by_term = unnamed false make p
+started make after inner turns p by_not = negated make inner p
+started make after inner turns p by_exists = existing make inner p
+started make after inner turns p by_forall = holding make inner p
+started make after inner turns p by_open = enclosed make inner turns p
+started make after inner turns p by_name = named after
+started make after inner turns p by_term = unnamed false make p
 
 -- the same by its first token; a hole stands for none
 unfoldable pub formula_over : {K T F Q : Type 0} → Trees K T F Q → (Identifier → Place → Parser F) → Parser F → ℕ → Parser F
-formula_over make behind inner turns = do
+formula_over make after inner turns = do
   is_hole ← look false (λ t. is_hole_token t.token)
   if is_hole then fail Deep else (do
     p ← here
     s ← look by_term (λ t. start_of t.token)
-    started make behind inner turns p s)
+    started make after inner turns p s)
 
 -- the same of the wide language, where `inner` reads the formulas of each depth, and the number is the depth of those inside
 abbrev pub started_wide : {K T F Q : Type 0} → Trees K T F Q → (Identifier → Place → Parser F) → (ℕ → Parser F) → ℕ → ℕ → Place → Start → Parser F
-started_wide make behind inner depth turns p by_not = negated make (inner depth) p
-started_wide make behind inner depth turns p by_exists = expect_word Exists >> quantified make.formulas.existential inner depth turns p
-started_wide make behind inner depth turns p by_forall = expect_word Forall >> quantified make.formulas.universal inner depth turns p
-started_wide make behind inner depth turns p by_open = enclosed_whole make inner depth turns p
-started_wide make behind inner depth turns p by_name = named behind
-started_wide make behind inner depth turns p by_term = unnamed true make p
+started_wide make after inner depth turns p by_not = negated make (inner depth) p
+started_wide make after inner depth turns p by_exists = expect_word Exists >> quantified make.formulas.existential inner depth turns p
+started_wide make after inner depth turns p by_forall = expect_word Forall >> quantified make.formulas.universal inner depth turns p
+started_wide make after inner depth turns p by_open = enclosed_whole make inner depth turns p
+started_wide make after inner depth turns p by_name = named after
+started_wide make after inner depth turns p by_term = unnamed true make p
 
 unfoldable pub wide_formula_over : {K T F Q : Type 0} → Trees K T F Q → (Identifier → Place → Parser F) → (ℕ → Parser F) → ℕ → ℕ → Parser F
-wide_formula_over make behind inner depth turns = do
+wide_formula_over make after inner depth turns = do
   is_hole ← look false (λ t. is_hole_token t.token)
   if is_hole then fail Deep else (do
     p ← here
     s ← look by_term (λ t. start_of t.token)
-    started_wide make behind inner depth turns p s)
+    started_wide make after inner depth turns p s)
 
 -- what a grammar has after a name that begins a formula, from the parser of the formulas inside and a bound on the turns of each list
-abbrev pub BehindName : Type 0 → Type 0
-BehindName F = Parser F → ℕ → Identifier → Place → Parser F
+abbrev pub AfterName : Type 0 → Type 0
+AfterName F = Parser F → ℕ → Identifier → Place → Parser F
 
 -- a formula of at most this depth; the second number bounds the turns of each list
-unfoldable pub formula_with : {K T F Q : Type 0} → Trees K T F Q → BehindName F → ℕ → ℕ → Parser F
-formula_with make behind zero turns = accept make.cut
-formula_with make behind (suc depth) turns = formula_over make (behind (formula_with make behind depth turns) turns) (formula_with make behind depth turns) turns
+unfoldable pub formula_with : {K T F Q : Type 0} → Trees K T F Q → AfterName F → ℕ → ℕ → Parser F
+formula_with make after zero turns = accept make.cut
+formula_with make after (suc depth) turns = formula_over make (after (formula_with make after depth turns) turns) (formula_with make after depth turns) turns
 
 -- a query whose formula is read so, and then the end
 unfoldable pub query_over : {K T F Q : Type 0} → Trees K T F Q → Parser F → ℕ → Parser Q
@@ -489,63 +489,63 @@ query_over make inner turns = do
   pure (make.question cs f)
 
 -- a query of such formulas
-unfoldable pub query_with : {K T F Q : Type 0} → Trees K T F Q → BehindName F → ℕ → Parser Q
-query_with make behind turns = query_over make (formula_with make behind 64 turns) turns
+unfoldable pub query_with : {K T F Q : Type 0} → Trees K T F Q → AfterName F → ℕ → Parser Q
+query_with make after turns = query_over make (formula_with make after 64 turns) turns
 
 -- after a name nothing stands but an atom or a term
-abbrev pub plainly : {K T F Q : Type 0} → Trees K T F Q → BehindName F
-plainly make inner turns = behind_name false make turns
+abbrev pub plainly : {K T F Q : Type 0} → Trees K T F Q → AfterName F
+plainly make inner turns = after_name false make turns
 
 -- ---- the wide language
 
 -- the same of the wide language, from the parsers of a formula that stands alone and of any formula
-abbrev pub WideBehindName : Type 0 → Type 0
-WideBehindName F = Parser F → Parser F → ℕ → Identifier → Place → Parser F
+abbrev pub WideAfterName : Type 0 → Type 0
+WideAfterName F = Parser F → Parser F → ℕ → Identifier → Place → Parser F
 
 -- the parsers of formulas of each depth up to one: those of smaller depths are its parts, by more than one level where a chain or a quantifier goes down
-unfoldable pub wide_up_to : {K T F Q : Type 0} → Trees K T F Q → WideBehindName F → ℕ → ℕ → ℕ → Parser F
-wide_up_to make behind turns zero depth = accept make.cut
-wide_up_to make behind turns (suc most) depth =
-    let inner = wide_up_to make behind turns most in
-    if depth == suc most then wide_formula_over make (behind (inner most) (member_of (whole make inner most turns)) turns) inner most turns else inner depth
+unfoldable pub wide_up_to : {K T F Q : Type 0} → Trees K T F Q → WideAfterName F → ℕ → ℕ → ℕ → Parser F
+wide_up_to make after turns zero depth = accept make.cut
+wide_up_to make after turns (suc most) depth =
+    let inner = wide_up_to make after turns most in
+    if depth == suc most then wide_formula_over make (after (inner most) (member_of (whole make inner most turns)) turns) inner most turns else inner depth
 
 -- a formula that stands alone, of at most this depth; the second number bounds the turns of each list
-abbrev pub wide_formula_with : {K T F Q : Type 0} → Trees K T F Q → WideBehindName F → ℕ → ℕ → Parser F
-wide_formula_with make behind depth turns = wide_up_to make behind turns depth depth
+abbrev pub wide_formula_with : {K T F Q : Type 0} → Trees K T F Q → WideAfterName F → ℕ → ℕ → Parser F
+wide_formula_with make after depth turns = wide_up_to make after turns depth depth
 
 -- any formula, as the body of a query or a definition
-abbrev pub wide_whole_with : {K T F Q : Type 0} → Trees K T F Q → WideBehindName F → ℕ → Parser F
-wide_whole_with make behind turns = member_of (whole make (λ depth. wide_formula_with make behind depth turns) 64 turns)
+abbrev pub wide_whole_with : {K T F Q : Type 0} → Trees K T F Q → WideAfterName F → ℕ → Parser F
+wide_whole_with make after turns = member_of (whole make (λ depth. wide_formula_with make after depth turns) 64 turns)
 
 -- a query
-abbrev pub wide_query_with : {K T F Q : Type 0} → Trees K T F Q → WideBehindName F → ℕ → Parser Q
-wide_query_with make behind turns = query_over make (wide_whole_with make behind turns) turns
+abbrev pub wide_query_with : {K T F Q : Type 0} → Trees K T F Q → WideAfterName F → ℕ → Parser Q
+wide_query_with make after turns = query_over make (wide_whole_with make after turns) turns
 
 -- a definition
-unfoldable pub definition_with : {K T F Q : Type 0} → Trees K T F Q → WideBehindName F → ℕ → Parser (Definition F)
-definition_with make behind turns = do
+unfoldable pub definition_with : {K T F Q : Type 0} → Trees K T F Q → WideAfterName F → ℕ → Parser (Definition F)
+definition_with make after turns = do
   expect_named define_word
   n ← name
   expect Open
   cs ← listed column (is_symbol Comma) (is_symbol Close) turns
   expect Close
   expect_named as_word
-  f ← wide_whole_with make behind turns
+  f ← wide_whole_with make after turns
   expect Semicolon
   pure (record { name = n.0; place = n.1; columns = cs; body = f })
 
 -- those that come first, after those found
-unfoldable pub definitions_from : {K T F Q : Type 0} → Trees K T F Q → WideBehindName F → ℕ → ℕ → List (Definition F) → Parser (List (Definition F))
-definitions_from make behind zero turns found = fail Syntax
-definitions_from make behind (suc n) turns found = do
+unfoldable pub definitions_from : {K T F Q : Type 0} → Trees K T F Q → WideAfterName F → ℕ → ℕ → List (Definition F) → Parser (List (Definition F))
+definitions_from make after zero turns found = fail Syntax
+definitions_from make after (suc n) turns found = do
   defines ← look false (is_token_named define_word)
   if defines then (do
-    d ← definition_with make behind turns
-    definitions_from make behind n turns (found ++ d ∷ [])) else pure found
+    d ← definition_with make after turns
+    definitions_from make after n turns (found ++ d ∷ [])) else pure found
 
 -- the definitions and the query of a file
-unfoldable pub file_with : {K T F Q : Type 0} → Trees K T F Q → WideBehindName F → ℕ → Parser (List (Definition F) × Q)
-file_with make behind turns = do
-  ds ← definitions_from make behind turns turns []
-  q ← wide_query_with make behind turns
+unfoldable pub file_with : {K T F Q : Type 0} → Trees K T F Q → WideAfterName F → ℕ → Parser (List (Definition F) × Q)
+file_with make after turns = do
+  ds ← definitions_from make after turns turns []
+  q ← wide_query_with make after turns
   pure (ds, q)

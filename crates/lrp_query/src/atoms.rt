@@ -2,7 +2,7 @@
 ghost use Rattle.std.specs.Prelude.{◌≡◌, ◌≤◌, ◌<◌, ℕ, length, IfOk};
 ghost use Rattle.lrp_text.specs.Parsers.{Reads, accept};
 ghost use Rattle.lrp_query.specs.Reading.{ReadsAs, shown_op};
-ghost use Rattle.lrp_query.specs.Rules.{op_of as op_rule, point, comparing, differing, tested, atom_terms, behind_name, unnamed};
+ghost use Rattle.lrp_query.specs.Rules.{op_of as op_rule, point, comparing, differing, tested, atom_terms, after_name, unnamed};
 ghost use Rattle.lrp_query.specs.Grammars.{meant};
 ghost use Rattle.lrp_model.specs.RawQueries.{raw_form_of};
 
@@ -125,8 +125,8 @@ fn read_atom(
 }
 
 /// Reads what stands after a name that begins a formula, the name being given: an atom, a comparison or an `in`.
-#[tactic(auto, unfolding(crate::specs::Rules::behind_name))]
-pub fn read_behind_name(
+#[tactic(auto, unfolding(crate::specs::Rules::after_name))]
+pub fn read_after_name(
     alloc: Global,
     tokens: &mut TokenCursor<'_>,
     wide: bool,
@@ -134,7 +134,7 @@ pub fn read_behind_name(
     place: Place,
 ) -> Result<RawFormula, Fault>
     ensures value { (n : ℕ) → length tokens.old < n
-        → ReadsAs raw_form_of (behind_name wide meant n name place tokens.old) result
+        → ReadsAs raw_form_of (after_name wide meant n name place tokens.old) result
         tokens.new }
     ensures shorter { IfOk result (λ _. length tokens.new ≤ length tokens.old) }
 {

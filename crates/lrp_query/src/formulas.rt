@@ -3,13 +3,13 @@ ghost use Rattle.std.specs.Prelude.{◌≡◌, ◌<◌, ◌≤◌, ℕ, [], ◌�
 ghost use Rattle.lrp_text.specs.Parsers.{separated_from};
 ghost use Rattle.lrp_text.specs.Taking.{is_word};
 ghost use Rattle.lrp_query.specs.Reading.{ReadsAs, ReadsEach};
-ghost use Rattle.lrp_query.specs.Rules.{named, negated, behind_first, alone, implying, conjoined, disjoined};
+ghost use Rattle.lrp_query.specs.Rules.{named, negated, after_first, alone, implying, conjoined, disjoined};
 ghost use Rattle.lrp_query.specs.OperatorRules.{closed_by, ranged_parts, paired_parts};
-ghost use Rattle.lrp_query.specs.Grammars.{meant, operators_in, behind_at, existing_at, holding_at, enclosed_at, formula_in, formulas_in, part_in, whole_in, joined_of, quantified_by};
+ghost use Rattle.lrp_query.specs.Grammars.{meant, operators_in, after_at, existing_at, holding_at, enclosed_at, formula_in, formulas_in, part_in, whole_in, joined_of, quantified_by};
 ghost use Rattle.lrp_query.specs.Rules.{both, either, chained, member_of, quantified, closed_whole};
 ghost use Rattle.lrp_model.specs.RawQueries.{raw_form_of};
 
-use crate::atoms::{read_behind_name, read_unnamed};
+use crate::atoms::{read_after_name, read_unnamed};
 use crate::binders::{deeper, read_binders};
 use crate::grammar::Grammar;
 use crate::operators::{read_ends, read_variable};
@@ -187,13 +187,13 @@ fn read_enclosed<G: Grammar>(
         return read_closed_whole::<G>(alloc, tokens, depth, place);
     }
     let first = read_formula::<G>(alloc, tokens, depth)?;
-    read_behind_first::<G>(alloc, tokens, depth, place, first)
+    read_after_first::<G>(alloc, tokens, depth, place, first)
 }
 
 // What stands after a parenthesis and a formula.
 #[cycle(reading)]
-#[tactic(auto, unfolding(crate::specs::Rules::behind_first))]
-fn read_behind_first<G: Grammar>(
+#[tactic(auto, unfolding(crate::specs::Rules::after_first))]
+fn read_after_first<G: Grammar>(
     alloc: Global,
     tokens: &mut TokenCursor<'_>,
     depth: u32,
@@ -201,7 +201,7 @@ fn read_behind_first<G: Grammar>(
     first: RawFormula,
 ) -> Result<RawFormula, Fault>
     ensures value { (turns : ℕ) → length tokens.old < turns
-        → ReadsAs raw_form_of (behind_first meant (formula_in G.language depth turns)
+        → ReadsAs raw_form_of (after_first meant (formula_in G.language depth turns)
         turns place (raw_form_of first) tokens.old) result tokens.new }
     ensures fewer { IfOk result (λ _. length tokens.new < length tokens.old) }
 {
@@ -307,17 +307,17 @@ fn read_named<G: Grammar>(
     depth: u32,
 ) -> Result<RawFormula, Fault>
     ensures value { (turns : ℕ) → length tokens.old < turns
-        → ReadsAs raw_form_of (named (behind_at G.language depth turns) tokens.old) result
+        → ReadsAs raw_form_of (named (after_at G.language depth turns) tokens.old) result
         tokens.new }
     ensures fewer { IfOk result (λ _. length tokens.new < length tokens.old) }
 {
     let (name, place) = tokens.name(alloc)?;
-    read_behind::<G>(alloc, tokens, depth, name, place)
+    read_after::<G>(alloc, tokens, depth, name, place)
 }
 
 // What stands after a name that begins a formula: an operator where another name follows.
 #[cycle(reading)]
-fn read_behind<G: Grammar>(
+fn read_after<G: Grammar>(
     alloc: Global,
     tokens: &mut TokenCursor<'_>,
     depth: u32,
@@ -325,12 +325,12 @@ fn read_behind<G: Grammar>(
     place: Place,
 ) -> Result<RawFormula, Fault>
     ensures value { (turns : ℕ) → length tokens.old < turns
-        → ReadsAs raw_form_of (behind_at G.language depth turns name place tokens.old) result
+        → ReadsAs raw_form_of (after_at G.language depth turns name place tokens.old) result
         tokens.new }
     ensures shorter { IfOk result (λ _. length tokens.new ≤ length tokens.old) }
 {
     if !tokens.sees_name() {
-        return read_behind_name(alloc, tokens, G::is_wide(), name, place);
+        return read_after_name(alloc, tokens, G::is_wide(), name, place);
     }
     match G::word_of(&name) {
         Some(Leading::OfRange(word)) => read_ranged::<G>(alloc, tokens, depth, word, place),
@@ -398,15 +398,15 @@ fn read_closed<G: Grammar>(
     alloc: Global,
     tokens: &mut TokenCursor<'_>,
     depth: u32,
-    behind: Symbol,
+    after: Symbol,
 ) -> Result<RawFormula, Fault>
     ensures value { (turns : ℕ) → length tokens.old < turns
-        → ReadsAs raw_form_of (closed_by (part_in G.language depth turns) behind tokens.old) result
+        → ReadsAs raw_form_of (closed_by (part_in G.language depth turns) after tokens.old) result
         tokens.new }
     ensures fewer { IfOk result (λ _. length tokens.new < length tokens.old) }
 {
     let of = read_part::<G>(alloc, tokens, depth)?;
-    tokens.expect(behind)?;
+    tokens.expect(after)?;
     Ok(of)
 }
 

@@ -7,10 +7,10 @@ ghost use Rattle.lrp_model.specs.Lexing.{after, start};
 ghost use Rattle.lrp_model.specs.declared.faults.QueryKind.TheVariants.{Utf8};
 ghost use Rattle.lrp_model.specs.declared.faults.QueryRead.TheVariants.{Fault as fault_read};
 ghost use Rattle.lrp_query.specs.Lawful.{IsLawful};
-ghost use Rattle.lrp_query.specs.Grammars.{query_in, file_in, meant, wide_behind, read_definition_of, IsTextRead, IsTextUnread};
+ghost use Rattle.lrp_query.specs.Grammars.{query_in, file_in, meant, wide_after, read_definition_of, IsTextRead, IsTextUnread};
 ghost use Rattle.lrp_query.specs.Rules.{definition_with, definitions_from};
 ghost use Rattle.lrp_model.specs.Queries.{is_wide};
-ghost use Rattle.lrp_text.specs.Parsers.{left_behind};
+ghost use Rattle.lrp_text.specs.Parsers.{left_after};
 ghost use Rattle.lrp_query.specs.Reading.{ReadsAs, ReadsEach, refusal_of, IsUnread, IsFileUnread};
 ghost use Rattle.lrp_model.specs.Outcomes.{IsQueryOrMemory, IsFaultOrMemory};
 ghost use Rattle.lrp_model.specs.Limits.{most_bytes};
@@ -21,7 +21,7 @@ use lrp_model::{
     Fault, Memory, Place, QueryFault, QueryKind, QueryRead, RawDefinition, RawFile, RawQuery,
     Symbol,
 };
-use lrp_text::{TokenCursor, columns, place_behind};
+use lrp_text::{TokenCursor, columns, place_after};
 use std::alloc::Global;
 use std::str::from_utf8;
 
@@ -54,7 +54,7 @@ fn refusal(kind: Fault, place: Place) -> QueryRead
 #[tactic(auto, unfolding(crate::specs::Rules::query_over))]
 fn read_tokens<G: Grammar>(alloc: Global, tokens: &mut TokenCursor<'_>) -> Result<RawQuery, Fault>
     ensures { (turns : ℕ) → length tokens.old < turns → ReadsAs raw_question_of
-        (query_in G.language turns tokens.old) result (left_behind result tokens.new) }
+        (query_in G.language turns tokens.old) result (left_after result tokens.new) }
 {
     tokens.expect(Symbol::OpenBrace)?;
     let head = columns(alloc, tokens, Symbol::Bar)?;
@@ -87,7 +87,7 @@ fn not_utf8(bytes: &[u8], valid: usize) -> QueryRead
       place = after start (take valid bytes.now);
     }) }
 {
-    let place = place_behind(&bytes[..valid]);
+    let place = place_after(&bytes[..valid]);
     QueryRead::Fault {
         fault: QueryFault {
             kind: QueryKind::Utf8,
@@ -113,7 +113,7 @@ pub fn read_bytes<G: Grammar>(alloc: Global, bytes: &[u8]) -> Result<RawQuery, Q
 #[tactic(auto, unfolding(crate::specs::Rules::definition_with))]
 fn read_definition(alloc: Global, tokens: &mut TokenCursor<'_>) -> Result<RawDefinition, Fault>
     ensures value { (turns : ℕ) → length tokens.old < turns → ReadsAs read_definition_of
-        (definition_with meant wide_behind turns tokens.old) result tokens.new }
+        (definition_with meant wide_after turns tokens.old) result tokens.new }
     ensures fewer { IfOk result (λ _. length tokens.new < length tokens.old) }
 {
     tokens.expect_named(DEFINE)?;
@@ -145,7 +145,7 @@ fn read_definitions(
     tokens: &mut TokenCursor<'_>,
 ) -> Result<Vec<RawDefinition>, Fault>
     ensures value { (turns : ℕ) → length tokens.old < turns → ReadsEach read_definition_of
-        (definitions_from meant wide_behind turns turns [] tokens.old) result tokens.new }
+        (definitions_from meant wide_after turns turns [] tokens.old) result tokens.new }
     ensures shorter { IfOk result (λ _. length tokens.new ≤ length tokens.old) }
 {
     let mut found = Vec::new(alloc);
@@ -160,7 +160,7 @@ fn read_definitions(
 #[tactic(auto, unfolding(crate::specs::Rules::file_with))]
 fn read_file_tokens(alloc: Global, tokens: &mut TokenCursor<'_>) -> Result<RawFile, Fault>
     ensures { (turns : ℕ) → length tokens.old < turns → ReadsAs raw_file_of
-        (file_in turns tokens.old) result (left_behind result tokens.new) }
+        (file_in turns tokens.old) result (left_after result tokens.new) }
 {
     let definitions = read_definitions(alloc, tokens)?;
     let query = read_tokens::<Wide>(alloc, tokens)?;

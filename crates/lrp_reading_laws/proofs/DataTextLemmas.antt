@@ -47,7 +47,7 @@ use Rattle.lrp_model.specs.declared.tokens.Symbol.TheVariants.{Close, Bar, Close
 use Rattle.lrp_model.specs.declared.tokens.Word.{Word}
 use Rattle.lrp_model.specs.declared.tokens.Word.TheVariants.{And, Or, Implies}
 use Rattle.lrp_model.specs.declared.written.Located.{Located}
-use Rattle.lrp_text.proofs.NameTokens.{all_front, all_behind, all_tail}
+use Rattle.lrp_text.proofs.NameTokens.{all_front, all_after, all_tail}
 pub use Rattle.lrp_rel.proofs.TreeTexts.{takes_texted, TextPart, TextToken, tokens_texted}
 
 -- ---- terms
@@ -80,7 +80,7 @@ arguments_good (t ∷ []) h short = (argument_good t.place t.item h short.0, tt)
 arguments_good (t ∷ u ∷ us) h short =
     let first = located_text argument_text t in
     let rest = separated comma (located_text argument_text) (u ∷ us) in
-    (argument_good t.place t.item (all_front TextPart first (comma ∷ rest) h) short.0, arguments_good (u ∷ us) (all_tail TextPart comma rest (all_behind TextPart first (comma ∷ rest) h)) short.1)
+    (argument_good t.place t.item (all_front TextPart first (comma ∷ rest) h) short.0, arguments_good (u ∷ us) (all_tail TextPart comma rest (all_after TextPart first (comma ∷ rest) h)) short.1)
 
 -- a text among the data terms is one
 abbrev pub IsGoodData : DataTerm → Type 0

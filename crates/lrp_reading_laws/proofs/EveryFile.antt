@@ -15,7 +15,7 @@ use Rattle.lrp_model.specs.RawQueries.{RawFileView}
 use Rattle.lrp_model.specs.Refused.{Stops}
 use Rattle.lrp_model.specs.Tokens.{Tokens}
 use Rattle.lrp_text.specs.Parsers.{ParseOutcome, and_then, pure}
-use Rattle.lrp_text.proofs.Viable.{behind}
+use Rattle.lrp_text.proofs.Viable.{after_front}
 use Rattle.lrp_query.specs.Grammars.{file_in, meant, operators_in, raw_definition_read}
 use Rattle.lrp_query.proofs.FileTexts.{file_answered}
 use Rattle.lrp_query.proofs.FileRules.{FileText, file_rule}
@@ -53,7 +53,7 @@ module _ (bytes : List ℕ) (utf8 : IsUtf8 bytes) where
 
   -- where the parser stops
   stops_at : (k : TokenFault) (us : Tokens) → file_in turns all ≡ Err (k, us) → Stops FileTexts all (k, us)
-  stops_at k us e = behind (Texts FileText) FileTexts [] all all (k, us) refl (λ c x t. (t.1.tree, t.1.fits, t.1.spelled)) ((file_rule turns).viable all (k, us) (omega arith) e)
+  stops_at k us e = after_front (Texts FileText) FileTexts [] all all (k, us) refl (λ c x t. (t.1.tree, t.1.fits, t.1.spelled)) ((file_rule turns).viable all (k, us) (omega arith) e)
 
   by_outcome : (o : ParseOutcome RawFileView) → file_in turns all ≡ o → IsEither bytes
   by_outcome (Ok q) e = let w = (file_rule turns).sound all q e in of_tree w.tree (read_whole true file_text FitsFile file_inner bytes utf8 w.tree q.1 w.spelled w.fits)

@@ -30,7 +30,7 @@ use Rattle.lrp_reading_laws.proofs.QueryTurns.{same_plain, same_tense}
 
 -- the written tree of tokens, with this number of turns for each list
 abbrev read : (n : Narrow) → ℕ → Tokens → ParseOutcome (WrittenQuery (language_of n))
-read n turns = query_with (trees (grammar n)) (reader n).behind turns
+read n turns = query_with (trees (grammar n)) (reader n).after turns
 
 same_read : (n : Narrow) (ts : Tokens) (j k : ℕ) → length ts < j → length ts < k → read n j ts ≡ read n k ts
 same_read plain ts j k a b = same_plain (trees (grammar plain)) ts j k a b
@@ -64,14 +64,14 @@ module _ (n : Narrow) (bytes : List ℕ) (utf8 : IsUtf8 bytes) where
 
   by_outcome : (o : ParseOutcome (WrittenQuery (language_of n))) → read n turns all ≡ o → IsEither n bytes
   by_outcome (Ok q) e =
-      let k = query_sound (grammar n) (reader n).behind (reader n).rules turns all q e in
+      let k = query_sound (grammar n) (reader n).after (reader n).rules turns all q e in
       of_tree q.0 (read_whole false query_text FitsQuery query_inner bytes utf8 q.0 q.1 k.0 k.1)
   by_outcome (Err (k, [])) e =
-      let stops : Stops (TextsIn (language_of n)) all (k, []) = query_viable (grammar n) (reader n).behind (reader n).rules turns all (k, []) (omega arith) e in
+      let stops : Stops (TextsIn (language_of n)) all (k, []) = query_viable (grammar n) (reader n).after (reader n).rules turns all (k, []) (omega arith) e in
       let t = stopped_after_all false query_text FitsQuery query_inner bytes utf8 k stops in
       of_tree t.0 t.1
   by_outcome (Err (k, b ∷ us)) e =
-      let stops : Stops (TextsIn (language_of n)) all (k, b ∷ us) = query_viable (grammar n) (reader n).behind (reader n).rules turns all (k, b ∷ us) (omega arith) e in
+      let stops : Stops (TextsIn (language_of n)) all (k, b ∷ us) = query_viable (grammar n) (reader n).after (reader n).rules turns all (k, b ∷ us) (omega arith) e in
       inr (fault_there k (b ∷ us) (stops_there k (b ∷ us) e) (stands_there false query_text FitsQuery query_inner bytes utf8 k b us stops) (never_memory (TextsIn (language_of n)) all (b ∷ us) k stops))
 
 pub every_query : (n : Narrow) (bytes : List ℕ) → IsEither n bytes

@@ -34,7 +34,7 @@ use Rattle.lrp_model.specs.declared.tokens.Symbol.TheVariants.{Open, Close, Open
 use Rattle.lrp_model.proofs.Logic.{all_append}
 use Rattle.lrp_tense.specs.Expanding.{operators, operator_number, name_term, expanded_question}
 use Rattle.lrp_text.proofs.Cuts.{skip_cut, skip_rest, scan_cut_in, scan_rest_in}
-use Rattle.lrp_text.proofs.NameTokens.{all_front, all_behind}
+use Rattle.lrp_text.proofs.NameTokens.{all_front, all_after}
 use Rattle.lrp_text.proofs.Scans.{chosen}
 use Rattle.lrp_rel.proofs.TreeTexts.{TextToken, TextPart, scan_texted, headed_texted, takes_texted}
 use Rattle.lrp_wide.specs.Inlining.{UseSetting, Known, Passed, itself, equal, own_setting, set_kind, set_term, star_variable, star_total, star_columns, star_terms, some_each, starred_atom, plain_variable, pass_variable, passed, passed_name, compared_columns, with_comparisons, compared_form, counted_from, counted_in, use_form, inlined_atom, known_named, without_relation, meant_by, inlined, inlined_each, plain_definition, known_with, known_of, expanded_file}
@@ -99,8 +99,8 @@ tokens_texted_in flag (suc n) p bs u =
     let a = skip false p bs in
     let s = scan_in flag a.bytes in
     let here : IsUtf8 a.bytes = subst IsUtf8 (skip_rest p bs) (IsUtf8-drop bs (length bs - length a.bytes) u (skip_cut p bs u)) in
-    let behind : IsUtf8 s.left = subst IsUtf8 (scan_rest_in flag a.bytes) (IsUtf8-drop a.bytes (length a.bytes - length s.left) here (scan_cut_in flag a.bytes here)) in
-    headed_texted a.place s s.token (tokens_in_from flag n (after a.place s.taken) s.left) (scan_texted_in flag a.bytes here) (tokens_texted_in flag n (after a.place s.taken) s.left behind)
+    let afterwards : IsUtf8 s.left = subst IsUtf8 (scan_rest_in flag a.bytes) (IsUtf8-drop a.bytes (length a.bytes - length s.left) here (scan_cut_in flag a.bytes here)) in
+    headed_texted a.place s s.token (tokens_in_from flag n (after a.place s.taken) s.left) (scan_texted_in flag a.bytes here) (tokens_texted_in flag n (after a.place s.taken) s.left afterwards)
 
 -- ---- the texts of a file
 
@@ -114,18 +114,18 @@ record IsGoodFile (f : RawFileView) : Type 0 where
 query_good : (q : WrittenQuery wide) → AllByRecursion TextPart (query_text q) → FitsSizes q.body → HasGoodTexts (raw_form q.body)
 query_good q h short =
     let end = any (symbol_token CloseBrace) ∷ any end_token ∷ [] in
-    let behind = any (symbol_token Bar) ∷ (formula_text q.body ++ end) in
-    written_good q.body (all_front TextPart (formula_text q.body) end (all_behind TextPart (separated comma column_text q.head) behind h.1).1) short
+    let afterwards = any (symbol_token Bar) ∷ (formula_text q.body ++ end) in
+    written_good q.body (all_front TextPart (formula_text q.body) end (all_after TextPart (separated comma column_text q.head) afterwards h.1).1) short
 
 definition_good : (d : WrittenDefinition wide) → AllByRecursion TextPart (definition_text d) → FitsDefinition d → DefinesGood (raw_definition d)
 definition_good d h fits =
     let end = any (symbol_token Semicolon) ∷ [] in
-    let behind = any (symbol_token Close) ∷ any (name_token as_word) ∷ (formula_text d.body ++ end) in
-    written_good d.body (all_front TextPart (formula_text d.body) end (all_behind TextPart (separated comma column_text d.columns) behind h.1.1.1).1.1) fits.sizes
+    let afterwards = any (symbol_token Close) ∷ any (name_token as_word) ∷ (formula_text d.body ++ end) in
+    written_good d.body (all_front TextPart (formula_text d.body) end (all_after TextPart (separated comma column_text d.columns) afterwards h.1.1.1).1.1) fits.sizes
 
 definitions_good : (ds : List (WrittenDefinition wide)) → AllByRecursion TextPart (flat_map definition_text ds) → AllByRecursion FitsDefinition ds → AllByRecursion DefinesGood (map raw_definition ds)
 definitions_good [] h fits = tt
-definitions_good (d ∷ ds) h fits = (definition_good d (all_front TextPart (definition_text d) (flat_map definition_text ds) h) fits.0, definitions_good ds (all_behind TextPart (definition_text d) (flat_map definition_text ds) h) fits.1)
+definitions_good (d ∷ ds) h fits = (definition_good d (all_front TextPart (definition_text d) (flat_map definition_text ds) h) fits.0, definitions_good ds (all_after TextPart (definition_text d) (flat_map definition_text ds) h) fits.1)
 
 file_good : (bytes : List ℕ) (f : RawFileView) → IsFile bytes f → IsGoodFile f
 file_good bytes f is =
@@ -134,7 +134,7 @@ file_good bytes f is =
     let parts = takes_texted (file_text tree) (tokens_in true bytes) [] is.text.spelled (tokens_texted_in true (suc (length bytes)) start bytes is.text.utf8) in
     subst IsGoodFile (sym is.meant) (record {
       definitions = definitions_good tree.definitions (all_front TextPart all (query_text tree.query) parts) is.text.lawful.definitions;
-      query = query_good tree.query (all_behind TextPart all (query_text tree.query) parts) is.text.lawful.query.sizes;
+      query = query_good tree.query (all_after TextPart all (query_text tree.query) parts) is.text.lawful.query.sizes;
     })
 
 -- ---- uses and `*` that are written out

@@ -41,7 +41,7 @@ use Rattle.lrp_model.specs.declared.tokens.Word.TheVariants.{And, Or, Implies}
 use Rattle.lrp_model.specs.declared.written.Located.{Located}
 use Rattle.lrp_tense.specs.Expanding.{Naming, renamed, renamed_kind, expanded, expanded_each, expanded_question, moment_of, between_of, renamed_to, operator_number, operators}
 use Rattle.lrp_tense.specs.TenseReading.{IsTenseQuery}
-use Rattle.lrp_text.proofs.NameTokens.{all_front, all_behind}
+use Rattle.lrp_text.proofs.NameTokens.{all_front, all_after}
 use Rattle.lrp_reading_laws.proofs.DataTextLemmas.{TextPart, takes_texted, tokens_texted, IsGood, IsGoodArgument, term_good, arguments_good, IsGoodData, nothing_good, IsEntry, both, term_entry, test_entries, database_entries}
 
 -- ---- terms
@@ -180,45 +180,45 @@ mutual
   written_good (atom_formula p n ts) h short = kinds_good ts (arguments_good ts (all_front TextPart (separated comma (located_text argument_text) ts) (any (symbol_token Close) ∷ []) h.1.1) short)
   written_good (compared l op r) h short = (
     located_good l (all_front TextPart (located_text term_text l) (any (symbol_token (op_symbol op)) ∷ located_text term_text r) h) short.0,
-    located_good r (all_behind TextPart (located_text term_text l) (any (symbol_token (op_symbol op)) ∷ located_text term_text r) h).1 short.1,
+    located_good r (all_after TextPart (located_text term_text l) (any (symbol_token (op_symbol op)) ∷ located_text term_text r) h).1 short.1,
   )
   written_good (member t i k) h short = tt
   written_good (denied p f) h short = written_good f h.1 short
   written_good (all_of p f fs) h short =
-      let behind = members_text And fs ++ any (symbol_token Close) ∷ [] in
-      (written_good f (all_front TextPart (formula_text f) behind h.1) short.0, members_good fs And (all_front TextPart (members_text And fs) (any (symbol_token Close) ∷ []) (all_behind TextPart (formula_text f) behind h.1)) short.1)
+      let after = members_text And fs ++ any (symbol_token Close) ∷ [] in
+      (written_good f (all_front TextPart (formula_text f) after h.1) short.0, members_good fs And (all_front TextPart (members_text And fs) (any (symbol_token Close) ∷ []) (all_after TextPart (formula_text f) after h.1)) short.1)
   written_good (any_of p f fs) h short =
-      let behind = members_text Or fs ++ any (symbol_token Close) ∷ [] in
-      (written_good f (all_front TextPart (formula_text f) behind h.1) short.0, members_good fs Or (all_front TextPart (members_text Or fs) (any (symbol_token Close) ∷ []) (all_behind TextPart (formula_text f) behind h.1)) short.1)
+      let after = members_text Or fs ++ any (symbol_token Close) ∷ [] in
+      (written_good f (all_front TextPart (formula_text f) after h.1) short.0, members_good fs Or (all_front TextPart (members_text Or fs) (any (symbol_token Close) ∷ []) (all_after TextPart (formula_text f) after h.1)) short.1)
   written_good (implied p f g) h short =
       let end = any (symbol_token Close) ∷ [] in
-      let behind = any (word_token Implies) ∷ (formula_text g ++ end) in
-      (written_good f (all_front TextPart (formula_text f) behind h.1) short.0, written_good g (all_front TextPart (formula_text g) end (all_behind TextPart (formula_text f) behind h.1).1) short.1)
+      let after = any (word_token Implies) ∷ (formula_text g ++ end) in
+      (written_good f (all_front TextPart (formula_text f) after h.1) short.0, written_good g (all_front TextPart (formula_text g) end (all_after TextPart (formula_text f) after h.1).1) short.1)
   written_good (group p f) h short = written_good f (all_front TextPart (formula_text f) (any (symbol_token Close) ∷ []) h.1) short
-  written_good (some p c f) h short = written_good f (all_behind TextPart (column_text c) (formula_text f) h.1) short
-  written_good (every p c f) h short = written_good f (all_behind TextPart (column_text c) (formula_text f) h.1) short
-  written_good (ranged t word o from to f) h short = written_good f (all_behind TextPart (interval_text from to) (formula_text f) h.1.1.1) short.2
+  written_good (some p c f) h short = written_good f (all_after TextPart (column_text c) (formula_text f) h.1) short
+  written_good (every p c f) h short = written_good f (all_after TextPart (column_text c) (formula_text f) h.1) short
+  written_good (ranged t word o from to f) h short = written_good f (all_after TextPart (interval_text from to) (formula_text f) h.1.1.1) short.2
   written_good (paired t word o f g) h short =
       let end = any (symbol_token Close) ∷ [] in
-      let behind = any (symbol_token Comma) ∷ (formula_text g ++ end) in
-      (written_good f (all_front TextPart (formula_text f) behind h.1.1.1) short.0, written_good g (all_front TextPart (formula_text g) end (all_behind TextPart (formula_text f) behind h.1.1.1).1) short.1)
+      let after = any (symbol_token Comma) ∷ (formula_text g ++ end) in
+      (written_good f (all_front TextPart (formula_text f) after h.1.1.1) short.0, written_good g (all_front TextPart (formula_text g) end (all_after TextPart (formula_text f) after h.1.1.1).1) short.1)
   written_good (differing t l r) h short = (
     located_good l (all_front TextPart (located_text term_text l) (any (symbol_token Differs) ∷ located_text term_text r) h) short.0,
-    located_good r (all_behind TextPart (located_text term_text l) (any (symbol_token Differs) ∷ located_text term_text r) h).1 short.1,
+    located_good r (all_after TextPart (located_text term_text l) (any (symbol_token Differs) ∷ located_text term_text r) h).1 short.1,
   )
   written_good (several t q p ns c f) h short =
       let names = names_text (ns.first ∷ ns.others) in
-      several_good q p (ns.first ∷ ns.others) c (raw_form f) (written_good f (all_behind TextPart (column_text c) (formula_text f) (all_behind TextPart names (column_text c ++ formula_text f) h.1)) short)
-  written_good (bare_all t f fs) h short = (written_good f (all_front TextPart (formula_text f) (members_text And fs) h) short.0, members_good fs And (all_behind TextPart (formula_text f) (members_text And fs) h) short.1)
-  written_good (bare_any t f fs) h short = (written_good f (all_front TextPart (formula_text f) (members_text Or fs) h) short.0, members_good fs Or (all_behind TextPart (formula_text f) (members_text Or fs) h) short.1)
+      several_good q p (ns.first ∷ ns.others) c (raw_form f) (written_good f (all_after TextPart (column_text c) (formula_text f) (all_after TextPart names (column_text c ++ formula_text f) h.1)) short)
+  written_good (bare_all t f fs) h short = (written_good f (all_front TextPart (formula_text f) (members_text And fs) h) short.0, members_good fs And (all_after TextPart (formula_text f) (members_text And fs) h) short.1)
+  written_good (bare_any t f fs) h short = (written_good f (all_front TextPart (formula_text f) (members_text Or fs) h) short.0, members_good fs Or (all_after TextPart (formula_text f) (members_text Or fs) h) short.1)
   written_good (bare_chain t f fs) h short =
-      chain_good (place_of (raw_form f)) (raw_form f) fs (written_good f (all_front TextPart (formula_text f) (members_text Implies fs) h) short.0) (all_behind TextPart (formula_text f) (members_text Implies fs) h) short.1
+      chain_good (place_of (raw_form f)) (raw_form f) fs (written_good f (all_front TextPart (formula_text f) (members_text Implies fs) h) short.0) (all_after TextPart (formula_text f) (members_text Implies fs) h) short.1
   written_good (chain t p f g fs) h short =
       let further = members_text Implies fs ++ any (symbol_token Close) ∷ [] in
-      let behind = any (word_token Implies) ∷ (formula_text g ++ further) in
-      let last = (all_behind TextPart (formula_text f) behind h.1).1 in (
-        written_good f (all_front TextPart (formula_text f) behind h.1) short.0,
-        chain_good (place_of (raw_form g)) (raw_form g) fs (written_good g (all_front TextPart (formula_text g) further last) short.1) (all_front TextPart (members_text Implies fs) (any (symbol_token Close) ∷ []) (all_behind TextPart (formula_text g) further last)) short.2,
+      let after = any (word_token Implies) ∷ (formula_text g ++ further) in
+      let last = (all_after TextPart (formula_text f) after h.1).1 in (
+        written_good f (all_front TextPart (formula_text f) after h.1) short.0,
+        chain_good (place_of (raw_form g)) (raw_form g) fs (written_good g (all_front TextPart (formula_text g) further last) short.1) (all_front TextPart (members_text Implies fs) (any (symbol_token Close) ∷ []) (all_after TextPart (formula_text g) further last)) short.2,
       )
   written_good (hole p) h short = tt
 
@@ -226,11 +226,11 @@ mutual
   chain_good : {l : Language} (p : Place) (f : RawForm) (fs : FurtherMembers l) → HasGoodTexts f → AllByRecursion TextPart (members_text Implies fs) → FitSizes fs → HasGoodTexts (raw_chain p f fs)
   chain_good p f (last g) k h short = (k, written_good g h.1 short)
   chain_good p f (more g gs) k h short =
-      (k, chain_good (place_of (raw_form g)) (raw_form g) gs (written_good g (all_front TextPart (formula_text g) (members_text Implies gs) h.1) short.0) (all_behind TextPart (formula_text g) (members_text Implies gs) h.1) short.1)
+      (k, chain_good (place_of (raw_form g)) (raw_form g) gs (written_good g (all_front TextPart (formula_text g) (members_text Implies gs) h.1) short.0) (all_after TextPart (formula_text g) (members_text Implies gs) h.1) short.1)
 
   members_good : {l : Language} (fs : FurtherMembers l) (w : Word) → AllByRecursion TextPart (members_text w fs) → FitSizes fs → HaveGoodTexts (raw_forms fs)
   members_good (last f) w h short = (written_good f h.1 short, tt)
-  members_good (more f fs) w h short = (written_good f (all_front TextPart (formula_text f) (members_text w fs) h.1) short.0, members_good fs w (all_behind TextPart (formula_text f) (members_text w fs) h.1) short.1)
+  members_good (more f fs) w h short = (written_good f (all_front TextPart (formula_text f) (members_text w fs) h.1) short.0, members_good fs w (all_after TextPart (formula_text f) (members_text w fs) h.1) short.1)
 
 -- ---- a query
 
@@ -242,7 +242,7 @@ body_good l bytes q is =
     let end = any (symbol_token CloseBrace) ∷ any end_token ∷ [] in
     let columns = separated comma column_text tree.head in
     let parts = takes_texted (query_text tree) (tokens bytes) [] is.text.spelled (tokens_texted (suc (length bytes)) start bytes is.text.utf8) in
-    let inside = all_behind TextPart columns (any (symbol_token Bar) ∷ (body ++ end)) parts.1 in
+    let inside = all_after TextPart columns (any (symbol_token Bar) ∷ (body ++ end)) parts.1 in
     subst (λ (r : RawQuestion). HasGoodTexts r.body) (sym is.meant) (written_good tree.body (all_front TextPart body end inside.1) is.text.lawful.sizes)
 
 -- and so are those of a database and the query

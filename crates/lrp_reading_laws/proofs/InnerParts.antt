@@ -29,7 +29,7 @@ use Rattle.lrp_model.specs.Queries.WrittenTerm.{integer, text_term, variable, sh
 use Rattle.lrp_model.specs.Queries.WrittenArgument.{argument, star}
 use Rattle.lrp_model.specs.Queries.WrittenFormula.{atom_formula, compared, member, denied, all_of, any_of, implied, group, some, every, ranged, paired, differing, several, bare_all, bare_any, bare_chain, chain, hole}
 use Rattle.lrp_model.specs.Queries.FurtherMembers.{last, more}
-use Rattle.lrp_text.specs.Sources.{HasTokensBehind}
+use Rattle.lrp_text.specs.Sources.{HasTokensAfter}
 use Rattle.lrp_edits.specs.declared.edits.RawEdit.{RawEdit}
 use Rattle.lrp_edits.specs.EditTexts.{change_part, edit_text, edits_text}
 use Rattle.lrp_reading_laws.proofs.LastTokens.{AllGo, IsClosed}
@@ -38,8 +38,8 @@ use Rattle.lrp_reading_laws.proofs.LastTokens.{AllGo, IsClosed}
 
 -- a part whose token others follow
 abbrev IsInner : Part → Type 0
-IsInner (at p k) = HasTokensBehind k
-IsInner (any k) = HasTokensBehind k
+IsInner (at p k) = HasTokensAfter k
+IsInner (any k) = HasTokensAfter k
 
 abbrev Inner : List Part → Type 0
 Inner = AllByRecursion IsInner
@@ -62,9 +62,9 @@ before [] qs all rest = rest
 before (p ∷ ps) qs all rest = one_more p (ps ++ qs) all.0 (before ps qs all.1 rest)
 
 -- others follow the token of an inner part
-token_goes : (p : Part) (t : Placed) → IsInner p → IsPart p t → HasTokensBehind t.token
-token_goes (at q k) t inner is = subst HasTokensBehind (sym is.0) inner
-token_goes (any k) t inner is = subst HasTokensBehind (sym is) inner
+token_goes : (p : Part) (t : Placed) → IsInner p → IsPart p t → HasTokensAfter t.token
+token_goes (at q k) t inner is = subst HasTokensAfter (sym is.0) inner
+token_goes (any k) t inner is = subst HasTokensAfter (sym is) inner
 
 -- so they follow all tokens that are spelled before another one
 pub goes_before : (ps : List Part) (ts : Tokens) (m : Placed) (ms : Tokens) → EndsText ps → Spells ps (ts ++ m ∷ ms) → AllGo ts
@@ -106,7 +106,7 @@ flat_inner spell each (a ∷ all) = joined (spell a) (flat_map spell all) (each 
 
 -- ---- columns and integers
 
-sort_goes : (s : Sort) → HasTokensBehind (sort_token s)
+sort_goes : (s : Sort) → HasTokensAfter (sort_token s)
 sort_goes Time = tt
 sort_goes Data = tt
 sort_goes (Named n) = tt

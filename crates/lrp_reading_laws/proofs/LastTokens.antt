@@ -6,11 +6,11 @@ use Rattle.lrp_model.specs.declared.tokens.Place.{Place}
 use Rattle.lrp_model.specs.Limits.{greatest_number}
 use Rattle.lrp_model.specs.Tokens.{Token, Placed, Tokens}
 use Rattle.lrp_model.specs.Tokens.Token.{name_token, word_token, number_token, text_token, symbol_token, end_token, bad_token, hole_token}
-use Rattle.lrp_model.specs.Lexing.{At, Scanned, after, skip, scan_in, headed, tokens_in_from, tokens_in, start}
+use Rattle.lrp_model.specs.Lexing.{Remainder, Scanned, after, skip, scan_in, headed, tokens_in_from, tokens_in, start}
 use Rattle.lrp_text.specs.declared.lexemes.Lexeme.{Lexeme}
 use Rattle.lrp_text.specs.declared.lexemes.Lexeme.TheVariants.{Name, Word, Number, LargeNumber, Text, LongText, Symbol, End, Bad}
 use Rattle.lrp_text.specs.Lexemes.{IsSaid}
-use Rattle.lrp_text.specs.Sources.{next_of, Stands, HasTokensBehind}
+use Rattle.lrp_text.specs.Sources.{next_of, Stands, HasTokensAfter}
 use Rattle.lrp_text.proofs.Cuts.{skip_shorter, scan_size}
 use Rattle.lrp_text.proofs.Scans.{ends_some, scan_taken_in}
 use Rattle.lrp_text.proofs.Standing.{text_slice}
@@ -46,7 +46,7 @@ number_there n p rest (inl large) = no_text LargeNumber [] (number_token n) p re
 number_there n p rest (inr fits) = no_text (Number n) [] (number_token n) p rest (refl, fits) (λ t e. cc) (λ e. cc)
 
 -- at a text, whose slice by itself is that text
-text_there : (wide : Bool) (old : At) (t : List ℕ) (p : Place) (rest : Tokens) → (next_of wide old).token ≡ text_token t → (255 < length t) ⊎ (length t ≤ 255) → Something (first (text_token t) p rest)
+text_there : (wide : Bool) (old : Remainder) (t : List ℕ) (p : Place) (rest : Tokens) → (next_of wide old).token ≡ text_token t → (255 < length t) ⊎ (length t ≤ 255) → Something (first (text_token t) p rest)
 text_there wide old t p rest e (inl long) = record {
   lexeme = LongText;
   slice = (next_of wide old).taken;
@@ -61,7 +61,7 @@ text_there wide old t p rest e (inr fits) = record {
 }
 
 -- at any token that is no hole, where nothing follows the end
-token_there : (wide : Bool) (old : At) (k : Token) (p : Place) (rest : Tokens) → (next_of wide old).token ≡ k → is_hole_token k ≡ false → (k ≡ end_token → rest ≡ []) → Something (first k p rest)
+token_there : (wide : Bool) (old : Remainder) (k : Token) (p : Place) (rest : Tokens) → (next_of wide old).token ≡ k → is_hole_token k ≡ false → (k ≡ end_token → rest ≡ []) → Something (first k p rest)
 token_there wide old (name_token n) p rest e real last = no_text Name n (name_token n) p rest refl (λ t d. cc) last
 token_there wide old (word_token w) p rest e real last = no_text (Word w) [] (word_token w) p rest refl (λ t d. cc) last
 token_there wide old (number_token n) p rest e real last = number_there n p rest (cases_lt greatest_number n)
@@ -107,7 +107,7 @@ tails : (a b : Placed) (xs ys : Tokens) → a ∷ xs ≡ b ∷ ys → xs ≡ ys
 tails a b xs ys e = cc
 
 -- what is left after some tokens begins at the first of them, or at one of the others
-back_there : (wide : Bool) (old : At) (k : Token) (whole rest : Tokens) → Headed whole k rest → (next_of wide old).token ≡ k → (front us : Tokens) → whole ≡ front ++ us → NoHoles us → (us ≡ [] → ⊥) → ((others : Tokens) → rest ≡ others ++ us → Something us) → Something us
+back_there : (wide : Bool) (old : Remainder) (k : Token) (whole rest : Tokens) → Headed whole k rest → (next_of wide old).token ≡ k → (front us : Tokens) → whole ≡ front ++ us → NoHoles us → (us ≡ [] → ⊥) → ((others : Tokens) → rest ≡ others ++ us → Something us) → Something us
 back_there wide old k whole rest h token [] us e clean some again =
     let there : us ≡ first k h.place h.follow = sym e ∙ h.is in
     let real : is_hole_token k ≡ false = (subst NoHoles there clean).0 in
@@ -124,7 +124,7 @@ left_there : (wide : Bool) (n : ℕ) (p : Place) (bs : List ℕ) (front us : Tok
 unfolding tokens_in_from
 left_there wide zero p bs front us e clean some = absurd (some (nothing_left front us e))
 left_there wide (suc n) p bs front us e clean some =
-    let old : At = record { place = p; bytes = bs } in
+    let old : Remainder = record { place = p; bytes = bs } in
     let a = skip false p bs in
     let s = scan_in wide a.bytes in
     let rest = tokens_in_from wide n (after a.place s.taken) s.left in
@@ -142,7 +142,7 @@ something_left wide bytes front us e some = left_there wide (suc (length bytes))
 
 -- others may follow each of them
 abbrev pub AllGo : Tokens → Type 0
-AllGo = AllByRecursion (λ t. HasTokensBehind t.token)
+AllGo = AllByRecursion (λ t. HasTokensAfter t.token)
 
 -- not after the end or a bad byte
 ends_all : (p : Place) (s : Scanned) (k : Token) (rest : Tokens) → (k ≡ bad_token) ⊎ ((k ≡ end_token) ⊎ (AllGo rest → ⊥)) → AllGo (headed p s k rest) → ⊥

@@ -19,7 +19,7 @@ use Rattle.lrp_query.specs.declared.starts.Start.{Start}
 use Rattle.lrp_query.specs.declared.starts.Start.TheVariants.{Not as by_not, Exists as by_exists, Forall as by_forall, Open as by_open, Name as by_name, Term as by_term}
 use Rattle.lrp_query.specs.declared.words.Leading.{Leading}
 use Rattle.lrp_query.specs.declared.words.Leading.TheVariants.{OfRange, OfPair}
-use Rattle.lrp_query.specs.Rules.{Trees, TermTrees, BehindName, WideBehindName, Definition, Joined, star_or_term, term, named_term, unnamed_term, argument, differing, tested, atom_terms, behind_name, named, unnamed, negated, existing, holding, implying, conjoined, disjoined, alone, behind_first, enclosed, both, member_of, either, last_link, chained, whole, closed_whole, enclosed_whole, names_from, binders_rule, quantified, start_of, is_hole_token, started, formula_over, started_wide, wide_formula_over, formula_with, query_over, query_with, plainly, wide_up_to, wide_formula_with, wide_whole_with, wide_query_with, definition_with, definitions_from, file_with}
+use Rattle.lrp_query.specs.Rules.{Trees, TermTrees, AfterName, WideAfterName, Definition, Joined, star_or_term, term, named_term, unnamed_term, argument, differing, tested, atom_terms, after_name, named, unnamed, negated, existing, holding, implying, conjoined, disjoined, alone, after_first, enclosed, both, member_of, either, last_link, chained, whole, closed_whole, enclosed_whole, names_from, binders_rule, quantified, start_of, is_hole_token, started, formula_over, started_wide, wide_formula_over, formula_with, query_over, query_with, plainly, wide_up_to, wide_formula_with, wide_whole_with, wide_query_with, definition_with, definitions_from, file_with}
 use Rattle.lrp_query.specs.OperatorRules.{OperatorTrees, ends, ranged, paired, operator, wide_operator, with_operators, with_wide_operators}
 use Rattle.lrp_query.proofs.LocalRules.{named_term_local, unnamed_term_local, term_local, point_local, comparing_local, test_local, unnamed_local}
 use Rattle.lrp_reading_laws.proofs.Agreeing.{Alike, Agree, then_alike, eat_alike, look_alike, chosen_alike, by_itself, bind_agree, if_agree, separated_agree, listed_agree}
@@ -64,8 +64,8 @@ module _ {K T F Q : Type 0} (make : Trees K T F Q) (size n m : ℕ) (a : size �
       (listed_agree size (argument wide make.terms) (argument wide make.terms) (is_symbol Comma) (is_symbol Close) (by_itself size _ (argument_local wide make.terms)) n m a b) (λ ts.
       bind_agree size (expect Close) (expect Close) _ _ (by_itself size _ (accept_local _)) (λ u. by_itself size _ (pure_local _)))
 
-  pub name_agree : (wide : Bool) (r : Identifier) (p : Place) → Agree size (behind_name wide make n r p) (behind_name wide make m r p)
-  unfolding behind_name
+  pub name_agree : (wide : Bool) (r : Identifier) (p : Place) → Agree size (after_name wide make n r p) (after_name wide make m r p)
+  unfolding after_name
   name_agree wide r p =
       bind_agree size (eat (is_symbol Open)) (eat (is_symbol Open)) _ _ (by_itself size _ (eat_local _)) (λ opens.
       if_agree size opens _ _ _ _ (atom_agree wide r p) (by_itself size _ (bind_local (named_term make.terms r) _ (named_term_local make.terms r) (λ k. tested_local wide make _))))
@@ -116,8 +116,8 @@ module _ {K T F Q : Type 0} (make : Trees K T F Q) (size n m : ℕ) (a : size �
     alone_agree : (p : Place) (x : F) → Agree size (alone make p x) (alone make p x)
     alone_agree p x = bind_agree size (expect Close) (expect Close) _ _ (by_itself size _ (accept_local _)) (λ u. by_itself size _ (pure_local _))
 
-    first_agree : (p : Place) (x : F) → Agree size (behind_first make f n p x) (behind_first make g m p x)
-    unfolding behind_first
+    first_agree : (p : Place) (x : F) → Agree size (after_first make f n p x) (after_first make g m p x)
+    unfolding after_first
     first_agree p x =
         bind_agree size (eat (is_word Implies)) (eat (is_word Implies)) _ _ (by_itself size _ (eat_local _)) (λ implies. if_agree size implies _ _ _ _ (implying_agree p x)
         (bind_agree size (eat (is_word And)) (eat (is_word And)) _ _ (by_itself size _ (eat_local _)) (λ ands. if_agree size ands _ _ _ _ (conjoined_agree p x)
@@ -127,12 +127,12 @@ module _ {K T F Q : Type 0} (make : Trees K T F Q) (size n m : ℕ) (a : size �
     unfolding enclosed
     enclosed_agree p = bind_agree size (expect Open) (expect Open) _ _ (by_itself size _ (accept_local _)) (λ u. bind_agree size f g _ _ h (λ x. first_agree p x))
 
-    module _ (behind beyond : Identifier → Place → Parser F) (k : (r : Identifier) (p : Place) → Agree size (behind r p) (beyond r p)) where
-      pub named_agree : Agree size (named behind) (named beyond)
+    module _ (after beyond : Identifier → Place → Parser F) (k : (r : Identifier) (p : Place) → Agree size (after r p) (beyond r p)) where
+      pub named_agree : Agree size (named after) (named beyond)
       unfolding named
       named_agree = bind_agree size name name _ _ (by_itself size _ (accept_local _)) (λ r. k r.0 r.1)
 
-      started_agree : (p : Place) (s : Start) → Agree size (started make behind f n p s) (started make beyond g m p s)
+      started_agree : (p : Place) (s : Start) → Agree size (started make after f n p s) (started make beyond g m p s)
       started_agree p by_not = negated_agree p
       started_agree p by_exists = existing_agree p
       started_agree p by_forall = holding_agree p
@@ -140,7 +140,7 @@ module _ {K T F Q : Type 0} (make : Trees K T F Q) (size n m : ℕ) (a : size �
       started_agree p by_name = named_agree
       started_agree p by_term = by_itself size _ (unnamed_local make p)
 
-      over_agree : Agree size (formula_over make behind f n) (formula_over make beyond g m)
+      over_agree : Agree size (formula_over make after f n) (formula_over make beyond g m)
       unfolding formula_over
       over_agree =
           bind_agree size (look false (λ t. is_hole_token t.token)) (look false (λ t. is_hole_token t.token)) _ _ (by_itself size _ (look_local _ _)) (λ hole. if_agree size hole _ _ _ _ (by_itself size _ (fail_local Deep))
@@ -148,16 +148,16 @@ module _ {K T F Q : Type 0} (make : Trees K T F Q) (size n m : ℕ) (a : size �
           bind_agree size (look by_term (λ t. start_of t.token)) (look by_term (λ t. start_of t.token)) _ _ (by_itself size _ (look_local _ _)) (λ s. started_agree p s))))
 
   -- formulas of each depth, where what stands after a name agrees as its parts do
-  module _ (behind : BehindName F) (k : (f g : Parser F) → Agree size f g → (r : Identifier) (p : Place) → Agree size (behind f n r p) (behind g m r p)) where
-    formula_agree : (depth : ℕ) → Agree size (formula_with make behind depth n) (formula_with make behind depth m)
+  module _ (after : AfterName F) (k : (f g : Parser F) → Agree size f g → (r : Identifier) (p : Place) → Agree size (after f n r p) (after g m r p)) where
+    formula_agree : (depth : ℕ) → Agree size (formula_with make after depth n) (formula_with make after depth m)
     unfolding formula_with
     formula_agree zero = by_itself size _ (accept_local _)
     formula_agree (suc depth) =
-        over_agree (formula_with make behind depth n) (formula_with make behind depth m) (formula_agree depth) (behind (formula_with make behind depth n) n) (behind (formula_with make behind depth m) m) (k (formula_with make behind depth n) (formula_with make behind depth m) (formula_agree depth))
+        over_agree (formula_with make after depth n) (formula_with make after depth m) (formula_agree depth) (after (formula_with make after depth n) n) (after (formula_with make after depth m) m) (k (formula_with make after depth n) (formula_with make after depth m) (formula_agree depth))
 
-    narrow_agree : Agree size (query_with make behind n) (query_with make behind m)
+    narrow_agree : Agree size (query_with make after n) (query_with make after m)
     unfolding query_with
-    narrow_agree = query_agree (formula_with make behind 64 n) (formula_with make behind 64 m) (formula_agree 64)
+    narrow_agree = query_agree (formula_with make after 64 n) (formula_with make after 64 m) (formula_agree 64)
 
 -- ---- operators
 
@@ -311,16 +311,16 @@ module _ {K T F Q : Type 0} (make : Trees K T F Q) (size : ℕ) where
           bind_agree size (binders_rule n) (binders_rule m) _ _ binders_agree (λ cs.
           bind_agree size (f (depth - (length cs - 1))) (g (depth - (length cs - 1))) _ _ (h (depth - (length cs - 1))) (λ x. by_itself size _ (pure_local _)))
 
-      module _ (behind beyond : Identifier → Place → Parser F) (k : (r : Identifier) (p : Place) → Agree size (behind r p) (beyond r p)) (depth : ℕ) where
-        wide_started : (p : Place) (s : Start) → Agree size (started_wide make behind f depth n p s) (started_wide make beyond g depth m p s)
+      module _ (after beyond : Identifier → Place → Parser F) (k : (r : Identifier) (p : Place) → Agree size (after r p) (beyond r p)) (depth : ℕ) where
+        wide_started : (p : Place) (s : Start) → Agree size (started_wide make after f depth n p s) (started_wide make beyond g depth m p s)
         wide_started p by_not = negated_agree make size n m a b (f depth) (g depth) (h depth) p
         wide_started p by_exists = bind_agree size (expect_word Exists) (expect_word Exists) _ _ (by_itself size _ (accept_local _)) (λ u. quantified_agree make.formulas.existential depth p)
         wide_started p by_forall = bind_agree size (expect_word Forall) (expect_word Forall) _ _ (by_itself size _ (accept_local _)) (λ u. quantified_agree make.formulas.universal depth p)
         wide_started p by_open = in_parentheses depth p
-        wide_started p by_name = named_agree make size n m a b (f depth) (g depth) (h depth) behind beyond k
+        wide_started p by_name = named_agree make size n m a b (f depth) (g depth) (h depth) after beyond k
         wide_started p by_term = by_itself size _ (wide_unnamed_local make p)
 
-        wide_over : Agree size (wide_formula_over make behind f depth n) (wide_formula_over make beyond g depth m)
+        wide_over : Agree size (wide_formula_over make after f depth n) (wide_formula_over make beyond g depth m)
         unfolding wide_formula_over
         wide_over =
             bind_agree size (look false (λ t. is_hole_token t.token)) (look false (λ t. is_hole_token t.token)) _ _ (by_itself size _ (look_local _ _)) (λ hole. if_agree size hole _ _ _ _ (by_itself size _ (fail_local Deep))
@@ -344,7 +344,7 @@ definition_takes {A} test rest (t ∷ ts) x us k e = by (test t) e
         omega (arith, low, size)
 
 module _ {K T F Q R P N : Type 0} (make : Trees K T F Q) (operators : OperatorTrees R P N F) (size n m : ℕ) (a : size ≤ n) (b : size ≤ m) where
-  abbrev wide_names : WideBehindName F
+  abbrev wide_names : WideAfterName F
   wide_names = with_wide_operators make operators
 
   up_to_agree : (most : ℕ) → AgreeAll size (wide_up_to make wide_names n most) (wide_up_to make wide_names m most)

@@ -28,8 +28,8 @@ abbrev pub bound_faults : List RawColumn → RawBound → List DbFault
 bound_faults cs b = unknown cs b.left ++ side_faults cs b.side
 
 -- the elements from an index on are the one there and those after it
-pub behind : {A : Type 0} (xs : List A) (i : ℕ) (x : A) → i < length xs → x ≡ get_or xs i x → drop i xs ≡ x ∷ drop (i + 1) xs
-behind xs i x lt e = drop-cons xs i x lt ∙ ap (λ y. y ∷ drop (suc i) xs) (sym e) ∙ ap (λ k. x ∷ drop k xs) (sym (add-one i))
+pub after : {A : Type 0} (xs : List A) (i : ℕ) (x : A) → i < length xs → x ≡ get_or xs i x → drop i xs ≡ x ∷ drop (i + 1) xs
+after xs i x lt e = drop-cons xs i x lt ∙ ap (λ y. y ∷ drop (suc i) xs) (sym e) ∙ ap (λ k. x ∷ drop k xs) (sym (add-one i))
 
 -- a fault found on the way is taken over
 pub walk_said : (best more found a b all : Option DbFault) → sooner database_standing best a ≡ all → a ≡ sooner database_standing found b → more ≡ sooner database_standing best found → sooner database_standing more b ≡ all
@@ -45,7 +45,7 @@ pub flat_walk : {A : Type 0} (f : A → List DbFault) (xs : List A) (i : ℕ) (x
     → sooner database_standing best (earliest database_standing (flat_map f (drop i xs))) ≡ all → i < length xs → x ≡ get_or xs i x → found ≡ earliest database_standing (f x) → more ≡ sooner database_standing best found
     → sooner database_standing more (earliest database_standing (flat_map f (drop (i + 1) xs))) ≡ all
 flat_walk f xs i x best more found all h lt here e is =
-    walk best more found all (f x) (flat_map f (drop (i + 1) xs)) (ap (λ l. sooner database_standing best (earliest database_standing (flat_map f l))) (sym (behind xs i x lt here)) ∙ h) e is
+    walk best more found all (f x) (flat_map f (drop (i + 1) xs)) (ap (λ l. sooner database_standing best (earliest database_standing (flat_map f l))) (sym (after xs i x lt here)) ∙ h) e is
 
 -- ---- names that stand twice
 
@@ -87,7 +87,7 @@ pub sorts_walk : (cs : List RawColumn) (vs : List (Located WrittenValue)) (i : �
     → sooner database_standing more (earliest database_standing (wrong_sorts (drop (i + 1) cs) (drop (i + 1) vs))) ≡ all
 sorts_walk cs vs i c v best more found all h lt less here there e is =
     walk best more found all (fault_if (not (suits v.item c)) (database_fault Sort v.place)) (wrong_sorts (drop (i + 1) cs) (drop (i + 1) vs))
-    (ap (λ l. sooner database_standing best (earliest database_standing (wrong_sorts l (v ∷ drop (i + 1) vs)))) (sym (behind cs i c lt here)) ∙ ap (λ l. sooner database_standing best (earliest database_standing (wrong_sorts (drop i cs) l))) (sym (behind vs i v less there)) ∙ h) e is
+    (ap (λ l. sooner database_standing best (earliest database_standing (wrong_sorts l (v ∷ drop (i + 1) vs)))) (sym (after cs i c lt here)) ∙ ap (λ l. sooner database_standing best (earliest database_standing (wrong_sorts (drop i cs) l))) (sym (after vs i v less there)) ∙ h) e is
 
 -- ---- names of time columns
 

@@ -12,7 +12,7 @@ use Rattle.lrp_model.specs.Columns.{column_text}
 use Rattle.lrp_model.specs.Databases.{comma, name_part, row_text, relation_text, database_text}
 use Rattle.lrp_model.specs.DatabaseMeaning.{column_of}
 use Rattle.lrp_model.specs.Names.{IsName, AreNamed}
-use Rattle.lrp_text.proofs.NameTokens.{NamedPart, all_front, all_behind, all_head, all_tail, columns_named, spelled_named}
+use Rattle.lrp_text.proofs.NameTokens.{NamedPart, all_front, all_after, all_head, all_tail, columns_named, spelled_named}
 
 -- the names of a relation are names
 pub record IsNamedRelation (r : RawRelation) : Type 0 where
@@ -21,16 +21,16 @@ pub record IsNamedRelation (r : RawRelation) : Type 0 where
 
 relation_named : (r : RawRelation) → AllByRecursion NamedPart (relation_text r) → IsNamedRelation r
 relation_named r h =
-    let behind = any (symbol_token Close) ∷ any (symbol_token OpenBrace) ∷ (flat_map (located_text row_text) r.rows ++ any (symbol_token CloseBrace) ∷ []) in
-    let columns = separated comma column_text r.columns ++ behind in
+    let after = any (symbol_token Close) ∷ any (symbol_token OpenBrace) ∷ (flat_map (located_text row_text) r.rows ++ any (symbol_token CloseBrace) ∷ []) in
+    let columns = separated comma column_text r.columns ++ after in
     let opening = any (symbol_token Open) in
     let one = all_tail NamedPart (any (word_token Relation)) (name_part r.name ∷ opening ∷ columns) h in
     let two = all_tail NamedPart opening columns (all_tail NamedPart (name_part r.name) (opening ∷ columns) one) in
-    record { name = all_head NamedPart (name_part r.name) (opening ∷ columns) one; columns = columns_named r.columns (all_front NamedPart (separated comma column_text r.columns) behind two) }
+    record { name = all_head NamedPart (name_part r.name) (opening ∷ columns) one; columns = columns_named r.columns (all_front NamedPart (separated comma column_text r.columns) after two) }
 
 relations_named : (rs : List RawRelation) → AllByRecursion NamedPart (flat_map relation_text rs) → AllByRecursion IsNamedRelation rs
 relations_named [] h = tt
-relations_named (r ∷ rs) h = (relation_named r (all_front NamedPart (relation_text r) (flat_map relation_text rs) h), relations_named rs (all_behind NamedPart (relation_text r) (flat_map relation_text rs) h))
+relations_named (r ∷ rs) h = (relation_named r (all_front NamedPart (relation_text r) (flat_map relation_text rs) h), relations_named rs (all_after NamedPart (relation_text r) (flat_map relation_text rs) h))
 
 -- the names of a tree that bytes spell are names
 pub tree_named : (bytes : List ℕ) (tree : List RawRelation) → Spells (database_text tree) (tokens bytes) → AllByRecursion IsNamedRelation tree

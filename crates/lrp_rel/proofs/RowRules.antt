@@ -22,7 +22,7 @@ use Rattle.lrp_text.specs.Taking.{is_symbol, is_symbol_token, is_word, is_word_t
 use Rattle.lrp_text.proofs.Complete.{Answers, separated_long, ReadsBack, back_as, answers_as, Anything, IsNot, Sees, bind_back, then_back, pure_back, accepts_back, eat_back, eat_none, first_sees_any, first_is_not, same_next, MemberBack, FollowsList, separated_back, listed_back}
 use Rattle.std.proofs.lemmas.List.{length-append}
 use Rattle.lrp_text.proofs.Sound.{takes_shorter, Sound, bind_ok, accept_sound, eat_sound, eaten_parts, takes_join, separated_sound, listed_sound}
-use Rattle.lrp_text.proofs.Viable.{Viable, One, accept_viable, sub_short, eat_short, spells_join, both, fits_as, always, behind, SomeText, separated_viable, listed_viable}
+use Rattle.lrp_text.proofs.Viable.{Viable, One, accept_viable, sub_short, eat_short, spells_join, both, fits_as, always, after_front, SomeText, separated_viable, listed_viable}
 use Rattle.lrp_text.proofs.TokenTests.{symbol_told, symbol_seen, word_told, word_seen, expect_told, expect_seen, expect_stops}
 use Rattle.lrp_text.proofs.LocatedRule.{takes_from}
 use Rattle.lrp_rel.specs.Rules.{value, bound, bounds, row}
@@ -199,7 +199,7 @@ unfolding bounds
 bounds_viable n ts e lt h =
     let R : Bool → Tokens → Type 0 = TextOf bounds_text (AllByRecursion FitsBound) in
     eat_short (is_word Where) _ R ts e h
-    (λ t vs told shorter d. behind (SomeText comma bound_text FitsBound) (λ c x. R c (t ∷ x)) [] vs vs e refl (λ c x s. some_bounds c x s t (word_told Where t told))
+    (λ t vs told shorter d. after_front (SomeText comma bound_text FitsBound) (λ c x. R c (t ∷ x)) [] vs vs e refl (λ c x s. some_bounds c x s t (word_told Where t told))
     (separated_viable bound bound_text FitsBound comma (is_symbol Comma) (symbol_told Comma) bound_sound bound_viable n [] vs e (omega arith) d))
     (λ d. absurd cc)
 

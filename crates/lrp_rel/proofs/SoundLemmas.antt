@@ -62,11 +62,11 @@ none_back : (n m : Identifier) → m ≢ n → n ≢ m
 none_back n m apart e = apart (sym e)
 
 -- names after others differ from these, and from one another
-differ_behind : (f : Place → DbFault) (before : List Identifier) (ns : List (Located Identifier)) → repeated f before ns ≡ [] → AllByRecursion (λ n. AllByRecursion (λ m. n.item ≢ m) before) ns × AreDistinct (map (λ n. n.item) ns)
-differ_behind f before [] e = (tt, tt)
-differ_behind f before (n ∷ ns) e =
+differ_after : (f : Place → DbFault) (before : List Identifier) (ns : List (Located Identifier)) → repeated f before ns ≡ [] → AllByRecursion (λ n. AllByRecursion (λ m. n.item ≢ m) before) ns × AreDistinct (map (λ n. n.item) ns)
+differ_after f before [] e = (tt, tt)
+differ_after f before (n ∷ ns) e =
     let new : is_named_in before n.item ≡ false = no_fault_if (is_named_in before n.item) (f n.place) (first_empty (fault_if (is_named_in before n.item) (f n.place)) (repeated f (n.item ∷ before) ns) e) in
-    let rest = differ_behind f (n.item ∷ before) ns (second_empty (fault_if (is_named_in before n.item) (f n.place)) (repeated f (n.item ∷ before) ns) e) in
+    let rest = differ_after f (n.item ∷ before) ns (second_empty (fault_if (is_named_in before n.item) (f n.place)) (repeated f (n.item ∷ before) ns) e) in
     ((none_is before n.item new, tails ns rest.0), (heads ns rest.0, rest.1))
   where
     tails : (ms : List (Located Identifier)) → AllByRecursion (λ k. AllByRecursion (λ m. k.item ≢ m) (n.item ∷ before)) ms → AllByRecursion (λ k. AllByRecursion (λ m. k.item ≢ m) before) ms
@@ -79,7 +79,7 @@ differ_behind f before (n ∷ ns) e =
 
 -- names without a second one differ
 pub differ : (f : Place → DbFault) (ns : List (Located Identifier)) → repeated f [] ns ≡ [] → AreDistinct (map (λ n. n.item) ns)
-differ f ns e = (differ_behind f [] ns e).1
+differ f ns e = (differ_after f [] ns e).1
 
 -- ---- few columns
 
@@ -142,10 +142,10 @@ numbers_of before (c ∷ cs) n = by (is_time c.sort) (numbers_of (before + 1) cs
     by false more same = same
 
 -- names that differ, and are none of those before, go after these one by one
-once_behind : (before ns : List Identifier) → AllByRecursion (λ n. list_any (bytes_eq n) before ≡ false) ns → AreDistinct ns → fold put_once before ns ≡ before ++ ns
-once_behind before [] new d = sym (append-nil before)
-once_behind before (n ∷ ns) new d =
-    ap (λ b. fold put_once (if b then before else before ++ n ∷ []) ns) new.0 ∙ once_behind (before ++ n ∷ []) ns (still ns new.1 d.0) d.1 ∙ append_assoc before (n ∷ []) ns
+once_after : (before ns : List Identifier) → AllByRecursion (λ n. list_any (bytes_eq n) before ≡ false) ns → AreDistinct ns → fold put_once before ns ≡ before ++ ns
+once_after before [] new d = sym (append-nil before)
+once_after before (n ∷ ns) new d =
+    ap (λ b. fold put_once (if b then before else before ++ n ∷ []) ns) new.0 ∙ once_after (before ++ n ∷ []) ns (still ns new.1 d.0) d.1 ∙ append_assoc before (n ∷ []) ns
   where
     other : (m : Identifier) (b : Bool) → bytes_eq m n ≡ b → n ≢ m → b ≡ false
     other m true e apart = absurd (apart (sym ((bytes_decides m n).0 e)))
@@ -157,7 +157,7 @@ once_behind before (n ∷ ns) new d =
 
 -- names that differ are each once among themselves
 once_differ : (ns : List Identifier) → AreDistinct ns → once ns ≡ ns
-once_differ ns d = once_behind [] ns (all_false ns) d
+once_differ ns d = once_after [] ns (all_false ns) d
   where
     all_false : (ms : List Identifier) → AllByRecursion (λ n. list_any (bytes_eq n) [] ≡ false) ms
     all_false [] = tt

@@ -20,7 +20,7 @@ use Rattle.lrp_model.specs.Columns.{column_text}
 use Rattle.lrp_model.specs.Databases.{comma, value_text, name_part, bounds_text, row_text, relation_text, database_text}
 use Rattle.lrp_text.proofs.Cuts.{skip_cut, skip_rest, scan_cut, scan_rest}
 use Rattle.lrp_text.proofs.Meanings.{slice_fits, slice_utf8}
-use Rattle.lrp_text.proofs.NameTokens.{all_front, all_behind, all_tail}
+use Rattle.lrp_text.proofs.NameTokens.{all_front, all_after, all_tail}
 
 -- a token of a text has a data text, if it is short enough
 abbrev pub TextToken : Token → Type 0
@@ -60,8 +60,8 @@ tokens_texted (suc n) p bs u =
     let a = skip false p bs in
     let s = scan a.bytes in
     let here : IsUtf8 a.bytes = subst IsUtf8 (skip_rest p bs) (IsUtf8-drop bs (length bs - length a.bytes) u (skip_cut p bs u)) in
-    let behind : IsUtf8 s.left = subst IsUtf8 (scan_rest a.bytes) (IsUtf8-drop a.bytes (length a.bytes - length s.left) here (scan_cut a.bytes here)) in
-    headed_texted a.place s s.token (tokens_from n (after a.place s.taken) s.left) (scan_texted a.bytes here) (tokens_texted n (after a.place s.taken) s.left behind)
+    let afterwards : IsUtf8 s.left = subst IsUtf8 (scan_rest a.bytes) (IsUtf8-drop a.bytes (length a.bytes - length s.left) here (scan_cut a.bytes here)) in
+    headed_texted a.place s s.token (tokens_from n (after a.place s.taken) s.left) (scan_texted a.bytes here) (tokens_texted n (after a.place s.taken) s.left afterwards)
 
 -- a part of a tree's text has a data text, if it is one
 abbrev pub TextPart : Part → Type 0
@@ -93,7 +93,7 @@ values_texted (v ∷ []) h = (value_texted v.place v.item h, tt)
 values_texted (v ∷ w ∷ vs) h =
     let first = located_text value_text v in
     let rest = separated comma (located_text value_text) (w ∷ vs) in
-    (value_texted v.place v.item (all_front TextPart first (comma ∷ rest) h), values_texted (w ∷ vs) (all_tail TextPart comma rest (all_behind TextPart first (comma ∷ rest) h)))
+    (value_texted v.place v.item (all_front TextPart first (comma ∷ rest) h), values_texted (w ∷ vs) (all_tail TextPart comma rest (all_after TextPart first (comma ∷ rest) h)))
 
 -- the texts of a row
 abbrev pub RowHasTexts : Located RawRow → Type 0
@@ -102,8 +102,8 @@ RowHasTexts row = AllByRecursion (λ v. HasText v.item) row.item.values
 pub row_texted : (row : Located RawRow) → AllByRecursion TextPart (located_text row_text row) → RowHasTexts row
 row_texted row h =
     let values = separated comma (located_text value_text) row.item.values in
-    let behind = any (symbol_token Close) ∷ (bounds_text row.item.bounds ++ any (symbol_token Semicolon) ∷ []) in
-    values_texted row.item.values (all_front TextPart values behind (all_tail TextPart (at row.place (symbol_token Open)) (values ++ behind) h))
+    let afterwards = any (symbol_token Close) ∷ (bounds_text row.item.bounds ++ any (symbol_token Semicolon) ∷ []) in
+    values_texted row.item.values (all_front TextPart values afterwards (all_tail TextPart (at row.place (symbol_token Open)) (values ++ afterwards) h))
 
 -- rows one after the other
 rows_texted : (rows : List (Located RawRow)) → AllByRecursion TextPart (flat_map (located_text row_text) rows) → AllByRecursion RowHasTexts rows
@@ -111,7 +111,7 @@ rows_texted [] h = tt
 rows_texted (row ∷ rows) h =
     let first = located_text row_text row in
     let rest = flat_map (located_text row_text) rows in
-    (row_texted row (all_front TextPart first rest h), rows_texted rows (all_behind TextPart first rest h))
+    (row_texted row (all_front TextPart first rest h), rows_texted rows (all_after TextPart first rest h))
 
 -- the texts of a relation
 abbrev pub HasTexts : RawRelation → Type 0
@@ -124,8 +124,8 @@ relation_texted r h =
     let body = any (symbol_token OpenBrace) ∷ (rows ++ last) in
     let columns = separated comma column_text r.columns in
     let head = any (word_token Relation) ∷ name_part r.name ∷ any (symbol_token Open) ∷ [] in
-    let inside = all_behind TextPart head (columns ++ any (symbol_token Close) ∷ body) h in
-    let closed = all_behind TextPart columns (any (symbol_token Close) ∷ body) inside in
+    let inside = all_after TextPart head (columns ++ any (symbol_token Close) ∷ body) h in
+    let closed = all_after TextPart columns (any (symbol_token Close) ∷ body) inside in
     rows_texted r.rows (all_front TextPart rows last (all_tail TextPart (any (symbol_token OpenBrace)) (rows ++ last) (all_tail TextPart (any (symbol_token Close)) body closed)))
 
 -- relations one after the other
@@ -133,7 +133,7 @@ relations_texted : (rs : List RawRelation) → AllByRecursion TextPart (flat_map
 relations_texted [] h = tt
 relations_texted (r ∷ rs) h =
     let rest = flat_map relation_text rs in
-    (relation_texted r (all_front TextPart (relation_text r) rest h), relations_texted rs (all_behind TextPart (relation_text r) rest h))
+    (relation_texted r (all_front TextPart (relation_text r) rest h), relations_texted rs (all_after TextPart (relation_text r) rest h))
 
 -- the texts in a tree that bytes of UTF-8 spell
 pub tree_texted : (bytes : List ℕ) (tree : List RawRelation) → IsUtf8 bytes → Spells (database_text tree) (tokens bytes) → AllByRecursion HasTexts tree

@@ -1,7 +1,7 @@
 // Databases, read from the tokens of a text: a written row is dropped as soon as what it means is kept.
 ghost use Rattle.std.specs.Prelude.{◌≡◌, ◌<◌, ◌≤◌, ℕ, length, IfOk, []};
 ghost use Rattle.lrp_model.specs.Databases.{FitsRow};
-ghost use Rattle.lrp_text.specs.Parsers.{Reads, left_behind, accept, separated_from, listed, until_from};
+ghost use Rattle.lrp_text.specs.Parsers.{Reads, left_after, accept, separated_from, listed, until_from};
 ghost use Rattle.lrp_text.specs.Taking.{is_symbol, is_end, located};
 ghost use Rattle.lrp_rel.specs.Gathered.{ReadsInto, IsHeading, IsBodyOf, IsMeaningOf, AreRelationsGathered};
 ghost use Rattle.lrp_rel.specs.Rules.{label, numeric, bare_value, value, named_side, side, bound_op_of, bound, bounds, row, relation, database};
@@ -276,7 +276,7 @@ fn read_relations(alloc: Global, tokens: &mut TokenCursor<'_>) -> Result<Gathere
 pub fn read_relations_to_end(alloc: Global, tokens: &mut TokenCursor<'_>) -> Result<Gathered, Fault>
     ensures { (n : ℕ) → length tokens.old < n
         → ReadsInto AreRelationsGathered (database n tokens.old) result
-        (left_behind result tokens.new) }
+        (left_after result tokens.new) }
 {
     let gathered = read_relations(alloc, tokens)?;
     tokens.expect_end()?;

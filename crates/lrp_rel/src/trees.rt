@@ -6,7 +6,7 @@ ghost use Rattle.lrp_model.specs.Limits.{most_bytes};
 use crate::gathering::Gathered;
 use crate::reading::read_relations_to_end;
 use lrp_model::{DbFault, DbKind, Fault, Memory, Place};
-use lrp_text::{TokenCursor, place_behind};
+use lrp_text::{TokenCursor, place_after};
 use std::alloc::Global;
 use std::str::from_utf8;
 use thiserror::Error;
@@ -71,7 +71,7 @@ pub fn read_bytes(alloc: Global, bytes: &[u8]) -> Result<Gathered, ReadFault>
     match from_utf8(bytes) {
         Ok(text) => read_text(alloc, text),
         Err(error) => {
-            let place = place_behind(&bytes[..error.valid_up_to()]);
+            let place = place_after(&bytes[..error.valid_up_to()]);
             Err(ReadFault::Fault {
                 fault: DbFault {
                     kind: DbKind::Utf8,

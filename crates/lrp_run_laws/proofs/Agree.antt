@@ -27,7 +27,7 @@ use Rattle.lrp_outputs.specs.Outcomes.{Outcome}
 use Rattle.lrp_top.specs.Resuming.{IsResumed, IsStale, shape_of}
 use Rattle.lrp_top.specs.Seen.{ShelfSeen, AreBytesOf}
 use Rattle.lrp_top.specs.Sources.{Source}
-use Rattle.lrp_top.specs.Steps.{Then, Behind}
+use Rattle.lrp_top.specs.Steps.{Then, After}
 use Rattle.lrp_top.specs.Written.{IsFaultyAs, IsOverIn, IsSortedAs, plain_by}
 use Rattle.lrp_top.specs.declared.language.QueryLanguage.{QueryLanguage}
 use Rattle.lrp_wide.specs.Limits.{HasTooMany, IsTooDeep}
@@ -68,14 +68,14 @@ module _ {A B : Type 0} (First Other : Result A Refusal → Type 0) (Next Later 
   refused : (e f : Refusal) → e ≡ f → (o p : Result B Refusal) → o ≡ Err e → p ≡ Err f → Agree S o p
   refused e f same o p n m = subst (λ x. Agree S x p) (sym n) (subst (λ y. Agree S (Err e) y) (sym m) same)
 
-  behind : (o p : Result B Refusal) → Lasting o → Lasting p → (r s : Result A Refusal) → First r → Other s → Behind r Next o → Behind s Later p → Agree S o p
-  behind o p lo lp (Ok a) (Ok b) i j n m = next a b i j (steps (Ok a) (Ok b) i j tt tt) o p n m lo lp
-  behind o p lo lp (Ok a) (Err f) i j n m = absurd (steps (Ok a) (Err f) i j tt (subst Lasting m lp))
-  behind o p lo lp (Err e) (Ok b) i j n m = absurd (steps (Err e) (Ok b) i j (subst Lasting n lo) tt)
-  behind o p lo lp (Err e) (Err f) i j n m = refused e f (steps (Err e) (Err f) i j (subst Lasting n lo) (subst Lasting m lp)) o p n m
+  afterwards : (o p : Result B Refusal) → Lasting o → Lasting p → (r s : Result A Refusal) → First r → Other s → After r Next o → After s Later p → Agree S o p
+  afterwards o p lo lp (Ok a) (Ok b) i j n m = next a b i j (steps (Ok a) (Ok b) i j tt tt) o p n m lo lp
+  afterwards o p lo lp (Ok a) (Err f) i j n m = absurd (steps (Ok a) (Err f) i j tt (subst Lasting m lp))
+  afterwards o p lo lp (Err e) (Ok b) i j n m = absurd (steps (Err e) (Ok b) i j (subst Lasting n lo) tt)
+  afterwards o p lo lp (Err e) (Err f) i j n m = refused e f (steps (Err e) (Err f) i j (subst Lasting n lo) (subst Lasting m lp)) o p n m
 
   pub then_agree : (o p : Result B Refusal) → Then First Next o → Then Other Later p → Lasting o → Lasting p → Agree S o p
-  then_agree o p t u lo lp = behind o p lo lp t.first u.first t.is u.is t.next u.next
+  then_agree o p t u lo lp = afterwards o p lo lp t.first u.first t.is u.is t.next u.next
 
 -- a step that tells refusals apart from values
 pub by_parts : {A : Type 0} (First Other : Result A Refusal → Type 0) (R : A → A → Type 0)

@@ -27,7 +27,7 @@ use Rattle.lrp_outputs.specs.Outcomes.{Outcome}
 use Rattle.lrp_top.specs.Resuming.{IsResumed, IsStale, shape_of}
 use Rattle.lrp_top.specs.Seen.{ShelfSeen, AreBytesOf, HasFailed}
 use Rattle.lrp_top.specs.Sources.{Source}
-use Rattle.lrp_top.specs.Steps.{Then, Behind}
+use Rattle.lrp_top.specs.Steps.{Then, After}
 use Rattle.lrp_top.specs.Telling.{TellsNumber, TellsPage, TellsPlan, TellsRanges, TellsWitness}
 use Rattle.lrp_top.specs.Written.{IsFaultyAs, IsOverIn, plain_by}
 use Rattle.lrp_top.specs.Languages.{civil_by, language_by}
@@ -104,7 +104,7 @@ written_as digest a db q Tells tuple resumed few (Err _) told = absurd told
 
 -- the cells are counted before
 counted_as : (digest : List ℕ) (a : Asked) (db : List Relation) (q : Question) (Tells : Option Tuple → List ℕ → Type 0) (tuple : Option Tuple) (cap : ℕ) → a.cap ≡ Some cap → IsResumed digest q.head a.after (Ok tuple)
-    → (outcome : Outcome) (counted : Result (Unit {0}) Refusal) → IsCounted a.of.way db q cap counted → Behind counted (λ done. IsOutput (Tells tuple)) outcome → Onward digest a db q Tells outcome
+    → (outcome : Outcome) (counted : Result (Unit {0}) Refusal) → IsCounted a.of.way db q cap counted → After counted (λ done. IsOutput (Tells tuple)) outcome → Onward digest a db q Tells outcome
 counted_as digest a db q Tells tuple cap e resumed outcome (Ok done) few next = written_as digest a db q Tells tuple resumed (subst (λ c. IsFew a.of.way c db q) (sym e) few) outcome next
 counted_as digest a db q Tells tuple cap e resumed outcome (Err (Cells most step)) told next =
     subst (Onward digest a db q Tells) (sym (next)) (subst (λ c. Onward digest a db q Tells (Err (Cells c step))) (sym told.0) (many cap step e tuple resumed told.1))
@@ -113,7 +113,7 @@ counted_as digest a db q Tells tuple cap e resumed outcome (Err _) told next = a
 
 -- the page begins before that
 resumed_as : (digest : List ℕ) (a : Asked) (db : List Relation) (q : Question) (Tells : Option Tuple → List ℕ → Type 0) (cap : ℕ) → a.cap ≡ Some cap
-    → (outcome : Outcome) (after : Option Text) → a.after ≡ after → (resumed : Result (Option Tuple) Refusal) → IsResumed digest q.head after resumed → Behind resumed (λ tuple. Then (IsCounted a.of.way db q cap) (λ done. IsOutput (Tells tuple))) outcome → Onward digest a db q Tells outcome
+    → (outcome : Outcome) (after : Option Text) → a.after ≡ after → (resumed : Result (Option Tuple) Refusal) → IsResumed digest q.head after resumed → After resumed (λ tuple. Then (IsCounted a.of.way db q cap) (λ done. IsOutput (Tells tuple))) outcome → Onward digest a db q Tells outcome
 resumed_as digest a db q Tells cap e outcome after is (Ok tuple) told next = counted_as digest a db q Tells tuple cap e (subst (λ t. IsResumed digest q.head t (Ok tuple)) (sym is) told) outcome next.first next.is next.next
 resumed_as digest a db q Tells cap e outcome None is (Err r) told next = absurd (err_ok r told)
   where
@@ -145,7 +145,7 @@ pub record Reached (seen : ShelfSeen) (a : Asked) (Tells : Telling) (outcome : O
 module _ (seen : ShelfSeen) (a : Asked) (Tells : Telling) (Due : Next) (goes_on : GoesOn a Tells Due) where
   -- the query is planned
   planned_as : (files : Contents) (db : List Relation) → SaysRelations (civil_by a.of) files db → (q : Question) → SaysQuestion (language_by a.of) files db q
-      → (outcome : Outcome) (plan : Result Plan Refusal) → IsPlanned a.of.way db q plan → Behind plan (Due (record { bytes = files.database; says = db }) (record { bytes = files.query; says = q })) outcome → Case seen a files Tells outcome
+      → (outcome : Outcome) (plan : Result Plan Refusal) → IsPlanned a.of.way db q plan → After plan (Due (record { bytes = files.database; says = db }) (record { bytes = files.query; says = q })) outcome → Case seen a files Tells outcome
   planned_as files db d q s outcome (Ok p) is next = planned db d q s is.1 p is.0 outcome (goes_on files db q p outcome next)
   planned_as files db d q s outcome (Err PeriodLimit) is next = subst (Case seen a files Tells) (sym next) (above_period db d q s is)
   planned_as files db d q s outcome (Err BoundLimit) is next = subst (Case seen a files Tells) (sym next) (above_bound db d q s is.0 is.1)
@@ -157,17 +157,17 @@ module _ (seen : ShelfSeen) (a : Asked) (Tells : Telling) (Due : Next) (goes_on 
   AfterHead files db q = Due (record { bytes = files.database; says = db }) (record { bytes = files.query; says = q })
 
   -- a plan stands after the head; where the head is refused, so is the plan
-  behind_head : (db : List Relation) (q : Question) (plan : Result Plan Refusal) (fit : Result (Unit {0}) Refusal) → IsHeadFit a.need q fit → Behind fit (λ fit. IsPlanned a.of.way db q) plan → IsPlanned a.of.way db q plan ⊎ ((unmet : HeadNeed) × (a.need ≡ Some unmet) × (IsMetBy unmet q.head → ⊥) × (plan ≡ Err (Head unmet)))
-  behind_head db q plan (Ok fit) is next = inl next
-  behind_head db q plan (Err (Head unmet)) is next = inr (unmet, is.0, is.1, next)
-  behind_head db q plan (Err _) is next = absurd is
+  after_head : (db : List Relation) (q : Question) (plan : Result Plan Refusal) (fit : Result (Unit {0}) Refusal) → IsHeadFit a.need q fit → After fit (λ fit. IsPlanned a.of.way db q) plan → IsPlanned a.of.way db q plan ⊎ ((unmet : HeadNeed) × (a.need ≡ Some unmet) × (IsMetBy unmet q.head → ⊥) × (plan ≡ Err (Head unmet)))
+  after_head db q plan (Ok fit) is next = inl next
+  after_head db q plan (Err (Head unmet)) is next = inr (unmet, is.0, is.1, next)
+  after_head db q plan (Err _) is next = absurd is
 
   fitted_as : (files : Contents) (db : List Relation) → SaysRelations (civil_by a.of) files db → (q : Question) → SaysQuestion (language_by a.of) files db q
-      → (outcome : Outcome) (plan : Result Plan Refusal) → IsPlannedAs a.of.way a.need db q plan → Behind plan (AfterHead files db q) outcome → Case seen a files Tells outcome
+      → (outcome : Outcome) (plan : Result Plan Refusal) → IsPlannedAs a.of.way a.need db q plan → After plan (AfterHead files db q) outcome → Case seen a files Tells outcome
   fitted_as files db d q s outcome plan is next =
-      elim (behind_head db q plan is.first is.is is.next) [
+      elim (after_head db q plan is.first is.is is.next) [
         | inl fit ↦ planned_as files db d q s outcome plan fit next
-        | inr unfit ↦ subst (Case seen a files Tells) (sym (subst (λ p. Behind p (AfterHead files db q) outcome) unfit.3 next)) (no_head db d q s unfit.0 unfit.1 unfit.2)
+        | inr unfit ↦ subst (Case seen a files Tells) (sym (subst (λ p. After p (AfterHead files db q) outcome) unfit.3 next)) (no_head db d q s unfit.0 unfit.1 unfit.2)
       ]
 
   -- what is due after the query
@@ -176,7 +176,7 @@ module _ (seen : ShelfSeen) (a : Asked) (Tells : Telling) (Due : Next) (goes_on 
 
   -- the query is read
   queried_as : (files : Contents) (db : List Relation) → SaysRelations (civil_by a.of) files db
-      → (outcome : Outcome) (query : Result (Source Question) Refusal) → IsQueryReadOf (language_by a.of) db seen a.of.query files.query query → Behind query (AfterQuery (record { bytes = files.database; says = db })) outcome → Case seen a files Tells outcome
+      → (outcome : Outcome) (query : Result (Source Question) Refusal) → IsQueryReadOf (language_by a.of) db seen a.of.query files.query query → After query (AfterQuery (record { bytes = files.database; says = db })) outcome → Case seen a files Tells outcome
   queried_as files db d outcome (Ok q) is next =
       let same : q ≡ record { bytes = files.query; says = q.says } = ap (λ bytes. asked bytes q.says) is.0 in
       let then : AfterQuery (record { bytes = files.database; says = db }) (record { bytes = files.query; says = q.says }) outcome = subst (λ s. AfterQuery (record { bytes = files.database; says = db }) s outcome) same next in
@@ -204,7 +204,7 @@ module _ (seen : ShelfSeen) (a : Asked) (Tells : Telling) (Due : Next) (goes_on 
 
   -- the database is read
   read_as : (outcome : Outcome) (bytes : List ℕ) → AreBytesOf seen a.of.database bytes
-      → (database : Result (Source (List Relation)) Refusal) → IsDatabaseReadOf (civil_by a.of) seen a.of.database bytes database → Behind database AfterDatabase outcome → Reached seen a Tells outcome
+      → (database : Result (Source (List Relation)) Refusal) → IsDatabaseReadOf (civil_by a.of) seen a.of.database bytes database → After database AfterDatabase outcome → Reached seen a Tells outcome
   read_as outcome bytes told (Ok d) is next =
       let same : d ≡ record { bytes = bytes; says = d.says } = ap (λ b. source b d.says) is.0 in
       let then : AfterDatabase (record { bytes = bytes; says = d.says }) outcome = subst (λ s. AfterDatabase s outcome) same next in
@@ -236,7 +236,7 @@ answer_goes_on a called cap e n files db q p outcome due =
 
 -- the rows of the canonical answer are counted, and then it is told
 rows_as : (digest : List ℕ) (a : Asked) (db : List Relation) (q : Question) (Tells : Option Tuple → List ℕ → Type 0) (tuple : Option Tuple) (cap : ℕ) → a.need ≡ Some Canon → a.cap ≡ Some cap → IsResumed digest q.head a.after (Ok tuple) → IsFew a.of.way a.cap db q
-    → (outcome : Outcome) (counted : Result (Unit {0}) Refusal) → AreRowsCounted db q cap counted → Behind counted (λ done. IsOutput (Tells tuple)) outcome → Onward digest a db q Tells outcome
+    → (outcome : Outcome) (counted : Result (Unit {0}) Refusal) → AreRowsCounted db q cap counted → After counted (λ done. IsOutput (Tells tuple)) outcome → Onward digest a db q Tells outcome
 rows_as digest a db q Tells tuple cap c e resumed few outcome (Ok done) told next = written_as digest a db q Tells tuple resumed few outcome next
 rows_as digest a db q Tells tuple cap c e resumed few outcome (Err (CanonRows most)) told next =
     subst (Onward digest a db q Tells) (sym next) (subst (λ m. Onward digest a db q Tells (Err (CanonRows m))) (sym told.0) (rows cap told.1.0 c e told.1.1 told.1.2))
@@ -244,7 +244,7 @@ rows_as digest a db q Tells tuple cap c e resumed few outcome (Err Memory) told 
 rows_as digest a db q Tells tuple cap c e resumed few outcome (Err _) told next = absurd told
 
 cells_as : (digest : List ℕ) (a : Asked) (db : List Relation) (q : Question) (Tells : Option Tuple → List ℕ → Type 0) (tuple : Option Tuple) (cap : ℕ) → a.need ≡ Some Canon → a.cap ≡ Some cap → IsResumed digest q.head a.after (Ok tuple)
-    → (outcome : Outcome) (counted : Result (Unit {0}) Refusal) → IsCounted a.of.way db q cap counted → Behind counted (λ done. Then (AreRowsCounted db q cap) (λ rows. IsOutput (Tells tuple))) outcome → Onward digest a db q Tells outcome
+    → (outcome : Outcome) (counted : Result (Unit {0}) Refusal) → IsCounted a.of.way db q cap counted → After counted (λ done. Then (AreRowsCounted db q cap) (λ rows. IsOutput (Tells tuple))) outcome → Onward digest a db q Tells outcome
 cells_as digest a db q Tells tuple cap c e resumed outcome (Ok done) few next = rows_as digest a db q Tells tuple cap c e resumed (subst (λ m. IsFew a.of.way m db q) (sym e) few) outcome next.first next.is next.next
 cells_as digest a db q Tells tuple cap c e resumed outcome (Err (Cells most step)) told next =
     subst (Onward digest a db q Tells) (sym (next)) (subst (λ m. Onward digest a db q Tells (Err (Cells m step))) (sym told.0) (many cap step e tuple resumed told.1))

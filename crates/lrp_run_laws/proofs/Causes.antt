@@ -14,9 +14,9 @@ use Rattle.lrp_plan_laws.specs.GuardedPlans.{plan_by}
 use Rattle.lrp_model.specs.declared.relations.Relation.{Relation}
 use Rattle.lrp_top.specs.Due.{IsDueOf, IsDueFor, IsDatabaseReadOf, IsOutput, IsAnswered, IsDecided, IsExplained, IsListed, IsNumberTold, IsRanged}
 use Rattle.lrp_run_laws.specs.Contents.{Contents, contents_at, contents_of, digest_of, OverDatabase, OverQuery, Asking, SaysRelations, two_files}
-use Rattle.lrp_run_laws.specs.Tasks.{IsOutputOf, TellsPlanOf, TellsPageBehind}
+use Rattle.lrp_run_laws.specs.Tasks.{IsOutputOf, TellsPlanOf, TellsPageAfter}
 use Rattle.lrp_run_laws.specs.Runs.{Run, WroteAll}
-use Rattle.lrp_run_laws.specs.Reasons.{HasOtherHead, IsRefusedBehind, HasMany, HasManyRows, IsNoDatabase, IsNoQuery, IsNoTokenOf, IsAboveLimits, IsDatabaseRefused, IsQueryRefused, IsQueryAbove, IsQueryTooLarge, HasFailedFile, HasFailedOneOf, IsReason, HasReasonFor, HasTaskReason, IsUsage}
+use Rattle.lrp_run_laws.specs.Reasons.{HasOtherHead, IsRefusedAfter, HasMany, HasManyRows, IsNoDatabase, IsNoQuery, IsNoTokenOf, IsAboveLimits, IsDatabaseRefused, IsQueryRefused, IsQueryAbove, IsQueryTooLarge, HasFailedFile, HasFailedOneOf, IsReason, HasReasonFor, HasTaskReason, IsUsage}
 use Rattle.lrp_top.specs.Canonical.{IsCanonicalText}
 use Rattle.lrp_outputs.specs.Outcomes.{Outcome, refused_with, status_of, written_of, line_of}
 use Rattle.lrp_top.specs.Ends.{Ends}
@@ -24,7 +24,7 @@ use Rattle.lrp_top.specs.Resuming.{IsResumed}
 use Rattle.lrp_top.specs.Sampled.{TellsSample}
 use Rattle.lrp_top.specs.Seen.{ShelfSeen, SinkSeen, AreBytesOf}
 use Rattle.lrp_top.specs.Sources.{Source}
-use Rattle.lrp_top.specs.Steps.{Behind}
+use Rattle.lrp_top.specs.Steps.{After}
 use Rattle.lrp_top.specs.Telling.{TellsNumber, TellsPage, TellsPlan, TellsRanges, TellsRelations, TellsWitness}
 use Rattle.lrp_top.specs.Languages.{civil_by, language_by, usual_by}
 use Rattle.lrp_outputs.specs.declared.head.HeadNeed.TheVariants as needs
@@ -42,7 +42,7 @@ use Rattle.lrp_run_laws.proofs.Cases.{Asked, Reached, Telling, output, form, oth
 
 -- the query's refusals, and its limits
 abbrev RefusedFor : Asked → Contents → Type 0
-RefusedFor a files = OverDatabase (civil_by a.of) files (λ db. IsNoQuery files (language_by a.of) db ⊎ OverQuery (language_by a.of) files (IsRefusedBehind a.need (digest_of files) a.after) db)
+RefusedFor a files = OverDatabase (civil_by a.of) files (λ db. IsNoQuery files (language_by a.of) db ⊎ OverQuery (language_by a.of) files (IsRefusedAfter a.need (digest_of files) a.after) db)
 
 abbrev AboveFor : Asked → Contents → Type 0
 AboveFor a files = OverDatabase (civil_by a.of) files (λ db. IsQueryTooLarge files (language_by a.of) db ⊎ OverQuery (language_by a.of) files (IsAboveLimits a.of.way a.need a.cap) db)
@@ -130,7 +130,7 @@ check_written civil files db says database seen (Ok bytes) told = record { db = 
 check_written civil files db says database seen (Err Memory) told = λ taken line. line
 check_written civil files db says database seen (Err _) told = absurd told
 
-check_read : (civil : Bool) (database : Identifier) (seen : ShelfSeen) (outcome : Outcome) (bytes : List ℕ) (d : Result (Source (List Relation)) Refusal) → IsDatabaseReadOf (usual_by civil) seen database bytes d → Behind d (λ d. IsOutput (TellsRelations d.says)) outcome
+check_read : (civil : Bool) (database : Identifier) (seen : ShelfSeen) (outcome : Outcome) (bytes : List ℕ) (d : Result (Source (List Relation)) Refusal) → IsDatabaseReadOf (usual_by civil) seen database bytes d → After d (λ d. IsOutput (TellsRelations d.says)) outcome
     → OutcomeFor (check database civil) seen (two_files bytes []) outcome
 check_read civil database seen outcome bytes (Ok d) is next = check_written civil (two_files bytes []) d.says (record { short = is.1; is = is.2 }) database seen outcome next
 check_read civil database seen outcome bytes (Err ReadDatabase) is next = subst (OutcomeFor (check database civil) seen (two_files bytes [])) (sym next) (λ taken line. is)
@@ -171,7 +171,7 @@ explained (decide of cap dates) seen outcome due =
     (reached seen a (λ digest p tuple. TellsWitness dates) (IsDecided of.way dates cap) (decide_goes_on a dates cap refl refl) outcome due)
 explained (list of from to limit after json cap) seen outcome due =
     let a : Asked = record { of = of; need = None; after = after; cap = Some cap } in
-    asked_explained a seen (list of from to limit after json cap) (λ files h. h) (λ files h. h) (λ files h. h) (λ files h. h) (λ held. refl) (λ digest p tuple db q. TellsPage db q from to tuple limit of.civil json digest) (λ digest. TellsPageBehind from to limit after of.civil json digest)
+    asked_explained a seen (list of from to limit after json cap) (λ files h. h) (λ files h. h) (λ files h. h) (λ files h. h) (λ held. refl) (λ digest p tuple db q. TellsPage db q from to tuple limit of.civil json digest) (λ digest. TellsPageAfter from to limit after of.civil json digest)
     (λ digest p tuple db q bytes plan resumed told. record { tuple = tuple; resumed = resumed; page = told }) (λ files bytes h. h) outcome
     (reached seen a (λ digest p tuple db q. TellsPage db q from to tuple limit of.civil json digest) (IsListed of.way of.civil from to limit after json cap) (list_goes_on a cap from to limit of.civil json refl) outcome due)
 explained (count of from to cap) seen outcome due =

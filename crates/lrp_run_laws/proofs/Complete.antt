@@ -29,7 +29,7 @@ use Rattle.lrp_token.specs.Reading.{IsNoToken, HasOtherCounts}
 use Rattle.lrp_run_laws.specs.Contents.{Contents, digest_of, Keeping, Linting, OverDatabase, OverEdits, OverNamed, OverQuery, Asking, SaysRelations, Watching, WhereFit, contents_of}
 use Rattle.lrp_run_laws.specs.Tasks.{IsAnswerable, IsLawfulTask, IsResumable, IsTellable, HasFewCells, PassesLimit}
 use Rattle.lrp_run_laws.specs.Runs.{IsRunOf, IsComplete, EndsComplete, Run, task_asked, HaveStoodStill}
-use Rattle.lrp_run_laws.specs.Reasons.{HasManyRows, HasOtherHead, IsRefusedBehind, IsReason, HasReasonFor, HasTaskReason, AreNoEdits, IsNoDatabase, IsNoQuery, IsNoTokenOf, HasMany, IsAboveLimits, IsDatabaseRefused, IsQueryRefused, IsQueryAbove, IsQueryTooLarge, HasFailedFile, HasFailedOneOf, WhereNamed}
+use Rattle.lrp_run_laws.specs.Reasons.{HasManyRows, HasOtherHead, IsRefusedAfter, IsReason, HasReasonFor, HasTaskReason, AreNoEdits, IsNoDatabase, IsNoQuery, IsNoTokenOf, HasMany, IsAboveLimits, IsDatabaseRefused, IsQueryRefused, IsQueryAbove, IsQueryTooLarge, HasFailedFile, HasFailedOneOf, WhereNamed}
 use Rattle.lrp_top.specs.Resuming.{IsResumed, IsFresh, IsTokenOf, IsStale, shape_of}
 use Rattle.lrp_top.specs.Seen.{ShelfSeen, SinkSeen, HasFailed}
 use Rattle.lrp_top.specs.Due.{query_named}
@@ -206,7 +206,7 @@ no_token one digest (Some text) db q (Some tuple) resumed h = elim h [
 ]
 
 -- nor a head that is
-no_refused : OneToken → (way : Planning) (need : Option HeadNeed) (cap : Option ℕ) (digest : List ℕ) (after : Option Text) (db : List Relation) (q : Question) → IsFree way need cap after digest db q → IsRefusedBehind need digest after db q → ⊥
+no_refused : OneToken → (way : Planning) (need : Option HeadNeed) (cap : Option ℕ) (digest : List ℕ) (after : Option Text) (db : List Relation) (q : Question) → IsFree way need cap after digest db q → IsRefusedAfter need digest after db q → ⊥
 no_refused one way need cap digest after db q free h = elim h [
   | inl other ↦ free.head other
   | inr token ↦ no_token one digest after db q free.tuple free.resumed token
@@ -243,7 +243,7 @@ module _ (texts : DatabaseTexts) (of : FilesAsked) (need : Option HeadNeed) (que
   ]
 
   -- over the database that was read
-  query_here : IsNoQuery files (language_by of) free.db ⊎ OverQuery (language_by of) files (IsRefusedBehind need (digest_of files) after) free.db → ⊥
+  query_here : IsNoQuery files (language_by of) free.db ⊎ OverQuery (language_by of) files (IsRefusedAfter need (digest_of files) after) free.db → ⊥
   query_here h = elim h [
     | inl none ↦ elim none [
       | inl long ↦ no_longer (length files.query) free.holds.says.short long
@@ -251,11 +251,11 @@ module _ (texts : DatabaseTexts) (of : FilesAsked) (need : Option HeadNeed) (que
     ]
     | inr over ↦
         let same : over.q ≡ free.holds.q = queries.one free.db files.query over.q free.holds.q over.says.is free.holds.says.is in
-        no_refused one of.way need cap (digest_of files) after free.db free.holds.q free.holds.holds.holds (subst (λ q. IsRefusedBehind need (digest_of files) after free.db q) same over.holds)
+        no_refused one of.way need cap (digest_of files) after free.db free.holds.q free.holds.holds.holds (subst (λ q. IsRefusedAfter need (digest_of files) after free.db q) same over.holds)
   ]
 
-  pub query_stands : OverDatabase (civil_by of) files (λ db. IsNoQuery files (language_by of) db ⊎ OverQuery (language_by of) files (IsRefusedBehind need (digest_of files) after) db) → ⊥
-  query_stands h = query_here (subst (λ db. IsNoQuery files (language_by of) db ⊎ OverQuery (language_by of) files (IsRefusedBehind need (digest_of files) after) db) (same_database h.db h.says) h.holds)
+  pub query_stands : OverDatabase (civil_by of) files (λ db. IsNoQuery files (language_by of) db ⊎ OverQuery (language_by of) files (IsRefusedAfter need (digest_of files) after) db) → ⊥
+  query_stands h = query_here (subst (λ db. IsNoQuery files (language_by of) db ⊎ OverQuery (language_by of) files (IsRefusedAfter need (digest_of files) after) db) (same_database h.db h.says) h.holds)
 
   above_query : OverQuery (language_by of) files (IsAboveLimits of.way need cap) free.db → ⊥
   above_query over =
@@ -411,7 +411,7 @@ module _ (texts : DatabaseTexts) (queries : (language : QueryLanguage) → Query
   none_failed first second (inr over) = second over.holds
 
   asked_so : (task : Task) (of : FilesAsked) (need : Option HeadNeed) (cap : Option ℕ) (after : Option Text) → Asking of files (IsFree of.way need cap after (digest_of files)) → HaveStoodStill task run
-      → (HasFailedFile run.seen files task → ⊥) → (IsDatabaseRefused files task → IsNoDatabase files (civil_by of)) → (IsQueryRefused files task → OverDatabase (civil_by of) files (λ db. IsNoQuery files (language_by of) db ⊎ OverQuery (language_by of) files (IsRefusedBehind need (digest_of files) after) db))
+      → (HasFailedFile run.seen files task → ⊥) → (IsDatabaseRefused files task → IsNoDatabase files (civil_by of)) → (IsQueryRefused files task → OverDatabase (civil_by of) files (λ db. IsNoQuery files (language_by of) db ⊎ OverQuery (language_by of) files (IsRefusedAfter need (digest_of files) after) db))
       → (IsQueryAbove files task → OverDatabase (civil_by of) files (λ db. IsQueryTooLarge files (language_by of) db ⊎ OverQuery (language_by of) files (IsAboveLimits of.way need cap) db))
       → (ended : Status) → IsReason ended task files run.seen run.taken → EndsComplete ended task files run.taken
   asked_so task of need cap after free still failed database query above =

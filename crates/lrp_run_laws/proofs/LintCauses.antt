@@ -10,7 +10,7 @@ use Rattle.lrp_top.specs.Due.{IsDatabaseReadOf, IsLinted, IsLintedOver, IsOutput
 use Rattle.lrp_outputs.specs.Outcomes.{Outcome}
 use Rattle.lrp_top.specs.Seen.{ShelfSeen, AreBytesOf}
 use Rattle.lrp_top.specs.Sources.{Source}
-use Rattle.lrp_top.specs.Steps.{Behind}
+use Rattle.lrp_top.specs.Steps.{After}
 use Rattle.lrp_top.specs.Telling.{TellsFindings}
 use Rattle.lrp_top.specs.Written.{IsOverIn, plain_by}
 use Rattle.lrp_top.specs.Languages.{usual_by, usual_language}
@@ -44,7 +44,7 @@ module _ (database : Identifier) (tense civil : Bool) (seen : ShelfSeen) where
   told_as query files db says asked over (Err _) told = absurd told
 
   -- the query is read
-  placed_as : (name : Identifier) (files : Contents) (db : List Relation) → SaysRelations (usual_by civil) files db → (outcome : Outcome) (r : Result (Option RawQuestion) Refusal) → IsPlacedReadOf tense db seen name files.query r → Behind r (AfterQuery db) outcome → OutcomeFor (L (Some name)) seen files outcome
+  placed_as : (name : Identifier) (files : Contents) (db : List Relation) → SaysRelations (usual_by civil) files db → (outcome : Outcome) (r : Result (Option RawQuestion) Refusal) → IsPlacedReadOf tense db seen name files.query r → After r (AfterQuery db) outcome → OutcomeFor (L (Some name)) seen files outcome
   placed_as name files db says outcome (Ok None) is next = absurd is
   placed_as name files db says outcome (Ok (Some raw)) is next = told_as (Some name) files db says (Some raw) (λ Holds h. record { raw = raw; says = record { short = is.0; is = is.1 }; holds = h }) outcome next
   placed_as name files db says outcome (Err ReadQuery) is next = subst (OutcomeFor (L (Some name)) seen files) (sym next) (λ taken line. inr (record { db = db; says = says; holds = is }))
@@ -71,11 +71,11 @@ module _ (database : Identifier) (tense civil : Bool) (seen : ShelfSeen) where
     -- what is due after the database
     over_as : (query : Option Identifier) (db : List Relation) → length d ≤ 16777216 → IsDatabase (plain_by (usual_by civil) d) db → (outcome : Outcome) → IsLintedOver tense db seen query outcome → Explained (L query) seen outcome
     over_as None db short is outcome next =
-        explained_alone outcome (told_as None (two_files d []) db (record { short = short; is = is }) None (λ Holds h. h) outcome (subst (λ (r : Result (Option RawQuestion) Refusal). Behind r (AfterQuery db) outcome) next.is next.next))
+        explained_alone outcome (told_as None (two_files d []) db (record { short = short; is = is }) None (λ Holds h. h) outcome (subst (λ (r : Result (Option RawQuestion) Refusal). After r (AfterQuery db) outcome) next.is next.next))
     over_as (Some name) db short is outcome next =
         explained_with name next.is.bytes next.is.told outcome (placed_as name (two_files d next.is.bytes) db (record { short = short; is = is }) outcome next.first next.is.is next.next)
 
-    read_as : (query : Option Identifier) (outcome : Outcome) (r : Result (Source (List Relation)) Refusal) → IsDatabaseReadOf (usual_by civil) seen database d r → Behind r (λ s. IsLintedOver tense s.says seen query) outcome → Explained (L query) seen outcome
+    read_as : (query : Option Identifier) (outcome : Outcome) (r : Result (Source (List Relation)) Refusal) → IsDatabaseReadOf (usual_by civil) seen database d r → After r (λ s. IsLintedOver tense s.says seen query) outcome → Explained (L query) seen outcome
     read_as query outcome (Ok db) is next = over_as query db.says is.1 is.2 outcome next
     read_as query outcome (Err ReadDatabase) is next = subst (Explained (L query) seen) (sym next) (unread query _ (λ b. λ taken line. inl is))
     read_as query outcome (Err LongDatabase) is next = subst (Explained (L query) seen) (sym next) (unread query _ (λ b. λ taken line. inl is.0))

@@ -33,7 +33,7 @@ use Rattle.lrp_top.specs.Resuming.{IsResumed}
 use Rattle.lrp_top.specs.Sampled.{TellsSample}
 use Rattle.lrp_top.specs.Seen.{ShelfSeen, AreBytesOf}
 use Rattle.lrp_top.specs.Sources.{Source}
-use Rattle.lrp_top.specs.Steps.{Behind, Then}
+use Rattle.lrp_top.specs.Steps.{After, Then}
 use Rattle.lrp_top.specs.Telling.{TellsNumber, TellsPage, TellsPlan, TellsRanges, TellsRelations, TellsWitness}
 use Rattle.lrp_model.specs.DatabaseReading.{IsDatabase}
 use Rattle.lrp_top.specs.Watched.{AreEditsRead, IsFormFit, IsWatched}
@@ -159,7 +159,7 @@ ReadsOnly seen name bytes = (read : List ℕ) → AreBytesOf seen name read → 
 planned_within : (way : Planning) (need : Option HeadNeed) (db : List Relation) (q : Question) (p : Plan) → IsPlannedAs way need db q (Ok p) → IsWithinLimits (plan_by way db q) db q
 planned_within way need db q p h = within h.first h.next
   where
-    within : (first : Result (Unit {0}) Refusal) → Behind first (λ fit. IsPlanned way db q) (Ok p) → IsWithinLimits (plan_by way db q) db q
+    within : (first : Result (Unit {0}) Refusal) → After first (λ fit. IsPlanned way db q) (Ok p) → IsWithinLimits (plan_by way db q) db q
     within (Ok fit) next = next.1
     within (Err refusal) next = cc
 
@@ -178,9 +178,9 @@ module _ (known : Known) (of : FilesAsked) (need : Option HeadNeed) (files : Con
     abbrev Replanned : Source (List Relation) → Source Question → Outcome → Type 0
     Replanned d q = Then (IsPlannedAs of.way need d.says q.says) (Later d q)
 
-    behind_query : (d : Source (List Relation)) (q : Source Question) → d.bytes ≡ files.database → q.bytes ≡ files.query → SaysRelations (civil_by of) files d.says → SaysQuestion (language_by of) files d.says q.says
+    after_query : (d : Source (List Relation)) (q : Source Question) → d.bytes ≡ files.database → q.bytes ≡ files.query → SaysRelations (civil_by of) files d.says → SaysQuestion (language_by of) files d.says q.says
         → (o v : Outcome) → Planned d q o → Replanned d q v → Lasting o → Lasting v → Agree S o v
-    behind_query d q db qb says said = then_agree (IsPlannedAs of.way need d.says q.says) (IsPlannedAs of.way need d.says q.says) (Next d q) (Later d q) SameText S
+    after_query d q db qb says said = then_agree (IsPlannedAs of.way need d.says q.says) (IsPlannedAs of.way need d.says q.says) (Next d q) (Later d q) SameText S
         (planned_agree of.way need d.says q.says)
         (λ p r i j same. finish d q db qb says said (planned_within of.way need d.says q.says p i) p r same)
 
@@ -188,11 +188,11 @@ module _ (known : Known) (of : FilesAsked) (need : Option HeadNeed) (files : Con
         → (o v : Outcome) → Planned d q o → Replanned d e v → Lasting o → Lasting v → Agree S o v
     queried d q e db says i same o v n m lo lv =
         let is = subst (λ (b : List ℕ). (q.bytes ≡ b) × (length b ≤ 16777216) × IsSortedAs (language_by of) d.says b q.says) (third i.bytes i.told) i.is in
-        behind_query d q db is.0 says (record { short = is.1; is = is.2 }) o v n (subst (λ x. Replanned d x v) (sym same) m) lo lv
+        after_query d q db is.0 says (record { short = is.1; is = is.2 }) o v n (subst (λ x. Replanned d x v) (sym same) m) lo lv
 
-    behind_database : (d : Source (List Relation)) → d.bytes ≡ files.database → SaysRelations (civil_by of) files d.says
+    after_database : (d : Source (List Relation)) → d.bytes ≡ files.database → SaysRelations (civil_by of) files d.says
         → (o v : Outcome) → Then (IsQueryRead (language_by of) d.says seen of.query) (Planned d) o → Then (IsQueryRead (language_by of) d.says further of.query) (Replanned d) v → Lasting o → Lasting v → Agree S o v
-    behind_database d db says = then_agree (IsQueryRead (language_by of) d.says seen of.query) (IsQueryRead (language_by of) d.says further of.query) (Planned d) (Replanned d) (λ q e. q ≡ e) S
+    after_database d db says = then_agree (IsQueryRead (language_by of) d.says seen of.query) (IsQueryRead (language_by of) d.says further of.query) (Planned d) (Replanned d) (λ q e. q ≡ e) S
         (query_agree (language_by of) (known.queries (language_by of)) (known.query_fault (language_by of)) d.says files.query seen further of.query third fourth)
         (λ q e i j same. queried d q e db says i same)
 
@@ -200,7 +200,7 @@ module _ (known : Known) (of : FilesAsked) (need : Option HeadNeed) (files : Con
         → (o v : Outcome) → Then (IsQueryRead (language_by of) d.says seen of.query) (Planned d) o → Then (IsQueryRead (language_by of) e.says further of.query) (Replanned e) v → Lasting o → Lasting v → Agree S o v
     databased d e i same o v n m lo lv =
         let is = subst (λ (b : List ℕ). (d.bytes ≡ b) × (length b ≤ 16777216) × IsDatabase (plain_by (civil_by of) b) d.says) (first i.bytes i.told) i.is in
-        behind_database d is.0 (record { short = is.1; is = is.2 }) o v n (subst (λ (x : Source (List Relation)). Then (IsQueryRead (language_by of) x.says further of.query) (Replanned x) v) (sym same) m) lo lv
+        after_database d is.0 (record { short = is.1; is = is.2 }) o v n (subst (λ (x : Source (List Relation)). Then (IsQueryRead (language_by of) x.says further of.query) (Replanned x) v) (sym same) m) lo lv
 
     pub asked_agree : (o v : Outcome) → IsPlannedFor of need seen Next o → IsPlannedFor of need further Later v → Lasting o → Lasting v → Agree S o v
     asked_agree = then_agree (IsDatabaseRead (civil_by of) seen of.database) (IsDatabaseRead (civil_by of) further of.database) (λ d. Then (IsQueryRead (language_by of) d.says seen of.query) (Planned d)) (λ d. Then (IsQueryRead (language_by of) d.says further of.query) (Replanned d)) (λ d e. d ≡ e) S

@@ -15,7 +15,7 @@ use Rattle.lrp_top.specs.Due.{IsDatabaseReadOf, IsQueryRead, IsQueryReadOf, IsWa
 use Rattle.lrp_outputs.specs.Outcomes.{Outcome}
 use Rattle.lrp_top.specs.Seen.{ShelfSeen, AreBytesOf}
 use Rattle.lrp_top.specs.Sources.{Source}
-use Rattle.lrp_top.specs.Steps.{Behind, Then}
+use Rattle.lrp_top.specs.Steps.{After, Then}
 use Rattle.lrp_top.specs.Watched.{AreEditsRead, AreEditsReadOf, IsFormFit, IsWatched}
 use Rattle.lrp_top.specs.Written.{IsSortedAs, plain_by}
 use Rattle.lrp_top.specs.declared.language.QueryLanguage.TheVariants.{FirstOrder}
@@ -55,7 +55,7 @@ module _ (database query edits : Identifier) (cap : ℕ) (way : Planning) (auto 
   made_as files db q k es says (Err _) is = absurd is
 
   -- their file is read
-  edits_as : (files : Contents) (db : List Relation) (q : Question) → Kept auto files db q → (outcome : Outcome) (r : Result (List Edit) Refusal) → AreEditsReadOf db seen edits files.edits r → Behind r (IsWatched (is_kept q) way db q cap) outcome → OutcomeFor W seen files outcome
+  edits_as : (files : Contents) (db : List Relation) (q : Question) → Kept auto files db q → (outcome : Outcome) (r : Result (List Edit) Refusal) → AreEditsReadOf db seen edits files.edits r → After r (IsWatched (is_kept q) way db q cap) outcome → OutcomeFor W seen files outcome
   edits_as files db q k outcome (Ok es) is next = made_as files db q k es (record { short = is.0; is = is.1 }) outcome next
   edits_as files db q k outcome (Err (Watch watch.Read)) is next = subst (OutcomeFor W seen files) (sym next) (λ taken line. inr (keeping auto files db q k _ is))
   edits_as files db q k outcome (Err (Watch watch.Long)) is next = subst (OutcomeFor W seen files) (sym next) (λ taken line. inr (keeping auto files db q k _ (inl is.0)))
@@ -81,7 +81,7 @@ module _ (database query edits : Identifier) (cap : ℕ) (way : Planning) (auto 
       relations e = record { short = short; is = is_database }
 
       -- the query is looked at
-      kept_as : (q : Question) → length b ≤ 16777216 → IsSortedAs FirstOrder db b q → (outcome : Outcome) (r : Result (Unit {0}) Refusal) → IsFormFit auto q r → Behind r (λ kept. Then (AreEditsRead db seen edits) (IsWatched (is_kept q) way db q cap)) outcome → Explained W seen outcome
+      kept_as : (q : Question) → length b ≤ 16777216 → IsSortedAs FirstOrder db b q → (outcome : Outcome) (r : Result (Unit {0}) Refusal) → IsFormFit auto q r → After r (λ kept. Then (AreEditsRead db seen edits) (IsWatched (is_kept q) way db q cap)) outcome → Explained W seen outcome
       kept_as q few sorted outcome (Ok done) kept next =
           let files = three d b next.is.bytes in
           explained_by outcome next.is.bytes next.is.told
@@ -93,7 +93,7 @@ module _ (database query edits : Identifier) (cap : ℕ) (way : Planning) (auto 
 
       -- its file is read
       queried_as : (outcome : Outcome) (r : Result (Source Question) Refusal) → IsQueryReadOf FirstOrder db seen query b r
-          → Behind r (λ q. Then (IsFormFit auto q.says) (λ kept. Then (AreEditsRead db seen edits) (IsWatched (is_kept q.says) way db q.says cap))) outcome → Explained W seen outcome
+          → After r (λ q. Then (IsFormFit auto q.says) (λ kept. Then (AreEditsRead db seen edits) (IsWatched (is_kept q.says) way db q.says cap))) outcome → Explained W seen outcome
       queried_as outcome (Ok q) is next = kept_as q.says is.1 is.2 outcome next.first next.is next.next
       queried_as outcome (Err ReadQuery) is next = subst (Explained W seen) (sym next) (unread _ (λ e. λ taken line. inl (inr (record { db = db; says = relations e; holds = is }))))
       queried_as outcome (Err LongQuery) is next = subst (Explained W seen) (sym next) (unread _ (λ e. λ taken line. record { db = db; says = relations e; holds = inl (inl is.0) }))
@@ -110,7 +110,7 @@ module _ (database query edits : Identifier) (cap : ℕ) (way : Planning) (auto 
   alone : (d : List ℕ) → AreBytesOf seen database d → (outcome : Outcome) → ((b e : List ℕ) → OutcomeFor W seen (three d b e) outcome) → Explained W seen outcome
   alone d told outcome is = let some = some_bytes seen.files query in unread d some.0 told some.1 outcome (is some.0)
 
-  read_as : (d : List ℕ) → AreBytesOf seen database d → (outcome : Outcome) (r : Result (Source (List Relation)) Refusal) → IsDatabaseReadOf None seen database d r → Behind r AfterDatabase outcome → Explained W seen outcome
+  read_as : (d : List ℕ) → AreBytesOf seen database d → (outcome : Outcome) (r : Result (Source (List Relation)) Refusal) → IsDatabaseReadOf None seen database d r → After r AfterDatabase outcome → Explained W seen outcome
   read_as d told outcome (Ok db) is next = queried_as d next.is.bytes told next.is.told db.says is.1 is.2 outcome next.first next.is.is next.next
   read_as d told outcome (Err ReadDatabase) is next = subst (Explained W seen) (sym next) (alone d told _ (λ b e. λ taken line. inl (inl is)))
   read_as d told outcome (Err LongDatabase) is next = subst (Explained W seen) (sym next) (alone d told _ (λ b e. λ taken line. inl (inl is.0)))

@@ -206,44 +206,44 @@ made_or_refused e k l next fault some twin made refused = by e.add refused.adds 
 -- ---- the numbers and the limits that are passed
 
 -- all edits are made, or one is refused
-all_or_passed : (es before behind : List Edit) (e : Edit) (k l : KeepView) (later others : List KeepView) (fault : KeepFault) → fault ≢ limit.Memory → AreTwins k l → es ≡ before ++ e ∷ behind
+all_or_passed : (es before after : List Edit) (e : Edit) (k l : KeepView) (later others : List KeepView) (fault : KeepFault) → fault ≢ limit.Memory → AreTwins k l → es ≡ before ++ e ∷ after
     → AreMade es k later → AreMade before l others → IsRefusedEdit e (last_kept l others) fault → ⊥
-all_or_passed [] [] behind e k l later others fault some twin are made before refused = cc
-all_or_passed [] (b ∷ bs) behind e k l later others fault some twin are made before refused = cc
-all_or_passed (x ∷ es) [] behind e k l [] others fault some twin are made before refused = made
-all_or_passed (x ∷ es) [] behind e k l (next ∷ later) others fault some twin are made before refused =
+all_or_passed [] [] after e k l later others fault some twin are made before refused = cc
+all_or_passed [] (b ∷ bs) after e k l later others fault some twin are made before refused = cc
+all_or_passed (x ∷ es) [] after e k l [] others fault some twin are made before refused = made
+all_or_passed (x ∷ es) [] after e k l (next ∷ later) others fault some twin are made before refused =
     let same : x ≡ e = cc in
     made_or_refused e k l next fault some twin (subst (λ y. IsEditMade y k next) same made.0) (subst (λ (ks : List KeepView). IsRefusedEdit e (last_kept l ks) fault) before refused)
-all_or_passed (x ∷ es) (b ∷ bs) behind e k l [] others fault some twin are made before refused = made
-all_or_passed (x ∷ es) (b ∷ bs) behind e k l (next ∷ later) [] fault some twin are made before refused = before
-all_or_passed (x ∷ es) (b ∷ bs) behind e k l (next ∷ later) (other ∷ others) fault some twin are made before refused =
+all_or_passed (x ∷ es) (b ∷ bs) after e k l [] others fault some twin are made before refused = made
+all_or_passed (x ∷ es) (b ∷ bs) after e k l (next ∷ later) [] fault some twin are made before refused = before
+all_or_passed (x ∷ es) (b ∷ bs) after e k l (next ∷ later) (other ∷ others) fault some twin are made before refused =
     let same : x ≡ b = cc in
-    let rest : es ≡ bs ++ e ∷ behind = cc in
-    all_or_passed es bs behind e next other later others fault some (made_twin b.add b.relation b.row k l next other twin (subst (λ y. IsEditMade y k next) same made.0) before.0) rest made.1 before.1 refused
+    let rest : es ≡ bs ++ e ∷ after = cc in
+    all_or_passed es bs after e next other later others fault some (made_twin b.add b.relation b.row k l next other twin (subst (λ y. IsEditMade y k next) same made.0) before.0) rest made.1 before.1 refused
 
 -- two refused edits are one
-one_passed : (front before : List Edit) (d e : Edit) (rest behind : List Edit) (k l : KeepView) (later others : List KeepView) (fault other : KeepFault) → fault ≢ limit.Memory → other ≢ limit.Memory → AreTwins k l
-    → front ++ d ∷ rest ≡ before ++ e ∷ behind → AreMade front k later → AreMade before l others → IsRefusedEdit d (last_kept k later) fault → IsRefusedEdit e (last_kept l others) other → (length front ≡ length before) × (fault ≡ other)
-one_passed [] [] d e rest behind k l later others fault other some more twin are a b r s =
+one_passed : (front before : List Edit) (d e : Edit) (rest after : List Edit) (k l : KeepView) (later others : List KeepView) (fault other : KeepFault) → fault ≢ limit.Memory → other ≢ limit.Memory → AreTwins k l
+    → front ++ d ∷ rest ≡ before ++ e ∷ after → AreMade front k later → AreMade before l others → IsRefusedEdit d (last_kept k later) fault → IsRefusedEdit e (last_kept l others) other → (length front ≡ length before) × (fault ≡ other)
+one_passed [] [] d e rest after k l later others fault other some more twin are a b r s =
     let same : d ≡ e = cc in
     let own : IsRefusedEdit d k fault = subst (λ (ks : List KeepView). IsRefusedEdit d (last_kept k ks) fault) a r in
     let its : IsRefusedEdit e l other = subst (λ (ks : List KeepView). IsRefusedEdit e (last_kept l ks) other) b s in
     let cause : IsPastLimit (with_added k e.relation e.row) fault = subst (λ (x : Edit). IsPastLimit (with_added k x.relation x.row) fault) same own.cause in
     (refl, one_cause (with_added l e.relation e.row) fault other some more (cause_twin (with_added k e.relation e.row) (with_added l e.relation e.row) fault (twin_added k l e.relation e.row twin) cause) its.cause)
-one_passed [] (x ∷ before) d e rest behind k l later [] fault other some more twin are a b r s = absurd b
-one_passed [] (x ∷ before) d e rest behind k l later (next ∷ others) fault other some more twin are a b r s =
+one_passed [] (x ∷ before) d e rest after k l later [] fault other some more twin are a b r s = absurd b
+one_passed [] (x ∷ before) d e rest after k l later (next ∷ others) fault other some more twin are a b r s =
     let same : d ≡ x = cc in
     absurd (made_or_refused x l k next fault some (twin_back k l twin) b.0 (subst (λ y. IsRefusedEdit y k fault) same (subst (λ (ks : List KeepView). IsRefusedEdit d (last_kept k ks) fault) a r)))
-one_passed (y ∷ front) [] d e rest behind k l [] others fault other some more twin are a b r s = absurd a
-one_passed (y ∷ front) [] d e rest behind k l (next ∷ later) others fault other some more twin are a b r s =
+one_passed (y ∷ front) [] d e rest after k l [] others fault other some more twin are a b r s = absurd a
+one_passed (y ∷ front) [] d e rest after k l (next ∷ later) others fault other some more twin are a b r s =
     let same : e ≡ y = cc in
     absurd (made_or_refused y k l next other more twin a.0 (subst (λ z. IsRefusedEdit z l other) same (subst (λ (ks : List KeepView). IsRefusedEdit e (last_kept l ks) other) b s)))
-one_passed (y ∷ front) (x ∷ before) d e rest behind k l [] others fault other some more twin are a b r s = absurd a
-one_passed (y ∷ front) (x ∷ before) d e rest behind k l (next ∷ later) [] fault other some more twin are a b r s = absurd b
-one_passed (y ∷ front) (x ∷ before) d e rest behind k l (next ∷ later) (last ∷ others) fault other some more twin are a b r s =
+one_passed (y ∷ front) (x ∷ before) d e rest after k l [] others fault other some more twin are a b r s = absurd a
+one_passed (y ∷ front) (x ∷ before) d e rest after k l (next ∷ later) [] fault other some more twin are a b r s = absurd b
+one_passed (y ∷ front) (x ∷ before) d e rest after k l (next ∷ later) (last ∷ others) fault other some more twin are a b r s =
     let same : y ≡ x = cc in
-    let tail : front ++ d ∷ rest ≡ before ++ e ∷ behind = cc in
-    let both = one_passed front before d e rest behind next last later others fault other some more (made_twin x.add x.relation x.row k l next last twin (subst (λ z. IsEditMade z k next) same a.0) b.0) tail a.1 b.1 r s in
+    let tail : front ++ d ∷ rest ≡ before ++ e ∷ after = cc in
+    let both = one_passed front before d e rest after next last later others fault other some more (made_twin x.add x.relation x.row k l next last twin (subst (λ z. IsEditMade z k next) same a.0) b.0) tail a.1 b.1 r s in
     (ap suc both.0, both.1)
 
 -- the states of two watches
@@ -288,7 +288,7 @@ module _ (rank : OneRank) (tuples : WholeTuples) (db : List Relation) (q : Quest
   told_or_passed bytes zero fault some a p = not_within a.kept fault some a.within (cause_twin p.kept a.kept fault (opened_twins p.kept a.kept p.opened a.opened) p.at)
   told_or_passed bytes (suc n) fault some a p =
       let at = p.at.1 in
-      all_or_passed edits at.before at.behind at.edit a.kept p.kept a.later at.later fault some (opened_twins a.kept p.kept a.opened p.opened) at.are a.made at.made at.refused
+      all_or_passed edits at.before at.after at.edit a.kept p.kept a.later at.later fault some (opened_twins a.kept p.kept a.opened p.opened) at.are a.made at.made at.refused
 
   one_number : (number other : ℕ) (fault more : KeepFault) → fault ≢ limit.Memory → more ≢ limit.Memory → IsPassed db q edits cap number fault → IsPassed db q edits cap other more → (number ≡ other) × (fault ≡ more)
   one_number zero zero fault more some also a b = (refl, one_cause b.kept fault more some also (cause_twin a.kept b.kept fault (opened_twins a.kept b.kept a.opened b.opened) a.at) b.at)
@@ -297,7 +297,7 @@ module _ (rank : OneRank) (tuples : WholeTuples) (db : List Relation) (q : Quest
   one_number (suc n) (suc m) fault more some also a b =
       let x = a.at.1 in
       let y = b.at.1 in
-      let both = one_passed x.before y.before x.edit y.edit x.behind y.behind a.kept b.kept x.later y.later fault more some also (opened_twins a.kept b.kept a.opened b.opened) (sym x.are ∙ y.are) x.made y.made x.refused y.refused in
+      let both = one_passed x.before y.before x.edit y.edit x.after y.after a.kept b.kept x.later y.later fault more some also (opened_twins a.kept b.kept a.opened b.opened) (sym x.are ∙ y.are) x.made y.made x.refused y.refused in
       (x.number_is ∙ ap (λ n. n + 1) both.0 ∙ sym y.number_is, both.1)
 
 -- ---- decided anew

@@ -7,7 +7,7 @@ use Rattle.lrp_model.specs.PrintedPages.{token_of}
 use Rattle.lrp_model.specs.Satisfaction.{IsAnswer}
 use Rattle.lrp_model.specs.declared.relations.Relation.{Relation}
 use Rattle.lrp_top.specs.Resuming.{IsResumed}
-use Rattle.lrp_run_laws.specs.Tasks.{TellsPageBehind}
+use Rattle.lrp_run_laws.specs.Tasks.{TellsPageAfter}
 use Rattle.lrp_model.specs.Limits.{greatest_number}
 
 -- no end of the window is beyond the greatest number, as no command has one that is
@@ -23,5 +23,5 @@ pub record IsUnfinished (db : List Relation) (q : Question) (from to : ℤ) (aft
 -- the token of its last tuple is resumed just after that tuple, and each page that is told for the token goes on with the page
 pub record IsFollowed (digest : List ℕ) (db : List Relation) (q : Question) (from to : ℤ) (after : Option Tuple) (limit : ℕ) (page : List Tuple) (end : Tuple) : Type 0 where
   pub resumed : IsResumed digest q.head (Some (token_of digest end)) (Ok (Some end))
-  pub next : (further : ℕ) (civil json : Bool) (output : List ℕ) (told : TellsPageBehind from to further (Some (token_of digest end)) civil json digest output db q)
+  pub next : (further : ℕ) (civil json : Bool) (output : List ℕ) (told : TellsPageAfter from to further (Some (token_of digest end)) civil json digest output db q)
       → IsPage (IsAnswer db q) from to after (limit + further) (page ++ told.page.page) told.page.more

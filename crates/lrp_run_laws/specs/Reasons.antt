@@ -84,8 +84,8 @@ HasOtherHead None q = ⊥
 HasOtherHead (Some need) q = IsMetBy need q.head → ⊥
 
 -- the head or the token is refused
-abbrev pub IsRefusedBehind : Option HeadNeed → List ℕ → Option Text → List Relation → Question → Type 0
-IsRefusedBehind need digest after db q = HasOtherHead need q ⊎ IsNoTokenOf digest after db q
+abbrev pub IsRefusedAfter : Option HeadNeed → List ℕ → Option Text → List Relation → Question → Type 0
+IsRefusedAfter need digest after db q = HasOtherHead need q ⊎ IsNoTokenOf digest after db q
 
 -- a step of the plan by this way has more than cap cells; this is the first
 abbrev pub HasMany : Planning → Option ℕ → List Relation → Question → Type 0
@@ -115,7 +115,7 @@ WhereNamed (Some name) Holds = Holds name
 abbrev pub IsQueryRefused : Contents → Task → Type 0
 IsQueryRefused files (watch database query edits cap way auto) = OverDatabase None files (λ db. IsNoQuery files FirstOrder db ⊎ OverQuery FirstOrder files (λ db q. (is_kept q || auto) ≡ false) db)
 IsQueryRefused files (lint of) = OverDatabase (usual_by of.civil) files (λ db. WhereNamed of.query (λ name. IsNoQuery files (usual_language of.tense) db))
-IsQueryRefused files task = OfQuery (λ of need after cap. OverDatabase (civil_by of) files (λ db. IsNoQuery files (language_by of) db ⊎ OverQuery (language_by of) files (IsRefusedBehind need (digest_of files) after) db)) task
+IsQueryRefused files task = OfQuery (λ of need after cap. OverDatabase (civil_by of) files (λ db. IsNoQuery files (language_by of) db ⊎ OverQuery (language_by of) files (IsRefusedAfter need (digest_of files) after) db)) task
 
 -- the query's text is within the length, and what it says has too many formulas or one that is too deep
 abbrev pub IsQueryTooLarge : Contents → QueryLanguage → List Relation → Type 0

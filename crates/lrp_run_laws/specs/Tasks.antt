@@ -78,7 +78,7 @@ IsLawfulTask (sample seed size) files = Unit {0}
 -- ---- the output of a task
 
 -- a page of the query's answers in the window, after the tuple of the token where there is one
-pub record TellsPageBehind (from to : ℤ) (limit : ℕ) (after : Option Text) (civil json : Bool) (digest output : List ℕ) (db : List Relation) (q : Question) : Type 0 where
+pub record TellsPageAfter (from to : ℤ) (limit : ℕ) (after : Option Text) (civil json : Bool) (digest output : List ℕ) (db : List Relation) (q : Question) : Type 0 where
   pub tuple : Option Tuple
   pub resumed : IsResumed digest q.head after (Ok tuple)
   pub page : TellsPage db q from to tuple limit civil json digest output
@@ -93,7 +93,7 @@ pub record TellsPlanOf (way : Planning) (output : List ℕ) (db : List Relation)
 abbrev pub IsOutputOf : Task → Contents → List ℕ → Type 0
 IsOutputOf (ask of cap canon called) files output = Asking of files (λ db q. IsTextFor canon called db q output)
 IsOutputOf (decide of cap dates) files output = Asking of files (λ db q. TellsWitness dates db q output)
-IsOutputOf (list of from to limit after json cap) files output = Asking of files (TellsPageBehind from to limit after of.civil json (digest_of files) output)
+IsOutputOf (list of from to limit after json cap) files output = Asking of files (TellsPageAfter from to limit after of.civil json (digest_of files) output)
 IsOutputOf (count of from to cap) files output = Asking of files (λ db q. TellsNumber db q from to output)
 IsOutputOf (ranges of from to limit json cap) files output = Asking of files (λ db q. TellsRanges db q from to limit of.civil json output)
 IsOutputOf (explain of) files output = Asking of files (TellsPlanOf of.way output)

@@ -13,7 +13,7 @@ use Rattle.lrp_model.specs.Databases.{FitsRow, FitsDatabase}
 use Rattle.lrp_model.specs.DatabaseMeaning.{row_of, database_of}
 use Rattle.lrp_model.specs.DatabaseFaults.{row_faults, database_faults}
 use Rattle.lrp_model.specs.DatabaseReading.{IsDatabase}
-use Rattle.lrp_print.proofs.PieceLaws.{trees, behind}
+use Rattle.lrp_print.proofs.PieceLaws.{trees, after_piece}
 use Rattle.lrp_print.proofs.Meant.{trees_map, trees_all}
 use Rattle.lrp_sample.specs.Texts.{duration, departure, arrival, line, trip_line, heading, sample_database}
 use Rattle.lrp_sample.specs.Trees.{trip, trips, sample_relations}
@@ -54,11 +54,11 @@ trip_fits : (seed i : ℕ) (p : Place) → FitsRow (trip_at seed p i).item
 trip_fits seed i p = (((omega arith, omega arith, omega arith), ((omega arith, omega arith, omega arith), (line_short i, tt))), (omega arith, tt))
 
 database_fits : (seed size : ℕ) → FitsDatabase (relation_tree seed size start ∷ [])
-database_fits seed size = (trees_all (behind (trip_line seed)) (trip_at seed) (λ i. Unit {0}) (λ row. FitsRow row.item) (λ i p h. trip_fits seed i p) (range_with_len 0 size) (after start heading) (each (range_with_len 0 size)), tt)
+database_fits seed size = (trees_all (after_piece (trip_line seed)) (trip_at seed) (λ i. Unit {0}) (λ row. FitsRow row.item) (λ i p h. trip_fits seed i p) (range_with_len 0 size) (after start heading) (each (range_with_len 0 size)), tt)
 
 -- ---- without faults
 
-trips_sound : (seed : ℕ) (xs : List ℕ) (p : Place) → flat_map (row_faults (columns_tree start)) (trees (behind (trip_line seed)) (trip_at seed) p xs) ≡ []
+trips_sound : (seed : ℕ) (xs : List ℕ) (p : Place) → flat_map (row_faults (columns_tree start)) (trees (after_piece (trip_line seed)) (trip_at seed) p xs) ≡ []
 unfolding lib.Utf8.encode
 trips_sound seed [] p = refl
 trips_sound seed (i ∷ xs) p = trips_sound seed xs (after p (trip_line seed i))
@@ -75,7 +75,7 @@ trip_means seed i p = refl
 
 database_means : (seed size : ℕ) → sample_relations seed size ≡ database_of (relation_tree seed size start ∷ [])
 database_means seed size =
-    let rows = trees_map (behind (trip_line seed)) (trip_at seed) (λ row. row_of (columns_tree start) row.item) (trip seed) (λ i. Unit {0}) (λ i p h. trip_means seed i p) (range_with_len 0 size) (after start heading) (each (range_with_len 0 size)) in
+    let rows = trees_map (after_piece (trip_line seed)) (trip_at seed) (λ row. row_of (columns_tree start) row.item) (trip seed) (λ i. Unit {0}) (λ i p h. trip_means seed i p) (range_with_len 0 size) (after start heading) (each (range_with_len 0 size)) in
     ap (λ (l : List Row). record { name = codes "trip"; columns = (trips seed size).columns; rows = l } ∷ []) (sym rows)
 
 -- the text is read as the relation

@@ -5,7 +5,7 @@ use Rattle.lrp_model.specs.declared.relations.Sort.TheVariants.{Time, Data}
 use Rattle.lrp_model.specs.declared.formulas.Op.TheVariants.{Ge, Le}
 use Rattle.lrp_model.specs.declared.written.Located.{Located}
 use Rattle.lrp_model.specs.Tokens.{Spells}
-use Rattle.lrp_model.specs.Lexing.{tokens, tokens_from, after, skip, run, behind_run, word_or_name, text_from, symbol_from, scan, scan_in, symbol_in, tokens_in_from}
+use Rattle.lrp_model.specs.Lexing.{tokens, tokens_from, after, skip, run, after_run, word_or_name, text_from, symbol_from, scan, scan_in, symbol_in, tokens_in_from}
 use Rattle.lrp_model.specs.Queries.{WrittenTerm, WrittenArgument, WrittenFormula, WrittenQuery, query_text, FitsQuery}
 use Rattle.lrp_model.specs.Queries.WrittenTerm.{variable, shifted}
 use Rattle.lrp_model.specs.Queries.Language.{first_order}
@@ -45,7 +45,7 @@ written_sample = record {
 }
 
 query_spelled : Spells (query_text written_sample) (tokens sample_query)
-unfolding tokens_in_from after skip run behind_run word_or_name text_from symbol_in scan_in lib.Utf8.encode
+unfolding tokens_in_from after skip run after_run word_or_name text_from symbol_in scan_in lib.Utf8.encode
 query_spelled = (refl, ((refl, refl), (refl, ((refl, refl), (refl, ((refl, refl), (refl, ((refl, refl), (refl, ((refl, refl), ((refl, refl), (refl, ((refl, refl), ((refl, refl), ((refl, refl), (refl, ((refl, refl), (refl, ((refl, refl), (refl, ((refl, refl), (refl, (refl, ((refl, refl), ((refl, refl), ((refl, refl), (refl, ((refl, refl), ((refl, refl), ((refl, refl), (refl, ((refl, refl), ((refl, refl), ((refl, refl), (refl, ((refl, refl), ((refl, refl), ((refl, refl), (refl, ((refl, refl), (refl, ((refl, refl), (refl, ((refl, refl), (refl, (refl, ((refl, refl), (refl, ((refl, refl), (refl, ((refl, refl), (refl, ((refl, refl), (refl, (refl, (refl, (refl, (refl, (refl, refl)))))))))))))))))))))))))))))))))))))))))))))))))))))))))))
 
 query_utf8 : IsUtf8 sample_query

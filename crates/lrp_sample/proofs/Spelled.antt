@@ -23,33 +23,33 @@ use Rattle.lrp_model.specs.Tokens.Token.{name_token, word_token, number_token, s
 use Rattle.lrp_model.specs.Tokens.Part.{at, any}
 use Rattle.lrp_model.specs.Columns.{column_text}
 use Rattle.lrp_model.specs.Databases.{comma, row_text, relation_text, database_text}
-use Rattle.lrp_model.specs.Lexing.{is_name_byte, after, start, tokens, tokens_from, skip, scan, run, behind_run, word_or_name, symbol_from, scan_in, symbol_in, tokens_in_from}
+use Rattle.lrp_model.specs.Lexing.{is_name_byte, after, start, tokens, tokens_from, skip, scan, run, after_run, word_or_name, symbol_from, scan_in, symbol_in, tokens_in_from}
 use Rattle.std.specs.Char.{is_ascii_digit}
 use Rattle.lrp_model.specs.Printed.{quoted}
 use Rattle.lrp_model.specs.Names.{IsName}
 use Rattle.lrp_text.proofs.Sound.{takes_join}
 use Rattle.lrp_print.proofs.Spelling.{Spelled, tokens_at, nothing, both, token_any}
 use Rattle.lrp_print.proofs.Scanned.{Stops, digit_begins, number_scanned}
-use Rattle.lrp_print.proofs.PieceLaws.{space, feed, open_at, open_any, close, open_brace, close_brace, colon, semicolon, plus, separator, relation_word, where_word, letter_word, time_at, data_at, name_at, number_at, number_any, written, text_at, trees, behind, joined_spelled}
+use Rattle.lrp_print.proofs.PieceLaws.{space, feed, open_at, open_any, close, open_brace, close_brace, colon, semicolon, plus, separator, relation_word, where_word, letter_word, time_at, data_at, name_at, number_at, number_any, written, text_at, trees, after_piece, joined_spelled}
 use Rattle.lrp_sample.specs.Texts.{duration, departure, arrival, line, trip_line, heading, sample_database}
 use Rattle.lrp_sample.proofs.Small.{departure_small, arrival_small, duration_small, line_plain}
 
 -- ---- names
 
 dep_named : IsName (codes "dep")
-unfolding scan_in run behind_run word_or_name
+unfolding scan_in run after_run word_or_name
 dep_named = refl
 
 arr_named : IsName (codes "arr")
-unfolding scan_in run behind_run word_or_name
+unfolding scan_in run after_run word_or_name
 arr_named = refl
 
 line_named : IsName (codes "line")
-unfolding scan_in run behind_run word_or_name
+unfolding scan_in run after_run word_or_name
 line_named = refl
 
 trip_named : IsName (codes "trip")
-unfolding scan_in run behind_run word_or_name
+unfolding scan_in run after_run word_or_name
 trip_named = refl
 
 -- ---- the tree
@@ -115,7 +115,7 @@ abbrev pub relation_tree : ℕ → ℕ → Place → RawRelation
 relation_tree seed size p = record {
   name = located (after p (codes "relation ")) (codes "trip");
   columns = columns_tree p;
-  rows = trees (behind (trip_line seed)) (trip_at seed) (after p heading) (range_with_len 0 size);
+  rows = trees (after_piece (trip_line seed)) (trip_at seed) (after p heading) (range_with_len 0 size);
 }
 
 -- ---- a row

@@ -145,7 +145,7 @@ module _ {V : Type 0} (old new : Slab (Link V)) (chain : Chain) (value : V) (who
 
       line_more : (if chain.in_line then chain.last + 1 == key else false) ≡ true → (i : ℕ) → i < chain.count + 1 → (i < chain.count) ⊎ (chain.count ≤ i) → key_after (get new) i chain.first ≡ chain.first + i
       line_more e i within (inl before) = before_end i before ∙ whole.line (follows chain.in_line e).0 i before
-      line_more e i within (inr behind) =
+      line_more e i within (inr after) =
           let here : i ≡ suc n = omega (arith, count_is) in
           let at_last : chain.last ≡ chain.first + n = sym whole.last ∙ whole.line (follows chain.in_line e).0 n (omega (arith, count_is)) in
           let next : chain.last + 1 ≡ key = (follows chain.in_line e).1 in

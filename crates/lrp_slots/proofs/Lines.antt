@@ -16,7 +16,7 @@ use Rattle.lrp_model.specs.declared.tuples.Cell.{Cell}
 use Rattle.lrp_slots.specs.declared.chains.Chain.{Chain}
 use Rattle.lrp_slots.specs.Lists.{cell_cmp}
 use Rattle.lrp_slots.specs.Links.{chain_at, IsLengthened}
-use Rattle.lrp_slots.specs.Lines.{IsLine, IsBehindAll, ComesBetween, IsGap, StandsInLine, StandOnce}
+use Rattle.lrp_slots.specs.Lines.{IsLine, IsAfterAll, ComesBetween, IsGap, StandsInLine, StandOnce}
 use Rattle.lrp_slots.proofs.Tables.{exact_cells, cells_total, same_cell, other_cell}
 
 same_some : {X : Type 0} {x y : X} → Some x ≡ Some y → x ≡ y
@@ -77,7 +77,7 @@ between_all es k high e = record {
   order = omega arith;
   within = omega arith;
   before = λ j e lt p. absurd (omega arith);
-  behind = λ j f le p. absurd (no_entry es j f (omega arith) p);
+  after = λ j f le p. absurd (no_entry es j f (omega arith) p);
 }
 
 -- after the one in the middle
@@ -90,7 +90,7 @@ goes_up es k low high middle m line b le lt at gt = record {
     | inl under ↦ above k m.0 e.0 gt (in_order es line j middle e m under p at)
     | inr same ↦ subst (λ (g : Cell × Chain). cell_cmp k g.0 ≡ Greater) (same_some (sym at ∙ ap (slice_get es) (sym same) ∙ p)) gt
   ];
-  behind = b.behind;
+  after = b.after;
 }
   where
     below_or : (j m : ℕ) → j < m + 1 → (j < m) ⊎ (j ≡ m)
@@ -103,7 +103,7 @@ goes_down es k low high middle m line b le lt at less = record {
   order = le;
   within = let w = b.within in omega (arith, w, lt);
   before = b.before;
-  behind = λ j e from p. elim (from_or middle j from) [
+  after = λ j e from p. elim (from_or middle j from) [
     | inl over ↦ cells_total.trans k m.0 e.0 less (in_order es line middle j m e over at p)
     | inr same ↦ subst (λ (g : Cell × Chain). cell_cmp k g.0 ≡ Less) (same_some (sym at ∙ ap (slice_get es) same ∙ p)) less
   ];
@@ -122,19 +122,19 @@ read_or (x ∷ es) (suc i) d lt = read_or es i d (omega arith)
 pub put_at_gap : (es : List (Cell × Chain)) (k : Cell) (v : Chain) (i : ℕ) → IsGap es k i → insert es i (k, v) ≡ insert_entry cell_cmp es k v
 put_at_gap [] k v zero gap = refl
 put_at_gap [] k v (suc i) gap = absurd (let w = gap.within in omega (arith, w))
-put_at_gap (x ∷ es) k v zero gap = sym (ap (λ o. match_ordering o ((k, v) ∷ x ∷ es) ((x.0, v) ∷ es) (x ∷ insert_entry cell_cmp es k v)) (gap.behind 0 x (omega arith) refl))
+put_at_gap (x ∷ es) k v zero gap = sym (ap (λ o. match_ordering o ((k, v) ∷ x ∷ es) ((x.0, v) ∷ es) (x ∷ insert_entry cell_cmp es k v)) (gap.after 0 x (omega arith) refl))
 put_at_gap (x ∷ es) k v (suc i) gap =
     ap (λ l. x ∷ l) (put_at_gap es k v i (record {
       order = omega arith;
       within = let w = gap.within in omega (arith, w);
       before = λ j e lt p. gap.before (suc j) e (omega arith) p;
-      behind = λ j e from p. gap.behind (suc j) e (omega arith) p;
+      after = λ j e from p. gap.after (suc j) e (omega arith) p;
     }))
     ∙ sym (ap (λ o. match_ordering o ((k, v) ∷ x ∷ es) ((x.0, v) ∷ es) (x ∷ insert_entry cell_cmp es k v)) (gap.before 0 x (omega arith) refl))
 
 -- it is missing
 pub gap_none : (es : List (Cell × Chain)) (k : Cell) (i : ℕ) → IsLine es → IsGap es k i → chain_at es k ≡ None
-gap_none es k i line gap = lookup_at_gap cells_total k es i line gap.before (λ e p. gap.behind i e (omega arith) p)
+gap_none es k i line gap = lookup_at_gap cells_total k es i line gap.before (λ e p. gap.after i e (omega arith) p)
 
 -- ---- a cell that stands in line
 
@@ -212,32 +212,32 @@ taken_updates es k q line =
 -- ---- a cell after the line
 
 -- it is not held
-pub behind_none : (es : List (Cell × Chain)) (k : Cell) → IsBehindAll k es → chain_at es k ≡ None
-behind_none [] k behind = refl
-behind_none (x ∷ es) k behind = lookup_tail (is_at (cell_cmp k)) x es (ap is_eq behind.0) ∙ behind_none es k behind.1
+pub after_none : (es : List (Cell × Chain)) (k : Cell) → IsAfterAll k es → chain_at es k ≡ None
+after_none [] k after = refl
+after_none (x ∷ es) k after = lookup_tail (is_at (cell_cmp k)) x es (ap is_eq after.0) ∙ after_none es k after.1
 
 -- it goes to the end
-pub goes_behind : (es : List (Cell × Chain)) (k : Cell) (v : Chain) → IsBehindAll k es → es ++ (k, v) ∷ [] ≡ insert_entry cell_cmp es k v
-goes_behind [] k v behind = refl
-goes_behind (x ∷ es) k v behind =
-    ap (λ l. x ∷ l) (goes_behind es k v behind.1)
-    ∙ sym (ap (λ o. match_ordering o ((k, v) ∷ x ∷ es) ((x.0, v) ∷ es) (x ∷ insert_entry cell_cmp es k v)) behind.0)
+pub goes_after : (es : List (Cell × Chain)) (k : Cell) (v : Chain) → IsAfterAll k es → es ++ (k, v) ∷ [] ≡ insert_entry cell_cmp es k v
+goes_after [] k v after = refl
+goes_after (x ∷ es) k v after =
+    ap (λ l. x ∷ l) (goes_after es k v after.1)
+    ∙ sym (ap (λ o. match_ordering o ((k, v) ∷ x ∷ es) ((x.0, v) ∷ es) (x ∷ insert_entry cell_cmp es k v)) after.0)
 
 -- what comes after the last cell comes after all
-pub behind_last : (es : List (Cell × Chain)) (k : Cell) (e : Cell × Chain) → IsLine es → slice_get es (length es - 1) ≡ Some e → cell_cmp k e.0 ≡ Greater → IsBehindAll k es
-behind_last [] k e line at gt = tt
-behind_last (x ∷ []) k e line at gt = (subst (λ (g : Cell × Chain). cell_cmp k g.0 ≡ Greater) (sym (same_some at)) gt, tt)
-behind_last (x ∷ y ∷ es) k e line at gt =
+pub after_last : (es : List (Cell × Chain)) (k : Cell) (e : Cell × Chain) → IsLine es → slice_get es (length es - 1) ≡ Some e → cell_cmp k e.0 ≡ Greater → IsAfterAll k es
+after_last [] k e line at gt = tt
+after_last (x ∷ []) k e line at gt = (subst (λ (g : Cell × Chain). cell_cmp k g.0 ≡ Greater) (sym (same_some at)) gt, tt)
+after_last (x ∷ y ∷ es) k e line at gt =
     let last : length (x ∷ y ∷ es) - 1 ≡ suc (length (y ∷ es) - 1) = omega arith in
-    let rest : IsBehindAll k (y ∷ es) = behind_last (y ∷ es) k e (rest_of x (y ∷ es) line) (ap (slice_get (x ∷ y ∷ es)) (sym last) ∙ at) gt in
+    let rest : IsAfterAll k (y ∷ es) = after_last (y ∷ es) k e (rest_of x (y ∷ es) line) (ap (slice_get (x ∷ y ∷ es)) (sym last) ∙ at) gt in
     (above k y.0 x.0 rest.0 (first_of x (y ∷ es) line).0, rest)
 
 -- the cell at a place comes after those before it
-behind_before : (es : List (Cell × Chain)) (i : ℕ) (e : Cell × Chain) → IsLine es → slice_get es i ≡ Some e → IsBehindAll e.0 (take i es)
-behind_before [] i e line at = cc
-behind_before (x ∷ es) zero e line at = tt
-behind_before (x ∷ es) (suc i) e line at =
-    (turned x.0 e.0 Less (at_key (λ y. cell_cmp x.0 y ≡ Less) es i e (first_of x es line) at), behind_before es i e (rest_of x es line) at)
+after_before : (es : List (Cell × Chain)) (i : ℕ) (e : Cell × Chain) → IsLine es → slice_get es i ≡ Some e → IsAfterAll e.0 (take i es)
+after_before [] i e line at = cc
+after_before (x ∷ es) zero e line at = tt
+after_before (x ∷ es) (suc i) e line at =
+    (turned x.0 e.0 Less (at_key (λ y. cell_cmp x.0 y ≡ Less) es i e (first_of x es line) at), after_before es i e (rest_of x es line) at)
 
 one_more : (es : List (Cell × Chain)) (i : ℕ) (e : Cell × Chain) → slice_get es i ≡ Some e → take i es ++ e ∷ [] ≡ take (i + 1) es
 one_more [] i e at = cc
@@ -246,7 +246,7 @@ one_more (x ∷ es) (suc i) e at = let later : suc (i + 1) ≡ suc i + 1 = omega
 
 -- one more of a line goes to the end of those before it
 pub one_in_read : (line : List (Cell × Chain)) (i : ℕ) (e : Cell × Chain) → IsLine line → slice_get line i ≡ Some e → insert_entry cell_cmp (take i line) e.0 e.1 ≡ take (i + 1) line
-one_in_read line i e ordered read = sym (goes_behind (take i line) e.0 e.1 (behind_before line i e ordered read)) ∙ one_more line i e read
+one_in_read line i e ordered read = sym (goes_after (take i line) e.0 e.1 (after_before line i e ordered read)) ∙ one_more line i e read
 
 -- ---- a cell that is put in
 

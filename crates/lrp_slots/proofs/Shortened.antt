@@ -16,29 +16,29 @@ use Rattle.lrp_slots.specs.declared.chains.Chain.{Chain}
 use Rattle.lrp_slots.specs.declared.narrow.Narrow.{Narrow}
 use Rattle.lrp_slots.specs.Lists.{cell_cmp}
 use Rattle.lrp_slots.specs.Links.{chain_at}
-use Rattle.lrp_slots.specs.Lines.{IsLine, IsBehindAll, ComesBetween, IsGap, StandsInLine}
+use Rattle.lrp_slots.specs.Lines.{IsLine, IsAfterAll, ComesBetween, IsGap, StandsInLine}
 use Rattle.lrp_slots.specs.Narrow.{narrow_cmp, wide, wide_entries, AreOneWidth}
 use Rattle.lrp_slots.proofs.Tables.{exact_cells, same_cell}
-use Rattle.lrp_slots.proofs.Lines.{empty_of, goes_behind, turned, first_of, rest_of, between_all, goes_down, goes_up, stands, set_there, taken_there, put_at_gap, put_line, taken_line, no_line, one_in_read}
+use Rattle.lrp_slots.proofs.Lines.{empty_of, goes_after, turned, first_of, rest_of, between_all, goes_down, goes_up, stands, set_there, taken_there, put_at_gap, put_line, taken_line, no_line, one_in_read}
 
 -- ---- the order of keys
 
 -- what is equal after does not decide
-behind_two : (r s t : Ordering) → ordering_then r (ordering_then s t) ≡ ordering_then r (ordering_then s (ordering_then t Equal))
-behind_two Less s t = refl
-behind_two Greater s t = refl
-behind_two Equal Less t = refl
-behind_two Equal Greater t = refl
-behind_two Equal Equal Less = refl
-behind_two Equal Equal Equal = refl
-behind_two Equal Equal Greater = refl
+after_two : (r s t : Ordering) → ordering_then r (ordering_then s t) ≡ ordering_then r (ordering_then s (ordering_then t Equal))
+after_two Less s t = refl
+after_two Greater s t = refl
+after_two Equal Less t = refl
+after_two Equal Greater t = refl
+after_two Equal Equal Less = refl
+after_two Equal Equal Equal = refl
+after_two Equal Equal Greater = refl
 
 decided : (p q r s t : Ordering) → ordering_then p (ordering_then q (ordering_then r (ordering_then s t))) ≡ ordering_then (ordering_then p (ordering_then q Equal)) (ordering_then r (ordering_then s (ordering_then t Equal)))
 decided Less q r s t = refl
 decided Greater q r s t = refl
 decided Equal Less r s t = refl
 decided Equal Greater r s t = refl
-decided Equal Equal r s t = behind_two r s t
+decided Equal Equal r s t = after_two r s t
 
 -- the first of two orders decides, or the second
 grouped : (p q r : Ordering) → ordering_then (ordering_then p q) r ≡ ordering_then p (ordering_then q r)
@@ -163,11 +163,11 @@ keyless (x ∷ es) cell none = elim (tests (is_at (cell_cmp cell) (wide x.0))) [
 pub wide_line : (es : List (Narrow × Chain)) → IsStrictlySortedBy narrow_cmp (keys_of es) → IsLine (wide_entries es)
 unfolding IsStrictlySortedBy
 wide_line [] sorted = tt
-wide_line (x ∷ es) sorted = (all_behind x es sorted.0, wide_line es sorted.1)
+wide_line (x ∷ es) sorted = (all_after x es sorted.0, wide_line es sorted.1)
   where
-    all_behind : (x : Narrow × Chain) (es : List (Narrow × Chain)) → AllByRecursion (λ y. narrow_cmp x.0 y ≡ Less) (keys_of es) → AllByRecursion (λ y. cell_cmp (wide x.0) y ≡ Less) (keys_of (wide_entries es))
-    all_behind x [] less = tt
-    all_behind x (y ∷ es) less = (sym (same_order x.0 y.0) ∙ less.0, all_behind x es less.1)
+    all_after : (x : Narrow × Chain) (es : List (Narrow × Chain)) → AllByRecursion (λ y. narrow_cmp x.0 y ≡ Less) (keys_of es) → AllByRecursion (λ y. cell_cmp (wide x.0) y ≡ Less) (keys_of (wide_entries es))
+    all_after x [] less = tt
+    all_after x (y ∷ es) less = (sym (same_order x.0 y.0) ∙ less.0, all_after x es less.1)
 
 -- what a search tells where it finds a key and where it finds none
 pub found_place : (r : Result ℕ ℕ) (o : Option ℕ) (P Q : ℕ → Type 0) → o ≡ result_ok r → ((i : ℕ) → P i → Q i) → IfOk r P → IfSome o Q
@@ -260,10 +260,10 @@ of_one P [] x rest all = all.0
 of_one P (y ∷ es) x rest all = of_one P es x rest all.1
 
 -- the next cell of a line comes after those before it
-next_behind : (es : List (Cell × Chain)) (x : Cell × Chain) (rest : List (Cell × Chain)) → IsLine (es ++ x ∷ rest) → IsBehindAll x.0 es
-next_behind [] x rest line = tt
-next_behind (y ∷ es) x rest line =
-    (turned y.0 x.0 Less (of_one (λ z. cell_cmp y.0 z ≡ Less) es x rest (first_of y (es ++ x ∷ rest) line)), next_behind es x rest (rest_of y (es ++ x ∷ rest) line))
+next_after : (es : List (Cell × Chain)) (x : Cell × Chain) (rest : List (Cell × Chain)) → IsLine (es ++ x ∷ rest) → IsAfterAll x.0 es
+next_after [] x rest line = tt
+next_after (y ∷ es) x rest line =
+    (turned y.0 x.0 Less (of_one (λ z. cell_cmp y.0 z ≡ Less) es x rest (first_of y (es ++ x ∷ rest) line)), next_after es x rest (rest_of y (es ++ x ∷ rest) line))
 
 one_further : (es : List (Cell × Chain)) (x : Cell × Chain) (rest : List (Cell × Chain)) → (es ++ x ∷ []) ++ rest ≡ es ++ x ∷ rest
 one_further [] x rest = refl
@@ -273,7 +273,7 @@ one_further (y ∷ es) x rest = ap (λ l. y ∷ l) (one_further es x rest)
 pub one_widened : (es : List (Cell × Chain)) (x : Narrow × Chain) (rest : List (Narrow × Chain)) (all : List (Cell × Chain)) → IsLine all → es ++ wide_entries (x ∷ rest) ≡ all
     → insert_entry cell_cmp es (wide x.0) x.1 ++ wide_entries rest ≡ all
 one_widened es x rest all line e =
-    ap (λ l. l ++ wide_entries rest) (sym (goes_behind es (wide x.0) x.1 (next_behind es (wide x.0, x.1) (wide_entries rest) (subst IsLine (sym e) line))))
+    ap (λ l. l ++ wide_entries rest) (sym (goes_after es (wide x.0) x.1 (next_after es (wide x.0, x.1) (wide_entries rest) (subst IsLine (sym e) line))))
     ∙ one_further es (wide x.0, x.1) (wide_entries rest) ∙ e
 
 -- ---- keys in line

@@ -13,8 +13,8 @@ abbrev pub IsLine : List (Cell × Chain) → Type 0
 IsLine line = IsStrictlySortedBy cell_cmp (keys_of line)
 
 -- the cell comes after each cell of the line
-abbrev pub IsBehindAll : Cell → List (Cell × Chain) → Type 0
-IsBehindAll cell line = AllByRecursion (λ e. cell_cmp cell e.0 ≡ Greater) line
+abbrev pub IsAfterAll : Cell → List (Cell × Chain) → Type 0
+IsAfterAll cell line = AllByRecursion (λ e. cell_cmp cell e.0 ≡ Greater) line
 
 -- the cell stands at this place of the line
 pub record StandsInLine (line : List (Cell × Chain)) (cell : Cell) (place : ℕ) : Type 0 where
@@ -28,7 +28,7 @@ pub record ComesBetween (line : List (Cell × Chain)) (cell : Cell) (low high : 
   pub order : low ≤ high
   pub within : high ≤ length line
   pub before : (i : ℕ) (entry : Cell × Chain) → i < low → slice_get line i ≡ Some entry → cell_cmp cell entry.0 ≡ Greater
-  pub behind : (i : ℕ) (entry : Cell × Chain) → high ≤ i → slice_get line i ≡ Some entry → cell_cmp cell entry.0 ≡ Less
+  pub after : (i : ℕ) (entry : Cell × Chain) → high ≤ i → slice_get line i ≡ Some entry → cell_cmp cell entry.0 ≡ Less
 
 -- the cell is missing in the line, and this is the place where it goes
 abbrev pub IsGap : List (Cell × Chain) → Cell → ℕ → Type 0

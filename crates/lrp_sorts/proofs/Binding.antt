@@ -33,6 +33,6 @@ bound_names (b ∷ bs) n =
     ∙ ap (λ t. t || is_named_in (map (λ b. b.name) bs) n) (nat_list_eq_equiv.symm b.name n)
 
 -- a sort after a reference is there where the sort is
-pub there_behind : (s : Option (Bor Sort)) → is_some s ≡ is_some (option_map (λ (s : Bor Sort). s.now) s)
-there_behind None = refl
-there_behind (Some s) = refl
+pub there_after : (s : Option (Bor Sort)) → is_some s ≡ is_some (option_map (λ (s : Bor Sort). s.now) s)
+there_after None = refl
+there_after (Some s) = refl

@@ -141,15 +141,15 @@ module _ (passes : Sort → Bool) (bs : Binders) where
   no_fewer x xs = most_cond (is_named_in xs x) (counted passes (binder_sort bs x)) (count passes bs xs)
 
   -- the count of a list in which a name was taken out after another
-  behind : (n x : Identifier) (xs : List Identifier) → bytes_eq n x ≡ false
+  after : (n x : Identifier) (xs : List Identifier) → bytes_eq n x ≡ false
       → count passes bs (x ∷ without n xs) ≡ cond (is_named_in xs x) (count passes bs (without n xs)) (counted passes (binder_sort bs x) + count passes bs (without n xs))
-  behind n x xs e = ap (λ b. cond b (count passes bs (without n xs)) (counted passes (binder_sort bs x) + count passes bs (without n xs))) (stays n x xs e)
+  after n x xs e = ap (λ b. cond b (count passes bs (without n xs)) (counted passes (binder_sort bs x) + count passes bs (without n xs))) (stays n x xs e)
 
   fewer_at : (n x : Identifier) (xs : List Identifier) (b : Bool) → bytes_eq n x ≡ b → count passes bs (without n xs) ≤ count passes bs xs
       → count passes bs (cond (not b) (x ∷ without n xs) (without n xs)) ≤ count passes bs (x ∷ xs)
   fewer_at n x xs true e rest = let more : count passes bs xs ≤ count passes bs (x ∷ xs) = no_fewer x xs in omega (arith, rest, more)
   fewer_at n x xs false e rest =
-      subst (λ k. k ≤ count passes bs (x ∷ xs)) (sym (behind n x xs e)) (more_cond (is_named_in xs x) (counted passes (binder_sort bs x)) (count passes bs (without n xs)) (count passes bs xs) rest)
+      subst (λ k. k ≤ count passes bs (x ∷ xs)) (sym (after n x xs e)) (more_cond (is_named_in xs x) (counted passes (binder_sort bs x)) (count passes bs (without n xs)) (count passes bs xs) rest)
 
   -- without a name there are no more
   fewer : (n : Identifier) (xs : List Identifier) → count passes bs (without n xs) ≤ count passes bs xs
@@ -172,7 +172,7 @@ module _ (passes : Sort → Bool) (bs : Binders) where
       → (is_named_in xs n ≡ true → suc (count passes bs (without n xs)) ≤ count passes bs xs) → suc (count passes bs (cond (not b) (x ∷ without n xs) (without n xs))) ≤ count passes bs (x ∷ xs)
   out_at n x xs true e i p rest = out_here n x xs (is_named_in xs n) (same_name n x e) refl p rest
   out_at n x xs false e i p rest =
-      subst (λ k. suc k ≤ count passes bs (x ∷ xs)) (sym (behind n x xs e)) (sooner_cond (is_named_in xs x) (counted passes (binder_sort bs x)) (count passes bs (without n xs)) (count passes bs xs) (rest i))
+      subst (λ k. suc k ≤ count passes bs (x ∷ xs)) (sym (after n x xs e)) (sooner_cond (is_named_in xs x) (counted passes (binder_sort bs x)) (count passes bs (without n xs)) (count passes bs xs) (rest i))
 
   -- without a name that is counted there are fewer
   out : (n : Identifier) (xs : List Identifier) → is_named_in xs n ≡ true → passing passes (binder_sort bs n) ≡ true → suc (count passes bs (without n xs)) ≤ count passes bs xs

@@ -38,10 +38,10 @@ abbrev pub after : Option ℕ → Bool → ℕ → Option ℕ
 after (Some i) b n = Some i
 after None b n = cond b (Some n) None
 
-behind : (o : Option ℕ) (b : Bool) (n : ℕ) → option_map suc (after o b n) ≡ after (option_map suc o) b (suc n)
-behind (Some i) b n = refl
-behind None true n = refl
-behind None false n = refl
+afterwards : (o : Option ℕ) (b : Bool) (n : ℕ) → option_map suc (after o b n) ≡ after (option_map suc o) b (suc n)
+afterwards (Some i) b n = refl
+afterwards None true n = refl
+afterwards None false n = refl
 
 in_more : {A : Type 0} (p : A → Bool) (xs : List A) (y : A) → first_in p (xs ++ y ∷ []) ≡ after (first_in p xs) (p y) (length xs)
 in_more p [] y = by (p y)
@@ -49,7 +49,7 @@ in_more p [] y = by (p y)
     by : (b : Bool) → cond b (Some 0) (option_map suc None) ≡ cond b (Some 0) None
     by true = refl
     by false = refl
-in_more p (x ∷ xs) y = ap (λ o. cond (p x) (Some 0) (option_map suc o)) (in_more p xs y) ∙ ap (λ o. cond (p x) (Some 0) o) (behind (first_in p xs) (p y) (length xs)) ∙ by (p x)
+in_more p (x ∷ xs) y = ap (λ o. cond (p x) (Some 0) (option_map suc o)) (in_more p xs y) ∙ ap (λ o. cond (p x) (Some 0) o) (afterwards (first_in p xs) (p y) (length xs)) ∙ by (p x)
   where
     by : (b : Bool) → cond b (Some 0) (after (option_map suc (first_in p xs)) (p y) (suc (length xs))) ≡ after (cond b (Some 0) (option_map suc (first_in p xs))) (p y) (suc (length xs))
     by true = refl
@@ -172,9 +172,9 @@ found_before p xs ys None e h = grind (arith, h)
 found_before p xs ys (Some x) e h = sym (find-append p xs ys ∙ ap (λ o. option_or o (find p ys)) (sym e))
 
 -- what is not found among some is sought among the others
-pub found_behind : {A : Type 0} (p : A → Bool) (xs ys : List A) (o : Option A) → o ≡ find p xs → is_some o ≡ false → find p ys ≡ find p (xs ++ ys)
-found_behind p xs ys None e h = sym (find-append p xs ys ∙ ap (λ o. option_or o (find p ys)) (sym e))
-found_behind p xs ys (Some x) e h = grind (arith, h)
+pub found_after : {A : Type 0} (p : A → Bool) (xs ys : List A) (o : Option A) → o ≡ find p xs → is_some o ≡ false → find p ys ≡ find p (xs ++ ys)
+found_after p xs ys None e h = sym (find-append p xs ys ∙ ap (λ o. option_or o (find p ys)) (sym e))
+found_after p xs ys (Some x) e h = grind (arith, h)
 
 -- there are no others
 pub found_alone : {A : Type 0} (p : A → Bool) (xs ys : List A) (o : Option A) → o ≡ find p xs → length ys ≡ 0 → o ≡ find p (xs ++ ys)
@@ -198,5 +198,5 @@ pub place_within : {A : Type 0} (name : A → List ℕ) (xs : List A) (n : List 
 place_within name xs n i e = omega (arith, (position-Some (bytes_eq n) (map name xs) i [] e).0, length-map xs name)
 
 -- the element after a reference at a place
-pub behind_at : {A : Type 0} (xs : List (Bor A)) (i : ℕ) (x : Bor A) → i < length xs → x ≡ get_or xs i x → slice_get (map (λ r. r.now) xs) i ≡ Some x.now
-behind_at xs i x lt is = slice_get-map (λ r. r.now) xs i ∙ ap (option_map (λ r. r.now)) (slice_get_read xs (length xs) i x refl lt is)
+pub after_at : {A : Type 0} (xs : List (Bor A)) (i : ℕ) (x : Bor A) → i < length xs → x ≡ get_or xs i x → slice_get (map (λ r. r.now) xs) i ≡ Some x.now
+after_at xs i x lt is = slice_get-map (λ r. r.now) xs i ∙ ap (option_map (λ r. r.now)) (slice_get_read xs (length xs) i x refl lt is)

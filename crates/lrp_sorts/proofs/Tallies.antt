@@ -9,7 +9,7 @@ use Rattle.lrp_model.specs.Faults.{is_named_in}
 use Rattle.lrp_model.specs.Sorting.{Binders, binder_sort, count, too_many}
 use Rattle.lrp_model.specs.declared.relations.Sort.{Sort}
 use Rattle.lrp_model.specs.declared.raw.RawColumn.{RawColumn}
-use Rattle.lrp_sorts.specs.Widths.{passing, AreKeptNames, IsTally, names_behind}
+use Rattle.lrp_sorts.specs.Widths.{passing, AreKeptNames, IsTally, names_after}
 use Rattle.lrp_sorts.specs.declared.width.Tally.{Tally}
 use Rattle.lrp_sorts.proofs.Counting.{own_name, or_true}
 use Rattle.lrp_sorts.proofs.Kept.{none_kept, same_kept, not_kept, wide_kept, kept_outside}
@@ -17,27 +17,27 @@ use Rattle.lrp_sorts.proofs.Kept.{none_kept, same_kept, not_kept, wide_kept, kep
 -- ---- names after references
 
 -- a test of names after references is that of the names
-pub among_behind : (ns : List (Bor Identifier)) (m : Identifier) → list_any (λ (n : Bor Identifier). bytes_eq m n.now) ns ≡ is_named_in (names_behind ns) m
-among_behind [] m = refl
-among_behind (n ∷ ns) m = ap (λ b. bytes_eq m n.now || b) (among_behind ns m)
+pub among_after : (ns : List (Bor Identifier)) (m : Identifier) → list_any (λ (n : Bor Identifier). bytes_eq m n.now) ns ≡ is_named_in (names_after ns) m
+among_after [] m = refl
+among_after (n ∷ ns) m = ap (λ b. bytes_eq m n.now || b) (among_after ns m)
 
 -- whether one passes, and the others
-passed : (b : Bool) (n : Bor Identifier) (l : List (Bor Identifier)) (m : List Identifier) → names_behind l ≡ m → names_behind (cond b (n ∷ l) l) ≡ cond b (n.now ∷ m) m
+passed : (b : Bool) (n : Bor Identifier) (l : List (Bor Identifier)) (m : List Identifier) → names_after l ≡ m → names_after (cond b (n ∷ l) l) ≡ cond b (n.now ∷ m) m
 passed true n l m e = ap (λ m. n.now ∷ m) e
 passed false n l m e = e
 
 -- the names that pass, after references or not
-pub filter_behind : (p : Identifier → Bool) (ns : List (Bor Identifier)) → names_behind (filter (λ (n : Bor Identifier). p n.now) ns) ≡ filter p (names_behind ns)
-filter_behind p [] = refl
-filter_behind p (n ∷ ns) = passed (p n.now) n (filter (λ (n : Bor Identifier). p n.now) ns) (filter p (names_behind ns)) (filter_behind p ns)
+pub filter_after : (p : Identifier → Bool) (ns : List (Bor Identifier)) → names_after (filter (λ (n : Bor Identifier). p n.now) ns) ≡ filter p (names_after ns)
+filter_after p [] = refl
+filter_after p (n ∷ ns) = passed (p n.now) n (filter (λ (n : Bor Identifier). p n.now) ns) (filter p (names_after ns)) (filter_after p ns)
 
 -- each name of a list is one of it
-pub item_behind : (ns : List (Bor Identifier)) (i : ℕ) (n : Bor Identifier) → i < length ns → n ≡ get_or ns i n → is_named_in (names_behind ns) n.now ≡ true
-item_behind [] i n lt is = absurd (omega arith)
-item_behind (m ∷ ns) zero n lt is =
-    ap (λ t. t || is_named_in (names_behind ns) n.now) (ap (λ (x : Bor Identifier). bytes_eq n.now x.now) (sym is) ∙ own_name n.now)
-item_behind (m ∷ ns) (suc i) n lt is =
-    ap (λ t. bytes_eq n.now m.now || t) (item_behind ns i n (omega (arith, lt)) is) ∙ or_true (bytes_eq n.now m.now)
+pub item_after : (ns : List (Bor Identifier)) (i : ℕ) (n : Bor Identifier) → i < length ns → n ≡ get_or ns i n → is_named_in (names_after ns) n.now ≡ true
+item_after [] i n lt is = absurd (omega arith)
+item_after (m ∷ ns) zero n lt is =
+    ap (λ t. t || is_named_in (names_after ns) n.now) (ap (λ (x : Bor Identifier). bytes_eq n.now x.now) (sym is) ∙ own_name n.now)
+item_after (m ∷ ns) (suc i) n lt is =
+    ap (λ t. bytes_eq n.now m.now || t) (item_after ns i n (omega (arith, lt)) is) ∙ or_true (bytes_eq n.now m.now)
 
 -- ---- the kinds
 
@@ -59,37 +59,37 @@ data_not_time (Some s) e = flipped (is_time s) e
 -- the tally of no names
 pub none_counted : (bs : Binders) (q : ℕ) (t : Tally) → t.times.items ≡ [] → t.texts.items ≡ [] → IsTally bs q [] t
 none_counted bs q t e f = record {
-  times = subst (λ ns. AreKeptNames is_time bs q [] (names_behind ns)) (sym e) (none_kept is_time bs q);
-  texts = subst (λ ns. AreKeptNames is_data bs q [] (names_behind ns)) (sym f) (none_kept is_data bs q);
+  times = subst (λ ns. AreKeptNames is_time bs q [] (names_after ns)) (sym e) (none_kept is_time bs q);
+  texts = subst (λ ns. AreKeptNames is_data bs q [] (names_after ns)) (sym f) (none_kept is_data bs q);
 }
 
 module _ (bs : Binders) (q : ℕ) (names : List Identifier) (old : Tally) (n : Identifier) (t : IsTally bs q names old) where
   -- a name without a binder is not counted
   pub counts_nowhere : binder_sort bs n ≡ None → IsTally bs q (names ++ n ∷ []) old
   counts_nowhere h = record {
-    times = not_kept is_time bs q names (names_behind old.times.items) n t.times (ap (passing is_time) h);
-    texts = not_kept is_data bs q names (names_behind old.texts.items) n t.texts (ap (passing is_data) h);
+    times = not_kept is_time bs q names (names_after old.times.items) n t.times (ap (passing is_time) h);
+    texts = not_kept is_data bs q names (names_after old.texts.items) n t.texts (ap (passing is_data) h);
   }
 
   -- a variable of sort time
   pub time_counted : (new : Tally) (s : Sort) → binder_sort bs n ≡ Some s → is_time s ≡ true
-      → (passing is_time (binder_sort bs n) ≡ true → AreKeptNames is_time bs q names (names_behind old.times.items) → AreKeptNames is_time bs q (names ++ n ∷ []) (names_behind new.times.items))
+      → (passing is_time (binder_sort bs n) ≡ true → AreKeptNames is_time bs q names (names_after old.times.items) → AreKeptNames is_time bs q (names ++ n ∷ []) (names_after new.times.items))
       → new.texts ≡ old.texts → IsTally bs q (names ++ n ∷ []) new
   time_counted new s h p f e =
       let b : passing is_time (binder_sort bs n) ≡ true = ap (passing is_time) h ∙ p in
       record {
         times = f b t.times;
-        texts = subst (λ v. AreKeptNames is_data bs q (names ++ n ∷ []) (names_behind v.items)) (sym e) (not_kept is_data bs q names (names_behind old.texts.items) n t.texts (time_not_data (binder_sort bs n) b));
+        texts = subst (λ v. AreKeptNames is_data bs q (names ++ n ∷ []) (names_after v.items)) (sym e) (not_kept is_data bs q names (names_after old.texts.items) n t.texts (time_not_data (binder_sort bs n) b));
       }
 
   -- a variable of a data sort
   pub text_counted : (new : Tally) (s : Sort) → binder_sort bs n ≡ Some s → is_time s ≡ false
-      → (passing is_data (binder_sort bs n) ≡ true → AreKeptNames is_data bs q names (names_behind old.texts.items) → AreKeptNames is_data bs q (names ++ n ∷ []) (names_behind new.texts.items))
+      → (passing is_data (binder_sort bs n) ≡ true → AreKeptNames is_data bs q names (names_after old.texts.items) → AreKeptNames is_data bs q (names ++ n ∷ []) (names_after new.texts.items))
       → new.times ≡ old.times → IsTally bs q (names ++ n ∷ []) new
   text_counted new s h p f e =
       let b : passing is_data (binder_sort bs n) ≡ true = ap (passing is_data) h ∙ ap not p in
       record {
-        times = subst (λ v. AreKeptNames is_time bs q (names ++ n ∷ []) (names_behind v.items)) (sym e) (not_kept is_time bs q names (names_behind old.times.items) n t.times (data_not_time (binder_sort bs n) b));
+        times = subst (λ v. AreKeptNames is_time bs q (names ++ n ∷ []) (names_after v.items)) (sym e) (not_kept is_time bs q names (names_after old.times.items) n t.times (data_not_time (binder_sort bs n) b));
         texts = f b t.texts;
       }
 
@@ -103,8 +103,8 @@ turned_or false false = refl
 -- the order of names plays no part
 pub first_counted : (bs : Binders) (q : ℕ) (names : List Identifier) (n : Identifier) (t : Tally) → IsTally bs q (names ++ n ∷ []) t → IsTally bs q (n ∷ names) t
 first_counted bs q names n t k = record {
-  times = same_kept is_time bs q (names ++ n ∷ []) (n ∷ names) (names_behind t.times.items) (λ m. list_any-append (bytes_eq m) names (n ∷ []) ∙ turned_or (is_named_in names m) (bytes_eq m n)) k.times;
-  texts = same_kept is_data bs q (names ++ n ∷ []) (n ∷ names) (names_behind t.texts.items) (λ m. list_any-append (bytes_eq m) names (n ∷ []) ∙ turned_or (is_named_in names m) (bytes_eq m n)) k.texts;
+  times = same_kept is_time bs q (names ++ n ∷ []) (n ∷ names) (names_after t.times.items) (λ m. list_any-append (bytes_eq m) names (n ∷ []) ∙ turned_or (is_named_in names m) (bytes_eq m n)) k.times;
+  texts = same_kept is_data bs q (names ++ n ∷ []) (n ∷ names) (names_after t.texts.items) (λ m. list_any-append (bytes_eq m) names (n ∷ []) ∙ turned_or (is_named_in names m) (bytes_eq m n)) k.texts;
 }
 
 -- the first names after the others, or before them
@@ -124,9 +124,9 @@ turned_kept passes bs q names more kept k =
 pub wide_counted : (bs : Binders) (q : ℕ) (names : List Identifier) (t : Tally) → IsTally bs q names t → (nat_lt 8 (length t.times.items) || nat_lt 8 (length t.texts.items)) ≡ too_many bs names
 wide_counted bs q names t k =
     ap (λ l. nat_lt 8 l || nat_lt 8 (length t.texts.items)) (sym (length-map t.times.items (λ n. n.now)))
-    ∙ ap (λ l. nat_lt 8 (length (names_behind t.times.items)) || nat_lt 8 l) (sym (length-map t.texts.items (λ n. n.now)))
-    ∙ ap (λ b. b || nat_lt 8 (length (names_behind t.texts.items))) (wide_kept is_time bs q names (names_behind t.times.items) k.times)
-    ∙ ap (λ b. nat_lt 8 (count is_time bs names) || b) (wide_kept is_data bs q names (names_behind t.texts.items) k.texts)
+    ∙ ap (λ l. nat_lt 8 (length (names_after t.times.items)) || nat_lt 8 l) (sym (length-map t.texts.items (λ n. n.now)))
+    ∙ ap (λ b. b || nat_lt 8 (length (names_after t.texts.items))) (wide_kept is_time bs q names (names_after t.times.items) k.times)
+    ∙ ap (λ b. nat_lt 8 (count is_time bs names) || b) (wide_kept is_data bs q names (names_after t.texts.items) k.texts)
 
 -- one of two tests decides
 pub first_decides : (a b w : Bool) → (a || b) ≡ w → a ≡ true → a ≡ w
@@ -139,13 +139,13 @@ second_decides false b w e h = e
 
 -- outside a quantifier
 pub outside_counted : (c : RawColumn) (bs : Binders) (q : ℕ) (names : List Identifier) (n : Identifier) (old new : Tally) → c.name ≡ n → IsTally (c ∷ bs) (suc q) names old
-    → names_behind new.times.items ≡ without n (names_behind old.times.items) → names_behind new.texts.items ≡ without n (names_behind old.texts.items) → IsTally bs q (without n names) new
+    → names_after new.times.items ≡ without n (names_after old.times.items) → names_after new.texts.items ≡ without n (names_after old.texts.items) → IsTally bs q (without n names) new
 outside_counted c bs q names n old new e k t d =
     record {
-      times = subst (λ m. AreKeptNames is_time bs q (without m names) (names_behind new.times.items)) e
-          (subst (λ l. AreKeptNames is_time bs q (without c.name names) l) (sym (t ∙ ap (λ m. without m (names_behind old.times.items)) (sym e))) (kept_outside is_time c bs q names (names_behind old.times.items) k.times));
-      texts = subst (λ m. AreKeptNames is_data bs q (without m names) (names_behind new.texts.items)) e
-          (subst (λ l. AreKeptNames is_data bs q (without c.name names) l) (sym (d ∙ ap (λ m. without m (names_behind old.texts.items)) (sym e))) (kept_outside is_data c bs q names (names_behind old.texts.items) k.texts));
+      times = subst (λ m. AreKeptNames is_time bs q (without m names) (names_after new.times.items)) e
+          (subst (λ l. AreKeptNames is_time bs q (without c.name names) l) (sym (t ∙ ap (λ m. without m (names_after old.times.items)) (sym e))) (kept_outside is_time c bs q names (names_after old.times.items) k.times));
+      texts = subst (λ m. AreKeptNames is_data bs q (without m names) (names_after new.texts.items)) e
+          (subst (λ l. AreKeptNames is_data bs q (without c.name names) l) (sym (d ∙ ap (λ m. without m (names_after old.texts.items)) (sym e))) (kept_outside is_data c bs q names (names_after old.texts.items) k.texts));
     }
 
 -- ---- binders

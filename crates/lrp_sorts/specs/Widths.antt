@@ -21,13 +21,13 @@ pub record AreKeptNames (passes : Sort → Bool) (bs : Binders) (quantifiers : �
   pub every : length kept ≤ 8 + quantifiers → (n : Identifier) → is_named_in names n ≡ true → passing passes (binder_sort bs n) ≡ true → is_named_in kept n ≡ true
 
 -- what names stand after references
-abbrev pub names_behind : List (Bor Identifier) → List Identifier
-names_behind = map (λ n. n.now)
+abbrev pub names_after : List (Bor Identifier) → List Identifier
+names_after = map (λ n. n.now)
 
 -- the tally of a list of names
 pub record IsTally (bs : Binders) (quantifiers : ℕ) (names : List Identifier) (tally : Tally) : Type 0 where
-  pub times : AreKeptNames is_time bs quantifiers names (names_behind tally.times.items)
-  pub texts : AreKeptNames is_data bs quantifiers names (names_behind tally.texts.items)
+  pub times : AreKeptNames is_time bs quantifiers names (names_after tally.times.items)
+  pub texts : AreKeptNames is_data bs quantifiers names (names_after tally.texts.items)
 
 -- the tally of the names that occur free within the binders of a scope
 abbrev pub IsTallied : Around → List Identifier → Tally → Type 0

@@ -45,7 +45,7 @@ pub fn inspect<'a>(
         RawKind::Or { of } => inspect_each(alloc, catalog, scope, of),
         RawKind::Implies { left, right } => {
             let before = inspect_whole(alloc, catalog, scope, left)?;
-            inspect_behind(alloc, catalog, scope, before, right)
+            inspect_after(alloc, catalog, scope, before, right)
         }
         RawKind::Exists { binder, of } => inspect_bound(alloc, catalog, scope, binder, of),
         RawKind::Forall { binder, of } => inspect_bound(alloc, catalog, scope, binder, of),
@@ -73,7 +73,7 @@ pub fn inspect_whole<'a>(
 
 // What a formula shows, its own width among it, together with what was found before it.
 #[cycle(walking)]
-fn inspect_behind<'a>(
+fn inspect_after<'a>(
     alloc: Global,
     catalog: &Catalog<'_>,
     scope: &mut Scope<'a>,
@@ -92,8 +92,8 @@ fn inspect_behind<'a>(
     if is_narrow_leaf(f) {
         return leaf(catalog, scope, before, f);
     }
-    let behind = inspect_whole(alloc, catalog, scope, f)?;
-    both(scope.quantifiers(), before, behind)
+    let after = inspect_whole(alloc, catalog, scope, f)?;
+    both(scope.quantifiers(), before, after)
 }
 
 // What a quantifier and its formula show, the width of the formula among it.
@@ -137,7 +137,7 @@ fn inspect_each<'a>(
 {
     let mut found = Finding::none(alloc);
     for f in fs {
-        found = inspect_behind(alloc, catalog, scope, found, f)?;
+        found = inspect_after(alloc, catalog, scope, found, f)?;
     }
     Ok(found)
 }

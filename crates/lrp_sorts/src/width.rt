@@ -5,7 +5,7 @@ ghost use Rattle.lrp_model.specs.Faults.{is_named_in};
 ghost use Rattle.lrp_model.specs.Sorting.{Binders, binder_sort, too_many};
 ghost use Rattle.lrp_model.specs.declared.raw.RawColumn.{RawColumn};
 ghost use Rattle.lrp_model.specs.declared.relations.Sort.{Sort as SortOf};
-ghost use Rattle.lrp_sorts.specs.Widths.{AreKeptNames, IsTally, names_behind, passing};
+ghost use Rattle.lrp_sorts.specs.Widths.{AreKeptNames, IsTally, names_after, passing};
 
 use lrp_model::{Memory, Name, Sort};
 use std::alloc::Global;
@@ -97,7 +97,7 @@ fn is_other(name: &Name, other: &Name) -> bool
 }
 
 fn is_among(names: &[&Name], name: &Name) -> bool
-    ensures { result ≡ is_named_in (names_behind names.now) name.now }
+    ensures { result ≡ is_named_in (names_after names.now) name.now }
 {
     names.iter().any(|n| *name == **n)
 }
@@ -106,9 +106,9 @@ fn is_among(names: &[&Name], name: &Name) -> bool
 fn keep<'a>(kept: &mut Vec<&'a Name>, quantifiers: usize, name: &'a Name) -> Result<(), Memory>
     ensures { OnOk result ((passes : SortOf → Bool) (bs : Binders) (names : List Identifier)
         → passing passes (binder_sort bs name.now) ≡ true
-        → AreKeptNames passes bs quantifiers names (names_behind kept.old.items)
+        → AreKeptNames passes bs quantifiers names (names_after kept.old.items)
         → AreKeptNames passes bs quantifiers (names ++ name.now ∷ [])
-        (names_behind kept.new.items)) }
+        (names_after kept.new.items)) }
 {
     let more = kept.len().saturating_sub(MOST);
     if more <= quantifiers && !is_among(kept, name) {
@@ -126,9 +126,9 @@ fn merged<'a>(
 ) -> Result<Vec<&'a Name>, Memory>
     ensures { IfOk result (λ made. (passes : SortOf → Bool) (bs : Binders)
         (names more : List Identifier) → AreKeptNames passes bs quantifiers names
-        (names_behind left.entry.items)
-        → AreKeptNames passes bs quantifiers more (names_behind right.entry.items)
-        → AreKeptNames passes bs quantifiers (names ++ more) (names_behind made.items)) }
+        (names_after left.entry.items)
+        → AreKeptNames passes bs quantifiers more (names_after right.entry.items)
+        → AreKeptNames passes bs quantifiers (names ++ more) (names_after made.items)) }
 {
     if left.len() < right.len() {
         appended(quantifiers, right, &left)
@@ -145,9 +145,9 @@ fn appended<'a>(
 ) -> Result<Vec<&'a Name>, Memory>
     ensures { IfOk result (λ made. (passes : SortOf → Bool) (bs : Binders)
         (some more : List Identifier) → AreKeptNames passes bs quantifiers some
-        (names_behind names.entry.items)
-        → AreKeptNames passes bs quantifiers more (names_behind others.now)
-        → AreKeptNames passes bs quantifiers (some ++ more) (names_behind made.items)) }
+        (names_after names.entry.items)
+        → AreKeptNames passes bs quantifiers more (names_after others.now)
+        → AreKeptNames passes bs quantifiers (some ++ more) (names_after made.items)) }
 {
     let mut kept = names;
     keep_each(&mut kept, quantifiers, others)?;
@@ -161,9 +161,9 @@ fn keep_each<'a>(
     others: &[&'a Name],
 ) -> Result<(), Memory>
     ensures { OnOk result ((passes : SortOf → Bool) (bs : Binders) (names more : List Identifier)
-        → AreKeptNames passes bs quantifiers names (names_behind kept.old.items)
-        → AreKeptNames passes bs quantifiers more (names_behind others.now)
-        → AreKeptNames passes bs quantifiers (names ++ more) (names_behind kept.new.items)) }
+        → AreKeptNames passes bs quantifiers names (names_after kept.old.items)
+        → AreKeptNames passes bs quantifiers more (names_after others.now)
+        → AreKeptNames passes bs quantifiers (names ++ more) (names_after kept.new.items)) }
 {
     for name in others {
         keep(kept, quantifiers, *name)?;

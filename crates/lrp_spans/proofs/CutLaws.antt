@@ -10,7 +10,7 @@ use Rattle.lrp_spans.specs.declared.spans.Span.{Span}
 use Rattle.lrp_spans.specs.Spans.{AreFronts, SpanComesBefore, EndsBefore, HasTurn, InSpans, IsSpanDifference, IsSpanFront, IsRest, IsSpan}
 use Rattle.lrp_spans.proofs.Lists.{below_or, in_none, in_one, later, head_in, pairs_append, pairs_one, pairs_none}
 use Rattle.lrp_spans.proofs.MergeLaws.{in_left, in_right, in_either, in_this, this_has}
-use Rattle.lrp_spans.proofs.SpanLaws.{behind}
+use Rattle.lrp_spans.proofs.SpanLaws.{afterwards}
 use Rattle.lrp_theory.proofs.Below.{within_less}
 use Rattle.lrp_matrix.proofs.NearestLemmas.{above_more}
 
@@ -119,19 +119,19 @@ pub record AreCut (high : ℕ) (span : Span) (done left pieces : List Span) (res
   pub ahead : (p h : Span) → Contains pieces p → Contains left h → SpanComesBefore p h
   pub before : (p : Span) → Contains pieces p → SpanComesBefore p rest
   pub valid : IsSpan (high + 1) rest
-  pub behind : (h : Span) → Contains left h → SpanComesBefore h rest → ⊥
+  pub afterwards : (h : Span) → Contains left h → SpanComesBefore h rest → ⊥
   pub to_pieces : (r : ℕ) (n : ℤ) → InSpans pieces r n → HasTurn span r n × (InSpans done r n → ⊥)
   pub to_rest : (r : ℕ) (n : ℤ) → HasTurn rest r n → HasTurn span r n × (InSpans done r n → ⊥)
   pub from : (r : ℕ) (n : ℤ) → HasTurn span r n → (InSpans done r n → ⊥) → InSpans pieces r n ⊎ HasTurn rest r n
 
 pub cut_start : (high : ℕ) (span : Span) (holes : List Span) → IsSpan high span → ((h : Span) → Contains holes h → SpanComesBefore h span → ⊥) → AreCut high span [] holes [] span
-cut_start high span holes v behind = record {
+cut_start high span holes v afterwards = record {
   each = λ p l. absurd (in_none p l);
   apart = pairs_none SpanComesBefore;
   ahead = λ p h l m. absurd (in_none p l);
   before = λ p l. absurd (in_none p l);
   valid = wider_span high span v;
-  behind = behind;
+  afterwards = afterwards;
   to_pieces = λ r n h. absurd (in_none h.span h.listed);
   to_rest = λ r n t. (t, λ h. in_none h.span h.listed);
   from = λ r n t out. inr t;
@@ -282,7 +282,7 @@ module _ (high : ℕ) (span : Span) (done : List Span) (hole : Span) (others pie
       ahead = λ p h l m. pieces_ahead p h l (later hole others h m);
       before = before;
       valid = valid;
-      behind = behind_next;
+      afterwards = after_next;
       to_pieces = λ r n h. (let t = pieces_to r n h in (t.0, λ o. t.1 (more r n o)));
       to_rest = λ r n t. (
           let a = re.to r n t in
@@ -328,13 +328,13 @@ module _ (high : ℕ) (span : Span) (done : List Span) (hole : Span) (others pie
         ]
 
         -- no hole after comes before what is left
-        behind_next : (h : Span) → Contains others h → SpanComesBefore h next → ⊥
-        behind_next h l (inl less) = of (order h l)
+        after_next : (h : Span) → Contains others h → SpanComesBefore h next → ⊥
+        after_next h l (inl less) = of (order h l)
           where
             of : SpanComesBefore hole h → ⊥
             of (inl a) = omega (arith, a, less, next_residue, same)
             of (inr a) = let e : hole.residue ≡ h.residue = a.0 in omega (arith, e, less, next_residue, same)
-        behind_next h l (inr b) = of (order h l)
+        after_next h l (inr b) = of (order h l)
           where
             v : IsSpan high h
             v = all h (later hole others h l)
@@ -350,7 +350,7 @@ module _ (high : ℕ) (span : Span) (done : List Span) (hole : Span) (others pie
                 let high_turn : v.turn <ℤ re.turn.0 = ends_below h next b.1 v.turn re.turn.0 v.is (own next rest.residue re.turn.0 re.turn.1) in
                 let in_rest : HasTurn rest rest.residue v.turn = record {
                   residue = refl;
-                  low = behind hole rest v.turn hole.last rest.first refl refl (λ e. after (inr (sym same, e))) out;
+                  low = afterwards hole rest v.turn hole.last rest.first refl refl (λ e. after (inr (sym same, e))) out;
                   high = within_less v.turn re.turn.0 rest.last (omega (arith, ints)) (re.to rest.residue re.turn.0 re.turn.1).0.high;
                 } in
                 let k : v.turn <ℤ v.turn = ends_below h next b.1 v.turn v.turn v.is (own next rest.residue v.turn (re.from rest.residue v.turn in_rest out)) in

@@ -13,7 +13,7 @@ use Rattle.lrp_spans.proofs.Lists.{head_in, pairs_head, pairs_right}
 -- no hole is cut out yet
 pub start_cut : (high : ℕ) (span : Span) (holes made : List Span) → IsSpan high span → ((h : Span) → Contains holes h → SpanComesBefore h span → ⊥)
     → (pieces : List Span) × (made ≡ made ++ pieces) × AreCut high span [] holes pieces span
-start_cut high span holes made v behind = ([], sym (append-nil made), cut_start high span holes v behind)
+start_cut high span holes made v after = ([], sym (append-nil made), cut_start high span holes v after)
 
 -- all holes are cut out
 pub end_cut : (high : ℕ) (span : Span) (holes : List Span) (i : ℕ) (old pieces made : List Span) (rest : Span) → i ≡ length holes → made ≡ old ++ pieces
@@ -54,8 +54,8 @@ module _ (high : ℕ) (span : Span) (holes : List Span) (ordered : AreOrdered hi
     at : AreCut high span (take i holes) (get_or holes i d ∷ drop (i + 1) holes) pieces rest
     at = subst (λ x. AreCut high span (take i holes) x pieces rest) left_is c
 
-    pub hole_behind : SpanComesBefore (get_or holes i d) rest → ⊥
-    hole_behind = at.behind (get_or holes i d) hole_in
+    pub hole_after : SpanComesBefore (get_or holes i d) rest → ⊥
+    hole_after = at.afterwards (get_or holes i d) hole_in
 
     -- the rest comes before the hole
     pub break_cut : (old made : List Span) → made ≡ old ++ pieces → SpanComesBefore rest (get_or holes i d) → AppendsLeftSpans high span holes old (made ++ rest ∷ [])
@@ -67,7 +67,7 @@ module _ (high : ℕ) (span : Span) (holes : List Span) (ordered : AreOrdered hi
 
     module _ (ahead : SpanComesBefore rest (get_or holes i d) → ⊥) where
       same : rest.residue ≡ (get_or holes i d).residue
-      same = same_residues rest (get_or holes i d) ahead hole_behind
+      same = same_residues rest (get_or holes i d) ahead hole_after
 
       -- nothing is left after the hole
       pub stop_cut : (old made new : List Span) → made ≡ old ++ pieces → AppendsFronts high rest (get_or holes i d) made new → ((n : ℤ) → Within n rest.last → Within n (get_or holes i d).last) → AppendsLeftSpans high span holes old new
@@ -84,5 +84,5 @@ module _ (high : ℕ) (span : Span) (holes : List Span) (ordered : AreOrdered hi
         pieces ++ f.fronts,
         f.is ∙ ap (λ x. x ++ f.fronts) is ∙ append_assoc old pieces f.fronts,
         subst (λ x. AreCut high span x (drop (i + 1) holes) (pieces ++ f.fronts) next) (sym (take_more holes i d l))
-            (cut_next high span (take i holes) (get_or holes i d) (drop (i + 1) holes) pieces rest at all order same f.fronts f.fit next re hole_behind),
+            (cut_next high span (take i holes) (get_or holes i d) (drop (i + 1) holes) pieces rest at all order same f.fronts f.fit next re hole_after),
       )

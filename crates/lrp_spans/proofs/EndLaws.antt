@@ -26,9 +26,9 @@ no_more zero m n l = omega arith
 no_more (suc k) m n l = let p : k * m ≤ k * n = no_more k m n l in omega (arith, p, l)
 
 -- a turn that is far enough is after each first end, and before no last one
-pub behind_first : (h : ℕ) (n : ℤ) (e : Option ℤ) → AtMost h e → pos h ≤ℤ n → Above n e
-behind_first h n None a l = tt
-behind_first h n (Some f) a l = let m : f ≤ℤ pos h = a.1 in omega (arith, ints)
+pub after_first : (h : ℕ) (n : ℤ) (e : Option ℤ) → AtMost h e → pos h ≤ℤ n → Above n e
+after_first h n None a l = tt
+after_first h n (Some f) a l = let m : f ≤ℤ pos h = a.1 in omega (arith, ints)
 
 no_last : (h : ℕ) (n : ℤ) (e : Option ℤ) → AtMost h e → pos h <ℤ n → Within n e → e ≡ None
 no_last h n None a l w = refl
@@ -88,7 +88,7 @@ module _ (k high : ℕ) (spans : List Span) (residues : List ℕ) (low : 0 < k) 
           listed = t.1;
           is = record {
             residue = t.2;
-            low = behind_first high n t.0.first (each t.0 t.1).first (far_enough o.is.times c l);
+            low = after_first high n t.0.first (each t.0 t.1).first (far_enough o.is.times c l);
             high = subst (Within n) (sym t.3) tt;
           };
         };

@@ -20,7 +20,7 @@ use Rattle.lrp_spans.specs.Groups.{SpanLists}
 use Rattle.lrp_spans.specs.Periods.{IsEndPeriod, IsWithEnds, RepeatsByAll, RepeatsFar}
 use Rattle.lrp_spans.specs.Repeating.{AreAscendingResidues, HasOneOf, IsLeastStep, Repeats, RepeatsAtEnds}
 use Rattle.lrp_spans.specs.Spans.{HaveResiduesBelow, AreMergedSpans, AreOpen, AreOpenAbove, AreOpenBelow, AreOrdered, SpansHaveNumber, IsSpan}
-use Rattle.lrp_spans.proofs.EndLaws.{before_last, behind_first, deep_turn, far_turn, from_deep, from_far, moved, repeats_above, repeats_below}
+use Rattle.lrp_spans.proofs.EndLaws.{before_last, after_first, deep_turn, far_turn, from_deep, from_far, moved, repeats_above, repeats_below}
 use Rattle.lrp_spans.proofs.Lists.{in_cons, in_none}
 use Rattle.lrp_spans.proofs.Repeats.{repeats_multiple}
 
@@ -53,7 +53,7 @@ module _ (k high : ℕ) (spans : List Span) (low : 0 < k) (each : (s : Span) →
         residue = o.residue;
         turn = o.is.times;
         is = e;
-        inside = record { span = t.0; listed = t.1; is = record { residue = t.2; low = behind_first high o.is.times t.0.first (each t.0 t.1).first (omega (arith, ints)); high = subst (Within o.is.times) (sym t.3) tt } };
+        inside = record { span = t.0; listed = t.1; is = record { residue = t.2; low = after_first high o.is.times t.0.first (each t.0 t.1).first (omega (arith, ints)); high = subst (Within o.is.times) (sym t.3) tt } };
       }
 
   -- and so it is far down

@@ -38,7 +38,7 @@ next_small h None a = tt
 next_small h (Some f) a = let l : neg_ℤ (pos h) ≤ℤ f = a.0 in let m : f ≤ℤ pos h = a.1 in (omega (arith, ints), omega (arith, ints))
 
 module _ (high K step : ℕ) (left right : List Span) (ordered : AreOrdered high (left ++ right)) (below : HaveResiduesBelow K (left ++ right)) (fits : step ≤ K)
-    (before : (s : Span) → Contains left s → s.residue + step < K) (behind : (s : Span) → Contains right s → K ≤ s.residue + step) where
+    (before : (s : Span) → Contains left s → s.residue + step < K) (after : (s : Span) → Contains right s → K ≤ s.residue + step) where
   abbrev past : Span → Span
   past s = moved_past K step s
 
@@ -55,7 +55,7 @@ module _ (high K step : ℕ) (left right : List Span) (ordered : AreOrdered high
   past_number : (s : Span) (r : ℕ) (n x : ℤ) → Contains right s → HasTurn (past s) r n → x ≡ pos r +ℤ (pos K *ℤ n) → x -ℤ pos step ≡ pos s.residue +ℤ (pos K *ℤ (n -ℤ pos 1))
   past_number s r n x l t is =
       let e : s.residue + step - K ≡ r = t.residue in
-      let b : K ≤ s.residue + step = behind s l in
+      let b : K ≤ s.residue + step = after s l in
       let d : pos K *ℤ (n -ℤ pos 1) ≡ (pos K *ℤ n) -ℤ (pos K *ℤ pos 1) = minus_right (pos K) n (pos 1) in
       let o : pos K *ℤ pos 1 ≡ pos (K * 1) = refl in
       let q : K * 1 ≡ K = omega arith in
@@ -103,7 +103,7 @@ module _ (high K step : ℕ) (left right : List Span) (ordered : AreOrdered high
     | inr a ↦ (
         let e : a.span.residue ≡ h.residue = a.is.residue in
         let i : x ≡ pos h.residue +ℤ (pos K *ℤ h.turn) = h.is in
-        let b : K ≤ a.span.residue + step = behind a.span a.listed in
+        let b : K ≤ a.span.residue + step = after a.span a.listed in
         let d : pos K *ℤ (h.turn +ℤ pos 1) ≡ (pos K *ℤ h.turn) +ℤ (pos K *ℤ pos 1) = distrib (pos K) h.turn (pos 1) in
         let o : pos K *ℤ pos 1 ≡ pos (K * 1) = refl in
         let q : K * 1 ≡ K = omega arith in
@@ -126,7 +126,7 @@ module _ (high K step : ℕ) (left right : List Span) (ordered : AreOrdered high
   within_span s v = let w : IsSpan (high + 1) s = wider_span high s v in record { first = w.first; last = w.last; turn = w.turn; is = record { residue = refl; low = w.is.low; high = w.is.high } }
 
   past_before : (v w : Span) → Contains right v → Contains right w → SpanComesBefore v w → SpanComesBefore (past v) (past w)
-  past_before v w l m (inl a) = inl (omega (arith, a, behind v l, behind w m))
+  past_before v w l m (inl a) = inl (omega (arith, a, after v l, after w m))
   past_before v w l m (inr a) = inr (
     ap (λ r. r + step - K) a.0,
     record { end = a.1.end +ℤ pos 1; ends = ap next_turn a.1.ends; start = a.1.start +ℤ pos 1; starts = ap next_turn a.1.starts; below = (let k : a.1.end <ℤ a.1.start = a.1.below in omega (arith, ints)) },
@@ -141,7 +141,7 @@ module _ (high K step : ℕ) (left right : List Span) (ordered : AreOrdered high
       let a = from_map (moved_past K step) right x l in
       let b = from_map (moved_within step) left y m in
       let c : a.0.residue < K = below a.0 (Contains-append_right left right a.0 a.1) in
-      let d : K ≤ a.0.residue + step = behind a.0 a.1 in
+      let d : K ≤ a.0.residue + step = after a.0 a.1 in
       subst (λ v. SpanComesBefore v y) a.2 (subst (SpanComesBefore (past a.0)) b.2 (inl (omega (arith, c, d))))
 
   pub shifted_is : AreShifted high K step (left ++ right) made
@@ -158,7 +158,7 @@ module _ (high K step : ℕ) (left right : List Span) (ordered : AreOrdered high
           (pairs_map SpanComesBefore SpanComesBefore (moved_within step) left (pairs_left SpanComesBefore left right ordered.apart) within_before) across;
     };
     below = λ s l. elim (Contains-append_cases (map (moved_past K step) right) (map (moved_within step) left) s l) [
-      | inl a ↦ (let m = from_map (moved_past K step) right s a in subst (λ t. t.residue < K) m.2 (omega (arith, below m.0 (Contains-append_right left right m.0 m.1), behind m.0 m.1)))
+      | inl a ↦ (let m = from_map (moved_past K step) right s a in subst (λ t. t.residue < K) m.2 (omega (arith, below m.0 (Contains-append_right left right m.0 m.1), after m.0 m.1)))
       | inr a ↦ (let m = from_map (moved_within step) left s a in subst (λ t. t.residue < K) m.2 (before m.0 m.1))
     ];
   }
@@ -188,8 +188,8 @@ none_below high spans place end ordered stop s l = at (drop place spans) (pairs_
 pub all_shifted : (high K step : ℕ) (spans : List Span) (place : ℕ) → AreOrdered high spans → HaveResiduesBelow K spans → step ≤ K
     → HaveResiduesBelow (K - step) (take place spans) → ((s : Span) → Contains (drop place spans) s → K - step ≤ s.residue)
     → AreShifted high K step spans (map (moved_past K step) (drop place spans) ++ map (moved_within step) (take place spans))
-all_shifted high K step spans place ordered below fits before behind =
+all_shifted high K step spans place ordered below fits before after =
     let e : take place spans ++ drop place spans ≡ spans = take-append-drop place spans in
     subst (λ xs. AreShifted high K step xs (map (moved_past K step) (drop place spans) ++ map (moved_within step) (take place spans))) e
     (shifted_is high K step (take place spans) (drop place spans) (subst (AreOrdered high) (sym e) ordered) (subst (HaveResiduesBelow K) (sym e) below) fits
-    (λ s l. omega (arith, before s l)) (λ s l. omega (arith, behind s l, fits)))
+    (λ s l. omega (arith, before s l)) (λ s l. omega (arith, after s l, fits)))

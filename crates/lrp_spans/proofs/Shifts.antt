@@ -10,7 +10,7 @@ use Rattle.lrp_theory.proofs.Modulo.{Divides--, Divides-neg, Divides-is, Divides
 use Rattle.lrp_theory.proofs.Multiples.{Divides-multiple}
 use Rattle.lrp_spans.specs.Repeating.{HasOneOf, AreAscendingResidues, IsLeastStep, IsShift, Repeats, nth}
 use Rattle.lrp_spans.proofs.Repeats.{least_divides}
-use Rattle.lrp_spans.proofs.Turning.{order, nth_first, nth_turn, nth_rise, nth_below, nth_one, nth_behind, nth_inside, found, by_period, rest}
+use Rattle.lrp_spans.proofs.Turning.{order, nth_first, nth_turn, nth_rise, nth_below, nth_one, nth_after, nth_inside, found, by_period, rest}
 
 -- a divisor as a natural factor
 factor : (g k : ℕ) → 0 < g → 0 < k → Divides (pos g) (pos k) → (m : ℕ) × (m * g ≡ k)
@@ -59,7 +59,7 @@ module _ (K : ℕ) (R : List ℕ) (h : AreAscendingResidues K R) (some : 0 < len
   next x i o l =
       let f = found K R h some (pos x) o (omega (arith, ints)) in
       let e : x ≡ nth K R f.0 = (let p : pos x ≡ pos (nth K R f.0) = f.1 in omega (arith, ints)) in
-      let b : i < f.0 = nth_behind K R h some i f.0 (omega (arith, e, l)) in
+      let b : i < f.0 = nth_after K R h some i f.0 (omega (arith, e, l)) in
       elim (order (i + 1) f.0) [
         | inl m ↦ (let a : nth K R (i + 1) < nth K R f.0 = nth_below K R h some (i + 1) f.0 m in omega (arith, a, e))
         | inr m ↦ (let q : i + 1 ≡ f.0 = omega (arith, b, m) in let a : nth K R (i + 1) ≡ nth K R f.0 = ap (nth K R) q in omega (arith, a, e))
@@ -100,7 +100,7 @@ module _ (K : ℕ) (R : List ℕ) (h : AreAscendingResidues K R) (some : 0 < len
         ap (nth K R) (sym e) ∙ f ∙ omega (arith, ih, q)
 
     pub places_low : 0 < places
-    places_low = nth_behind K R h some 0 places (omega (arith, places_first, r.positive))
+    places_low = nth_after K R h some 0 places (omega (arith, places_first, r.positive))
 
     -- where the step divides the period, so many places divide the number of residues
     pub places_divide : (m : ℕ) → m * g ≡ K → m * places ≡ length R

@@ -10,10 +10,10 @@ use Rattle.lrp_spans.specs.declared.spans.Span.{Span}
 use Rattle.lrp_spans.specs.Spans.{SpanBeginsBy, EndsBefore, HasTurn, IsSpanFront, IsJoinedSpan, IsLater, IsRest}
 
 -- what lies after an end of the first span, which has not ended before the second begins, is after the beginning of the second
-pub behind : (v w : Span) (n : ℤ) (e f : Option ℤ) → v.last ≡ e → w.first ≡ f → (EndsBefore v w → ⊥) → (Within n e → ⊥) → Above n f
-behind v w n None f p q meets out = absurd (out tt)
-behind v w n (Some a) None p q meets out = tt
-behind v w n (Some a) (Some b) p q meets out = by_lt_z n b
+pub afterwards : (v w : Span) (n : ℤ) (e f : Option ℤ) → v.last ≡ e → w.first ≡ f → (EndsBefore v w → ⊥) → (Within n e → ⊥) → Above n f
+afterwards v w n None f p q meets out = absurd (out tt)
+afterwards v w n (Some a) None p q meets out = tt
+afterwards v w n (Some a) (Some b) p q meets out = by_lt_z n b
     (λ lt. by_lt_z a n
     (λ l. absurd (meets (record { end = a; ends = p; start = b; starts = q; below = omega (arith, ints) })))
     (λ l. absurd (out l)))
@@ -38,7 +38,7 @@ joined_is v w j same first late residue begins meets = record {
     | inl h ↦ inl (record { residue = sym same ∙ t.residue; low = subst (Above n) first t.low; high = h })
     | inr out ↦ inr (record {
       residue = sym residue ∙ (sym same ∙ t.residue);
-      low = behind v w n v.last w.first refl refl meets out;
+      low = afterwards v w n v.last w.first refl refl meets out;
       high = (elim late.one [ inl e ↦ absurd (out (subst (Within n) e t.high)) | inr e ↦ subst (Within n) e t.high ]);
     })
   ];
@@ -84,7 +84,7 @@ rest_is s hole rest f g is ge same last first meets own = record {
   to = λ r n t. (
       let low : g ≤ℤ n = subst (Above n) first t.low in
       let out : Within n hole.last → ⊥ = λ a. (let b : n ≤ℤ f = subst (Within n) is a in absurd (omega (arith, ints))) in
-      (record { residue = sym same ∙ t.residue; low = behind hole s n hole.last s.first refl refl meets out; high = subst (Within n) last t.high }, out));
+      (record { residue = sym same ∙ t.residue; low = afterwards hole s n hole.last s.first refl refl meets out; high = subst (Within n) last t.high }, out));
   from = λ r n t out. record {
     residue = same ∙ t.residue;
     low = subst (Above n) (sym first) (by_lt_z f n (λ lt. (let l : g ≤ℤ n = omega (arith, ints) in l)) (λ le. absurd (out (subst (Within n) (sym is) le))));

@@ -97,8 +97,8 @@ module _ (K : ℕ) (R : List ℕ) (h : AreAscendingResidues K R) (some : 0 < len
   ]
 
   -- what is greater stands further on
-  pub nth_behind : (i k : ℕ) → nth K R i < nth K R k → i < k
-  nth_behind i k a = elim (order i k) [
+  pub nth_after : (i k : ℕ) → nth K R i < nth K R k → i < k
+  nth_after i k a = elim (order i k) [
     | inl l ↦ l
     | inr l ↦ elim (order k i) [
       | inl m ↦ (let b : nth K R k < nth K R i = nth_below k i m in absurd (omega (arith, a, b)))

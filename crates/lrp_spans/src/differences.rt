@@ -42,7 +42,7 @@ fn passed(holes: &[Span], from: usize, span: &Span) -> usize
 fn push_left(span: &Span, holes: &[Span], made: &mut Vec<Span>) -> Result<(), Memory>
     requires span { IsSpan (2 ^ 62 + 1) span.now }
     requires holes { AreOrdered (2 ^ 62 + 1) holes.now }
-    requires behind { (hole : SpanValue) → Contains holes.now hole → SpanComesBefore hole span.now
+    requires after { (hole : SpanValue) → Contains holes.now hole → SpanComesBefore hole span.now
         → ⊥ }
     ensures { OnOk result (AppendsLeftSpans (2 ^ 62 + 1) span.now holes.now made.old.items
         made.new.items) }
@@ -67,7 +67,7 @@ fn push_front(span: &Span, hole: &Span, made: &mut Vec<Span>) -> Result<(), Memo
     requires span { IsSpan (2 ^ 62 + 2) span.now }
     requires hole { IsSpan (2 ^ 62 + 1) hole.now }
     requires meets { SpanComesBefore span.now hole.now → ⊥ }
-    requires behind { SpanComesBefore hole.now span.now → ⊥ }
+    requires after { SpanComesBefore hole.now span.now → ⊥ }
     ensures { OnOk result (AppendsFronts (2 ^ 62 + 1) span.now hole.now made.old.items
         made.new.items) }
 {

@@ -61,8 +61,8 @@ module _ {X : Type 0} (R : X → X → Ordering) (d : X) where
 pub before_first : (o p : Ordering) → o ≡ Less → IsTrue true ↔ (ordering_then o p ≡ Less)
 before_first o p e = ((λ t. ap (λ q. ordering_then q p) e), (λ h. refl))
 
-pub behind_first : (o p : Ordering) → o ≡ Greater → IsTrue false ↔ (ordering_then o p ≡ Less)
-behind_first o p e = ((λ t. cc), (λ h. let g : Greater ≡ Less = sym (ap (λ q. ordering_then q p) e) ∙ h in cc))
+pub after_first : (o p : Ordering) → o ≡ Greater → IsTrue false ↔ (ordering_then o p ≡ Less)
+after_first o p e = ((λ t. cc), (λ h. let g : Greater ≡ Less = sym (ap (λ q. ordering_then q p) e) ∙ h in cc))
 
 -- and by the second one
 pub then_second : (o p q : Ordering) (b : Bool) → o ≡ Equal → q ≡ p → b ≡ is_lt q → IsTrue b ↔ (ordering_then o p ≡ Less)

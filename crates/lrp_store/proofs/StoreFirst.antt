@@ -197,17 +197,17 @@ module _ (s : StoreView) (is : IsStore s) (cell : Cell) (proper : IsCellOf s.sha
       }
 
   -- where the first of that zone does not come before a spot of the store, no tuple of the cell does
-  front_behind : (xs : List ℤ) → IsNearestTo (zone_of s cell (replicate 81 None)) s.shape.times xs → (old : Spot) → IsSpotOf s old → held_cmp xs cell.texts old.times old.texts ≢ Less
+  front_after : (xs : List ℤ) → IsNearestTo (zone_of s cell (replicate 81 None)) s.shape.times xs → (old : Spot) → IsSpotOf s old → held_cmp xs cell.texts old.times old.texts ≢ Less
       → (ys : List ℤ) (ns : List ℕ) → InCell s cell ys ns → IsNotAfter s (Some old) ys ns
-  front_behind xs near old found behind ys ns h =
+  front_after xs near old found after ys ns h =
       let same : held_cmp old.times old.texts xs cell.texts ≡ held_cmp (take s.shape.times old.times) (take s.shape.texts old.texts) (take s.shape.times xs) (take s.shape.texts cell.texts) = padded_cmp s old (record { times = xs; texts = cell.texts }) found.times near.padded found.texts proper.texts in
       subst (IsNotAfter s (Some old) ys) h.named
-      (held_upto _ (take s.shape.times xs) ys _ (take s.shape.texts cell.texts) _ (subst (λ o. o ≢ Greater) same (held_turned xs old.times cell.texts old.texts behind)) (spot_first s is cell proper (replicate 81 None) xs near ys (unbound ys ns h)))
+      (held_upto _ (take s.shape.times xs) ys _ (take s.shape.texts cell.texts) _ (subst (λ o. o ≢ Greater) same (held_turned xs old.times cell.texts old.texts after)) (spot_first s is cell proper (replicate 81 None) xs near ys (unbound ys ns h)))
 
   -- the same in the forms of a call's clauses
   pub front_test : (b : Bool) (xs : List ℤ) → IsNearestTo (zone_of s cell (replicate 81 None)) s.shape.times xs → (old : Spot) → IsSpotOf s old → IsTrue b ↔ (held_cmp xs cell.texts old.times old.texts ≡ Less)
       → b ≡ false → (ys : List ℤ) (ns : List ℕ) → InCell s cell ys ns → IsNotAfter s (Some old) ys ns
-  front_test b xs near old found before e = front_behind xs near old found (λ l. both_ways (sym e ∙ before.1 l))
+  front_test b xs near old found before e = front_after xs near old found (λ l. both_ways (sym e ∙ before.1 l))
     where
       both_ways : false ≡ true → ⊥
       both_ways e = cc
@@ -216,11 +216,11 @@ module _ (s : StoreView) (is : IsStore s) (cell : Cell) (proper : IsCellOf s.sha
 
 module _ (s : StoreView) (is : IsStore s) (cell : Cell) where
   -- a tuple of the cell is not before what was found, or its zone is still to come
-  pub behind_more : (t : Table) (rest list : List Table) → list ≡ t ∷ rest → (old : Option Spot) (new : Spot)
+  pub after_more : (t : Table) (rest list : List Table) → list ≡ t ∷ rest → (old : Option Spot) (new : Spot)
       → ((ys : List ℤ) (ns : List ℕ) → IsNotAfter s old ys ns → IsNotAfter s (Some new) ys ns) → ((ys : List ℤ) → IsMember (zone_of s cell t) ys → IsNotAfter s (Some new) ys (take s.shape.texts cell.texts))
       → ((u : Table) (ys : List ℤ) → Contains (tables_at s cell) u → IsMember (zone_of s cell u) ys → IsNotAfter s old ys (take s.shape.texts cell.texts) ⊎ Contains list u)
       → (u : Table) (ys : List ℤ) → Contains (tables_at s cell) u → IsMember (zone_of s cell u) ys → IsNotAfter s (Some new) ys (take s.shape.texts cell.texts) ⊎ Contains rest u
-  behind_more t rest list e old new kept here behind u ys h k = elim (behind u ys h k) [
+  after_more t rest list e old new kept here after u ys h k = elim (after u ys h k) [
     | inl n ↦ inl (kept ys (take s.shape.texts cell.texts) n)
     | inr c ↦ by_place (subst (λ l. Contains l u) e c)
   ]
@@ -232,7 +232,7 @@ module _ (s : StoreView) (is : IsStore s) (cell : Cell) where
   -- with no zone to come, no tuple of the cell is before what was found
   pub cell_done : (found : Option Spot) → ((u : Table) (ys : List ℤ) → Contains (tables_at s cell) u → IsMember (zone_of s cell u) ys → IsNotAfter s found ys (take s.shape.texts cell.texts) ⊎ Contains [] u)
       → (ys : List ℤ) (ns : List ℕ) → InCell s cell ys ns → IsNotAfter s found ys ns
-  cell_done found behind ys ns h = elim (behind h.table ys h.held h.inside) [
+  cell_done found after ys ns h = elim (after h.table ys h.held h.inside) [
     | inl n ↦ subst (IsNotAfter s found ys) h.named n
     | inr c ↦ let l : c.0 < 0 = c.1 in absurd (omega arith)
   ]
@@ -242,7 +242,7 @@ module _ (s : StoreView) (is : IsStore s) where
   pub cells_more : (cell : Cell) (rest list : List Cell) → list ≡ cell ∷ rest → (old new : Option Spot)
       → ((ys : List ℤ) (ns : List ℕ) → IsNotAfter s old ys ns → IsNotAfter s new ys ns) → ((ys : List ℤ) (ns : List ℕ) → InCell s cell ys ns → IsNotAfter s new ys ns)
       → ((ys : List ℤ) (ns : List ℕ) → (h : InStore s ys ns) → IsNotAfter s old ys ns ⊎ Contains list h.cell) → (ys : List ℤ) (ns : List ℕ) → (h : InStore s ys ns) → IsNotAfter s new ys ns ⊎ Contains rest h.cell
-  cells_more cell rest list e old new kept here behind ys ns h = elim (behind ys ns h) [
+  cells_more cell rest list e old new kept here after ys ns h = elim (after ys ns h) [
     | inl n ↦ inl (kept ys ns n)
     | inr c ↦ by_place (subst (λ l. Contains l h.cell) e c)
   ]
@@ -253,7 +253,7 @@ module _ (s : StoreView) (is : IsStore s) where
 
   -- with no cell to come, nothing is before what was found
   pub store_done : (found : Option Spot) → ((ys : List ℤ) (ns : List ℕ) → (h : InStore s ys ns) → IsNotAfter s found ys ns ⊎ Contains [] h.cell) → (ys : List ℤ) (ns : List ℕ) → InStore s ys ns → IsNotAfter s found ys ns
-  store_done found behind ys ns h = elim (behind ys ns h) [
+  store_done found after ys ns h = elim (after ys ns h) [
     | inl n ↦ n
     | inr c ↦ let l : c.0 < 0 = c.1 in absurd (omega arith)
   ]

@@ -96,9 +96,9 @@ module _ (z : ZoneView) (valid : IsZone z) (one : columns_of z ≡ 1) (t : Table
     high_met = subst (λ e. Within (x -ℤ pos 0) e) (table_high low high) (line_high both x one m)
 
     -- after the end of the first
-    behind : (a : ℤ) → entry t 1 0 ≡ Some a → a <ℤ x → (f : Option ℤ) → entry z.bounds 0 1 ≡ f → IsMember z (x ∷ [])
-    behind a e lt None f = in_line z x valid one residue high_met (subst (λ o. Within (pos 0 -ℤ x) o) (sym f) tt)
-    behind a e lt (Some b) f =
+    after : (a : ℤ) → entry t 1 0 ≡ Some a → a <ℤ x → (f : Option ℤ) → entry z.bounds 0 1 ≡ f → IsMember z (x ∷ [])
+    after a e lt None f = in_line z x valid one residue high_met (subst (λ o. Within (pos 0 -ℤ x) o) (sym f) tt)
+    after a e lt (Some b) f =
         let some_period : 0 < z.period = valid.shape.period_low in
         let is_tight : IsTight (pos z.period) (node z.residues 1 -ℤ pos 0) (Some a) = subst (λ o. IsTight (pos z.period) (node z.residues 1 -ℤ pos 0) o) e (before.shape.tight 1 0 (omega (arith, one)) (omega arith)) in
         let of_end : Divides (pos z.period) (a -ℤ node z.residues 1) = Divides-is (pos z.period) (a -ℤ (node z.residues 1 -ℤ pos 0)) _ (omega (arith, ints)) is_tight.0 in
@@ -109,7 +109,7 @@ module _ (z : ZoneView) (valid : IsZone z) (one : columns_of z ≡ 1) (t : Table
     of_one : (o : Option ℤ) → entry t 1 0 ≡ o → IsMember first (x ∷ []) ⊎ IsMember z (x ∷ [])
     of_one None e = inl (in_line first x before one residue (subst (λ o. Within (x -ℤ pos 0) o) (sym e) tt) low_met)
     of_one (Some a) e = by_lt_z a x
-        (λ lt. inr (behind a e lt (entry z.bounds 0 1) refl))
+        (λ lt. inr (after a e lt (entry z.bounds 0 1) refl))
         (λ le. inl (in_line first x before one residue (subst (λ o. Within (x -ℤ pos 0) o) (sym e) (omega (arith, ints))) low_met))
 
   one_of : (xs : List ℤ) → IsMember both xs → IsMember first xs ⊎ IsMember z xs

@@ -24,11 +24,11 @@ use Rattle.lrp_systems.specs.Aligned.{CanBeBrought, IsAligned}
 pub record IsAligning (cap : ℕ) (s start out : StoreView) (rest : List Piece) : Type 0 where
   pub each : (piece : Piece) → Contains rest piece → IsPieceOf s piece
   pub grown : (high : ℕ) → HasReach s high → IsGrown (InStore s) cap (high + (start.period - 1)) start out
-  pub behind : (xs : List ℤ) (ns : List ℕ) → InStore s xs ns → InStore out xs ns ⊎ InPieces s.shape.texts rest xs ns
+  pub after : (xs : List ℤ) (ns : List ℕ) → InStore s xs ns → InStore out xs ns ⊎ InPieces s.shape.texts rest xs ns
 
 -- no zone was added yet
 pub aligning_none : (cap : ℕ) (s start : StoreView) → IsStore start → (pieces : List Piece) → ArePieces s pieces → IsAligning cap s start start pieces
-aligning_none cap s start is pieces are = record { each = are.each; grown = λ high r. grown_same cap (high + (start.period - 1)) _ start is; behind = λ xs ns h. inr (are.all xs ns h) }
+aligning_none cap s start is pieces are = record { each = are.each; grown = λ high r. grown_same cap (high + (start.period - 1)) _ start is; after = λ xs ns h. inr (are.all xs ns h) }
 
 module _ (cap : ℕ) (s start : StoreView) (is : IsStore s) (shape : start.shape ≡ s.shape) (k : ℕ) (period : start.period ≡ k) (high : k ≤ 2 ^ 62) (room : HasReach s (2 ^ 62 - k)) where
   module _ (out : StoreView) (list rest : List Piece) (piece : Piece) (el : list ≡ piece ∷ rest) (p : IsAligning cap s start out list) where
@@ -80,7 +80,7 @@ module _ (cap : ℕ) (s start : StoreView) (is : IsStore s) (shape : start.shape
       aligning_more a = record {
         each = λ q h. p.each q (tail_in piece rest list el q h);
         grown = grown_more a.grown;
-        behind = λ xs ns h. elim (p.behind xs ns h) [
+        after = λ xs ns h. elim (p.after xs ns h) [
           | inl i ↦ inl (a.grown.kept xs ns i)
           | inr j ↦ by_place xs ns j (subst (λ l. Contains l j.piece) el j.listed)
         ];
@@ -102,7 +102,7 @@ module _ (cap : ℕ) (s start : StoreView) (is : IsStore s) (shape : start.shape
     last_grown = p.grown (2 ^ 62 - k) room
 
     all_held : (xs : List ℤ) (ns : List ℕ) → InStore s xs ns → InStore out xs ns
-    all_held xs ns h = elim (p.behind xs ns h) [ inl i ↦ i | inr j ↦ (let l : j.listed.0 < 0 = j.listed.1 in absurd (omega arith)) ]
+    all_held xs ns h = elim (p.after xs ns h) [ inl i ↦ i | inr j ↦ (let l : j.listed.0 < 0 = j.listed.1 in absurd (omega arith)) ]
 
     -- with no zone left, the store is aligned
     pub aligned : IsAligned s k out

@@ -117,10 +117,10 @@ others_differ name (w ∷ names) more pairs =
     by false rest = rest
 
 -- without one name after them as well
-pub others_differ_behind : (name : Identifier) (more names : List Identifier) → AllPairs ◌≢◌ (more ++ names) → AllPairs ◌≢◌ (more ++ without name names)
-others_differ_behind name [] names pairs = AllPairs-filter ◌≢◌ (λ other. not (bytes_eq name other)) names pairs
-others_differ_behind name (w ∷ more) names pairs =
+pub others_differ_after : (name : Identifier) (more names : List Identifier) → AllPairs ◌≢◌ (more ++ names) → AllPairs ◌≢◌ (more ++ without name names)
+others_differ_after name [] names pairs = AllPairs-filter ◌≢◌ (λ other. not (bytes_eq name other)) names pairs
+others_differ_after name (w ∷ more) names pairs =
     let apart : All (◌≢◌ w) (more ++ names) = head_apart ◌≢◌ w (more ++ names) pairs in
     AllPairs-cons ◌≢◌ w (more ++ without name names)
     (All-append (◌≢◌ w) more (without name names) (All-append_left (◌≢◌ w) more names apart) (All-filter (λ other. not (bytes_eq name other)) (◌≢◌ w) names (All-append_right (◌≢◌ w) more names apart)))
-    (others_differ_behind name more names (pairs_tail ◌≢◌ w (more ++ names) pairs))
+    (others_differ_after name more names (pairs_tail ◌≢◌ w (more ++ names) pairs))

@@ -41,12 +41,12 @@ Makes = List ℤ → List ℕ → List ℤ → List ℕ → Type 0
 pub record IsPassing (makes : Makes) (reach : ℕ → ℕ) (cap : ℕ) (s start out : StoreView) (rest : List Piece) : Type 0 where
   pub each : (piece : Piece) → Contains rest piece → IsPieceOf s piece
   pub grown : (high : ℕ) → HasReach s high → IsGrown (IsMadeFrom makes (InStore s)) cap (reach high) start out
-  pub behind : (xs : List ℤ) (ns : List ℕ) → InStore s xs ns → ((ys : List ℤ) (ms : List ℕ) → makes xs ns ys ms → InStore out ys ms) ⊎ InPieces s.shape.texts rest xs ns
+  pub after : (xs : List ℤ) (ns : List ℕ) → InStore s xs ns → ((ys : List ℤ) (ms : List ℕ) → makes xs ns ys ms → InStore out ys ms) ⊎ InPieces s.shape.texts rest xs ns
 
 module _ (makes : Makes) (reach : ℕ → ℕ) (cap : ℕ) (s start : StoreView) where
   -- nothing was added yet
   pub passing_none : IsStore start → (pieces : List Piece) → ArePieces s pieces → IsPassing makes reach cap s start start pieces
-  passing_none is pieces are = record { each = are.each; grown = λ high r. grown_same cap (reach high) _ start is; behind = λ xs ns h. inr (are.all xs ns h) }
+  passing_none is pieces are = record { each = are.each; grown = λ high r. grown_same cap (reach high) _ start is; after = λ xs ns h. inr (are.all xs ns h) }
 
   -- what is made of a zone's tuples is made of the store's
   made_more : (n : ℕ) → n ≡ s.shape.texts → (piece : Piece) → IsPieceOf s piece → (ys : List ℤ) (ms : List ℕ) → IsMadeFrom makes (InPiece n piece) ys ms → IsMadeFrom makes (InStore s) ys ms
@@ -68,7 +68,7 @@ module _ (makes : Makes) (reach : ℕ → ℕ) (cap : ℕ) (s start : StoreView)
       passing_more a = record {
         each = λ q h. p.each q (tail_in piece rest list el q h);
         grown = grown_more a.grown;
-        behind = λ xs ns h. elim (p.behind xs ns h) [
+        after = λ xs ns h. elim (p.after xs ns h) [
           | inl j ↦ inl (λ ys ms m. a.grown.kept ys ms (j ys ms m))
           | inr j ↦ by_place xs ns j (subst (λ l. Contains l j.piece) el j.listed)
         ];
@@ -81,7 +81,7 @@ module _ (makes : Makes) (reach : ℕ → ℕ) (cap : ℕ) (s start : StoreView)
   module _ (out : StoreView) (p : IsPassing makes reach cap s start out []) (empty : start.tables ≡ finite.empty) (h0 : ℕ) (r0 : HasReach s h0) where
     -- all that is made is held
     all_made : (ys : List ℤ) (ms : List ℕ) → IsMadeFrom makes (InStore s) ys ms → InStore out ys ms
-    all_made ys ms h = elim (p.behind h.old_times h.old_texts h.is) [
+    all_made ys ms h = elim (p.after h.old_times h.old_texts h.is) [
       | inl j ↦ j ys ms h.made
       | inr j ↦ (let l : j.listed.0 < 0 = j.listed.1 in absurd (omega arith))
     ]

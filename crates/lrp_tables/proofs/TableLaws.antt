@@ -18,7 +18,7 @@ use Rattle.lrp_store.specs.Tables.{StoreHolds}
 use Rattle.lrp_tables.specs.declared.table.Table.{Table}
 use Rattle.lrp_store.proofs.Held.{cell_held}
 use Rattle.lrp_store.proofs.Counted.{lies_in, one_cell}
-use Rattle.lrp_tables.specs.Tables.{Has, HasTexts}
+use Rattle.lrp_tables.specs.Tables.{HasAssignment, HasTexts}
 use Rattle.lrp_tables.proofs.CellsNamed.{padded, padded_is, padded_front}
 use Rattle.lrp_tables.proofs.Numbers.{all_mapped, number_of, domain_differs, numbers_are, are_numbers, texts_known}
 
@@ -89,10 +89,10 @@ module _ (domain : List Text) (ascends : Ascends domain) (s : StoreView) (is : I
 -- ---- tables
 
 -- whether a table has an assignment is decided
-pub decided_table : (domain : List Text) → Ascends domain → (table : Table) → IsStore table.store → (env : Assignment) → Decided (Has table domain env)
+pub decided_table : (domain : List Text) → Ascends domain → (table : Table) → IsStore table.store → (env : Assignment) → Decided (HasAssignment table domain env)
 decided_table domain ascends table is env =
     decided_store domain ascends table.store is (map env.times table.vars.times) (map env.texts table.vars.texts) (length-map table.vars.times env.times ∙ table.times_named) (length-map table.vars.texts env.texts ∙ table.texts_named)
 
 -- an assignment that a table has gives its data variables texts of the domain
-pub table_texts : (domain : List Text) (table : Table) (env : Assignment) → Has table domain env → HasTexts domain table.vars.texts env
+pub table_texts : (domain : List Text) (table : Table) (env : Assignment) → HasAssignment table domain env → HasTexts domain table.vars.texts env
 table_texts domain table env h = (all_mapped env.texts (Contains domain) table.vars.texts).0 (texts_known domain h.0 (map env.texts table.vars.texts) h.1)

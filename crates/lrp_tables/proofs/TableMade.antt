@@ -10,7 +10,7 @@ use Rattle.lrp_store.specs.Tables.{AreTexts, AreNumbered}
 use Rattle.lrp_tables.specs.declared.table.Table.{Table}
 use Rattle.lrp_store.proofs.Held.{Table as Bounds, held_of, cell_held}
 use Rattle.lrp_store.proofs.Counted.{lies_in, held_inhabited, first_of}
-use Rattle.lrp_tables.specs.Tables.{Has, IsTableOf}
+use Rattle.lrp_tables.specs.Tables.{HasAssignment, IsTableOf}
 use Rattle.lrp_tables.proofs.CellsNamed.{Tuples, AreTuplesOf}
 
 module _ (s : StoreView) (is : IsStore s) where
@@ -48,7 +48,7 @@ module _ (s : StoreView) (is : IsStore s) where
           subst (λ k. k < length domain) (ap (λ l. get_or l i 0) (sym c.inside.named) ∙ get_or-take s.shape.texts cell.texts i 0 low) (known c.times c.texts c.is i 0 (omega arith))
 
 -- the tuples of a table's store are those of the assignments that it has
-pub tuples_of : (domain : List Text) (table : Table) → IsStore table.store → AreNumbered domain table.store → AreTuplesOf domain table.vars.times table.vars.texts (InStore table.store) (Has table domain)
+pub tuples_of : (domain : List Text) (table : Table) → IsStore table.store → AreNumbered domain table.store → AreTuplesOf domain table.vars.times table.vars.texts (InStore table.store) (HasAssignment table domain)
 tuples_of domain table is numbered = record {
   to = λ env ns texts h. (ns, texts, h);
   from = λ env h. h;

@@ -11,7 +11,7 @@ use Rattle.lrp_store.specs.Stores.{StoreView, InStore}
 use Rattle.lrp_store.specs.Tables.{AreTexts}
 use Rattle.lrp_tables.specs.declared.table.Table.{Table}
 use Rattle.lrp_tables.specs.Columns.{ArePlacesOf}
-use Rattle.lrp_tables.specs.Tables.{Has, HasTexts}
+use Rattle.lrp_tables.specs.Tables.{HasAssignment, HasTexts}
 use Rattle.lrp_tables.proofs.CellsNamed.{Tuples, AreTuplesOf}
 use Rattle.lrp_tables.proofs.Joining.{values_at, any_values_at, places_named}
 use Rattle.lrp_tables.proofs.Numbers.{all_by, all_mapped, number_of, domain_differs, numbers_are, are_numbers, texts_known, texts_count, numbers_known}
@@ -108,7 +108,7 @@ module _ (domain : List Text) (ascends : Ascends domain) (times texts : List Ide
         ∙ any_values_at (λ v. number_of domain (env.texts v)) 0 table.vars.texts texts text_places text_are ∙ composed env.texts table.vars.texts
 
     -- the longer tuples are those of the assignments that the table has, with texts of the domain for the further variables
-    pub wider_tuples : AreTuplesOf domain times texts (IsWider (length domain) (length times) (length texts) time_places text_places table.store) (λ env. HasTexts domain texts env × Has table domain env)
+    pub wider_tuples : AreTuplesOf domain times texts (IsWider (length domain) (length times) (length texts) time_places text_places table.store) (λ env. HasTexts domain texts env × HasAssignment table domain env)
     wider_tuples = record {
       to = λ env ns h m. (
         has_texts env ns h,

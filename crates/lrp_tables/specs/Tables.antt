@@ -15,8 +15,8 @@ use Rattle.lrp_tables.specs.declared.table.Table.{Table}
 use Rattle.lrp_tables.specs.Columns.{joint, scan_texts, test_names, head_texts}
 
 -- the table has the assignment, where the numbers of its texts are those of the domain
-abbrev pub Has : Table → List Text → Assignment → Type 0
-Has table domain env = InTable domain table.vars.times table.vars.texts table.store env
+abbrev pub HasAssignment : Table → List Text → Assignment → Type 0
+HasAssignment table domain env = InTable domain table.vars.times table.vars.texts table.store env
 
 -- time variables of these names, and data variables of those
 abbrev pub named_variables : List Identifier → List Identifier → List Variable
@@ -39,8 +39,8 @@ pub record IsTableOf (domain : List Text) (times texts : List Identifier) (perio
   pub times_are : made.vars.times ≡ times
   pub texts_are : made.vars.texts ≡ texts
   pub period_is : made.store.period ≡ period
-  pub sound : (env : Assignment) → Has made domain env → set env
-  pub whole : (env : Assignment) → set env → Has made domain env
+  pub sound : (env : Assignment) → HasAssignment made domain env → set env
+  pub whole : (env : Assignment) → set env → HasAssignment made domain env
   pub numbered : AreNumbered domain made.store
 
 -- ---- the sets
@@ -59,31 +59,31 @@ pub record IsTested (domain : List Text) (test : Test) (env : Assignment) : Type
 
 -- a join: both tables have the assignment, and it passes each test
 pub record IsJoined (domain : List Text) (left right : Table) (tests : List Test) (env : Assignment) : Type 0 where
-  pub in_left : Has left domain env
-  pub in_right : Has right domain env
+  pub in_left : HasAssignment left domain env
+  pub in_right : HasAssignment right domain env
   pub passes : AllByRecursion (Passes env) tests
 
 -- a selection
 pub record IsSelected (domain : List Text) (table : Table) (test : Test) (env : Assignment) : Type 0 where
-  pub has : Has table domain env
+  pub has : HasAssignment table domain env
   pub passes : Passes env test
 
 -- a union: one of the tables has the assignment, and the variables of the other are free
 pub record IsUnited (domain : List Text) (left right : Table) (env : Assignment) : Type 0 where
   pub known : HasTexts domain (joint left.vars.texts right.vars.texts) env
-  pub has : Has left domain env ⊎ Has right domain env
+  pub has : HasAssignment left domain env ⊎ HasAssignment right domain env
 
 -- a table over a head: the head's further variables are free
 pub record IsExtended (domain : List Text) (columns : List Column) (table : Table) (env : Assignment) : Type 0 where
   pub known : HasTexts domain (head_texts columns) env
-  pub has : Has table domain env
+  pub has : HasAssignment table domain env
 
 -- a difference
 pub record IsMinus (domain : List Text) (left right : Table) (env : Assignment) : Type 0 where
-  pub has : Has left domain env
-  pub none : Has right domain env → ⊥
+  pub has : HasAssignment left domain env
+  pub none : HasAssignment right domain env → ⊥
 
 -- a complement
 pub record IsComplement (domain : List Text) (table : Table) (env : Assignment) : Type 0 where
   pub known : HasTexts domain table.vars.texts env
-  pub none : Has table domain env → ⊥
+  pub none : HasAssignment table domain env → ⊥

@@ -8,7 +8,7 @@ use Rattle.lrp_model.specs.declared.tokens.Place.{Place}
 use Rattle.lrp_model.specs.RawQueries.{raw_not, raw_and, raw_or, raw_implies, raw_group, raw_exists, raw_forall, raw, RawForm, RawForms, raw_atom, raw_compare, raw_member, raw_ranged, raw_paired, no_raws}
 use Rattle.lrp_tense.specs.Expanding.{operator_number, operators, operators_each, Naming, renamed_to, expanded, expanded_each, form_of_range, form_of_pair, present_name, moment_name, between_name}
 use Rattle.lrp_tense.specs.Counting.{position_of, operator_number_in, ArePositions, AreNumbers}
-use Rattle.lrp_tense.specs.Numbers.{Numbers, met, ranked, next_number, behind_one, behind_all, expanded_from, each_from}
+use Rattle.lrp_tense.specs.Numbers.{Numbers, met, ranked, next_number, after_one, after_all, expanded_from, each_from}
 use Rattle.lrp_tense.proofs.Numbering.{trichotomy}
 use Rattle.lrp_tense.proofs.Positions.{IsFirstAt, number_there, expansion_same}
 
@@ -17,15 +17,15 @@ use Rattle.lrp_tense.proofs.Positions.{IsFirstAt, number_there, expansion_same}
 -- each operator is given its number
 abbrev Gives : Numbers → (Place → ℕ) → List Place → Type 0
 Gives n m [] = Unit {0}
-Gives n m (p ∷ ps) = (next_number n p ≡ m p) × Gives (behind_one n p) m ps
+Gives n m (p ∷ ps) = (next_number n p ≡ m p) × Gives (after_one n p) m ps
 
 gives_left : (n : Numbers) (m : Place → ℕ) (xs ys : List Place) → Gives n m (xs ++ ys) → Gives n m xs
 gives_left n m [] ys a = tt
-gives_left n m (x ∷ xs) ys a = (a.0, gives_left (behind_one n x) m xs ys a.1)
+gives_left n m (x ∷ xs) ys a = (a.0, gives_left (after_one n x) m xs ys a.1)
 
-gives_right : (n : Numbers) (m : Place → ℕ) (xs ys : List Place) → Gives n m (xs ++ ys) → Gives (behind_all n xs) m ys
+gives_right : (n : Numbers) (m : Place → ℕ) (xs ys : List Place) → Gives n m (xs ++ ys) → Gives (after_all n xs) m ys
 gives_right n m [] ys a = a
-gives_right n m (x ∷ xs) ys a = gives_right (behind_one n x) m xs ys a.1
+gives_right n m (x ∷ xs) ys a = gives_right (after_one n x) m xs ys a.1
 
 mutual
   same_from : (f : RawForm) (n : Numbers) (m : Place → ℕ) → Gives n m (operators f) → (names : Naming) → expanded_from f n names ≡ expanded f m names
@@ -35,23 +35,23 @@ mutual
   same_from (raw_not p f) n m a names = ap (λ x. raw_not p x) (same_from f n m a names)
   same_from (raw_and p fs) n m a names = ap (λ x. raw_and p x) (same_each fs n m a names)
   same_from (raw_or p fs) n m a names = ap (λ x. raw_or p x) (same_each fs n m a names)
-  same_from (raw_implies p f g) n m a names = ap₂ (λ x y. raw_implies p x y) (same_from f n m (gives_left n m (operators f) (operators g) a) names) (same_from g (behind_all n (operators f)) m (gives_right n m (operators f) (operators g) a) names)
+  same_from (raw_implies p f g) n m a names = ap₂ (λ x y. raw_implies p x y) (same_from f n m (gives_left n m (operators f) (operators g) a) names) (same_from g (after_all n (operators f)) m (gives_right n m (operators f) (operators g) a) names)
   same_from (raw_group p f) n m a names = ap (λ x. raw_group p x) (same_from f n m a names)
   same_from (raw_exists p c f) n m a names = ap (λ x. raw_exists p c x) (same_from f n m a (renamed_to c.name c.name ∷ names))
   same_from (raw_forall p c f) n m a names = ap (λ x. raw_forall p c x) (same_from f n m a (renamed_to c.name c.name ∷ names))
   same_from (raw_ranged word o from to f) n m a names =
-      ap (λ x. form_of_range word o (moment_name o.name (next_number n o.place)) (present_name names o.name) from to x) (same_from f (behind_one n o.place) m a.1 (renamed_to o.name (moment_name o.name (next_number n o.place)) ∷ names))
+      ap (λ x. form_of_range word o (moment_name o.name (next_number n o.place)) (present_name names o.name) from to x) (same_from f (after_one n o.place) m a.1 (renamed_to o.name (moment_name o.name (next_number n o.place)) ∷ names))
       ∙ ap (λ i. form_of_range word o (moment_name o.name i) (present_name names o.name) from to (expanded f m (renamed_to o.name (moment_name o.name i) ∷ names))) a.0
   same_from (raw_paired word o f g) n m a names =
       ap₂ (λ x y. form_of_pair word o (moment_name o.name (next_number n o.place)) (between_name o.name (next_number n o.place)) (present_name names o.name) x y)
-      (same_from f (behind_one n o.place) m (gives_left (behind_one n o.place) m (operators f) (operators g) a.1) (renamed_to o.name (between_name o.name (next_number n o.place)) ∷ names))
-      (same_from g (behind_all (behind_one n o.place) (operators f)) m (gives_right (behind_one n o.place) m (operators f) (operators g) a.1) (renamed_to o.name (moment_name o.name (next_number n o.place)) ∷ names))
+      (same_from f (after_one n o.place) m (gives_left (after_one n o.place) m (operators f) (operators g) a.1) (renamed_to o.name (between_name o.name (next_number n o.place)) ∷ names))
+      (same_from g (after_all (after_one n o.place) (operators f)) m (gives_right (after_one n o.place) m (operators f) (operators g) a.1) (renamed_to o.name (moment_name o.name (next_number n o.place)) ∷ names))
       ∙ ap (λ i. form_of_pair word o (moment_name o.name i) (between_name o.name i) (present_name names o.name) (expanded f m (renamed_to o.name (between_name o.name i) ∷ names)) (expanded g m (renamed_to o.name (moment_name o.name i) ∷ names))) a.0
 
   same_each : (fs : RawForms) (n : Numbers) (m : Place → ℕ) → Gives n m (operators_each fs) → (names : Naming) → each_from fs n names ≡ expanded_each fs m names
   same_each no_raws n m a names = refl
   same_each (raw f fs) n m a names =
-      ap₂ raw (same_from f n m (gives_left n m (operators f) (operators_each fs) a) names) (same_each fs (behind_all n (operators f)) m (gives_right n m (operators f) (operators_each fs) a) names)
+      ap₂ raw (same_from f n m (gives_left n m (operators f) (operators_each fs) a) names) (same_each fs (after_all n (operators f)) m (gives_right n m (operators f) (operators_each fs) a) names)
 
 -- ---- by positions in order
 
@@ -91,7 +91,7 @@ never_falls xs rises = IsNonDecreasingBy-from_all_adjacent (λ x. x) xs (λ k d 
     omega (arith, r, a, b))
 
 -- after places, where operators are numbered as they are met
-pub met_all : (xs ps : List Place) → behind_all (met xs) ps ≡ met (xs ++ ps)
+pub met_all : (xs ps : List Place) → after_all (met xs) ps ≡ met (xs ++ ps)
 met_all xs [] = sym (ap met (append-nil xs))
 met_all xs (p ∷ ps) = met_all (xs ++ p ∷ []) ps ∙ ap met (append_assoc xs (p ∷ []) ps)
 

@@ -56,9 +56,9 @@ sort_front (x ∷ xs) ys n s e = by (bytes_eq x.name n) refl (λ k. sort_front x
     by true t r = bound_here x (xs ++ ys) n t ∙ sym (bound_here x xs n t) ∙ e
     by false t r = bound_further x (xs ++ ys) n t ∙ r (sym (bound_further x xs n t) ∙ e)
 
-sort_behind : (xs ys : Binders) (n : Identifier) → binder_sort xs n ≡ None → binder_sort (xs ++ ys) n ≡ binder_sort ys n
-sort_behind [] ys n e = refl
-sort_behind (x ∷ xs) ys n e = by (bytes_eq x.name n) refl (λ k. sort_behind xs ys n k)
+sort_after : (xs ys : Binders) (n : Identifier) → binder_sort xs n ≡ None → binder_sort (xs ++ ys) n ≡ binder_sort ys n
+sort_after [] ys n e = refl
+sort_after (x ∷ xs) ys n e = by (bytes_eq x.name n) refl (λ k. sort_after xs ys n k)
   where
     by : (b : Bool) → bytes_eq x.name n ≡ b → (binder_sort xs n ≡ None → binder_sort (xs ++ ys) n ≡ binder_sort ys n) → binder_sort (x ∷ (xs ++ ys)) n ≡ binder_sort ys n
     by true t r = let z : Some x.sort ≡ None = sym (bound_here x xs n t) ∙ e in cc
@@ -75,12 +75,12 @@ turned_sort (c ∷ cs) h n = ap (λ l. binder_sort l n) (reverse-append (c ∷ [
   where
     further : (o : Option Sort) → bytes_eq c.name n ≡ false → binder_sort (reverse cs) n ≡ o → binder_sort (reverse cs) n ≡ binder_sort cs n → binder_sort (reverse cs ++ c ∷ []) n ≡ binder_sort (c ∷ cs) n
     further (Some s) t e r = sort_front (reverse cs) (c ∷ []) n s e ∙ sym e ∙ r ∙ sym (bound_further c cs n t)
-    further None t e r = sort_behind (reverse cs) (c ∷ []) n e ∙ bound_further c [] n t ∙ sym e ∙ r ∙ sym (bound_further c cs n t)
+    further None t e r = sort_after (reverse cs) (c ∷ []) n e ∙ bound_further c [] n t ∙ sym e ∙ r ∙ sym (bound_further c cs n t)
 
     by : (b : Bool) → bytes_eq c.name n ≡ b → binder_sort (reverse cs) n ≡ binder_sort cs n → binder_sort (reverse cs ++ c ∷ []) n ≡ binder_sort (c ∷ cs) n
     by true t r =
         let none : binder_sort cs n ≡ None = subst (λ m. binder_sort cs m ≡ None) ((bytes_decides c.name n).0 t) (not_there c.name cs h.0) in
-        sort_behind (reverse cs) (c ∷ []) n (r ∙ none) ∙ bound_here c [] n t ∙ sym (bound_here c cs n t)
+        sort_after (reverse cs) (c ∷ []) n (r ∙ none) ∙ bound_here c [] n t ∙ sym (bound_here c cs n t)
     by false t r = further (binder_sort (reverse cs) n) t refl r
 
 -- ---- the sort of a name among columns

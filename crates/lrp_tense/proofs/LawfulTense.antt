@@ -36,7 +36,7 @@ use Rattle.lrp_text.proofs.Sound.{takes_shorter}
 use Rattle.lrp_text.proofs.Complete.{separated_long}
 use Rattle.lrp_text.proofs.NameTokens.{NamedPart, columns_named, spelled_named}
 use Rattle.lrp_query.specs.Lawful.{FitsRawTerm, HasTwo, FitsRaw, FitRaws, formulas_in, formulas_of, is_raw_text, text_total, formula_texts, texts_of}
-use Rattle.lrp_query.proofs.Whole.{Whole, Wholes, closing, front_of, back_of, behind_head, ends_query, body_parts, whole_body}
+use Rattle.lrp_query.proofs.Whole.{Whole, Wholes, closing, front_of, back_of, after_head, ends_query, body_parts, whole_body}
 use Rattle.lrp_query.proofs.HoleFree.{tokens_clean}
 use Rattle.lrp_query.proofs.TermRules.{placed_text}
 use Rattle.lrp_query.proofs.LawfulQueries.{narrow_tense, arguments_fit, argument_count, within, term_fits, terms_fit, period_fits, map_length, term_some, tokens_long, body_short}
@@ -274,11 +274,11 @@ mutual
   plain_names (bare_chain t f fs) h =
       plain_chain (place_of (raw_form f)) (raw_form f) fs (plain_names f (front_of NamedPart (formula_text f) (members_text Implies fs) h)) (back_of NamedPart (formula_text f) (members_text Implies fs) h)
   plain_names (chain t p f g fs) h =
-      let behind : List Part = members_text Implies fs ++ closing in
-      let rest : List Part = any (word_token Implies) ∷ (formula_text g ++ behind) in
-      let after : PlainParts (formula_text g ++ behind) = (back_of NamedPart (formula_text f) rest h.1).1 in (
+      let afterwards : List Part = members_text Implies fs ++ closing in
+      let rest : List Part = any (word_token Implies) ∷ (formula_text g ++ afterwards) in
+      let after : PlainParts (formula_text g ++ afterwards) = (back_of NamedPart (formula_text f) rest h.1).1 in (
         plain_names f (front_of NamedPart (formula_text f) rest h.1),
-        plain_chain (place_of (raw_form g)) (raw_form g) fs (plain_names g (front_of NamedPart (formula_text g) behind after)) (front_of NamedPart (members_text Implies fs) closing (back_of NamedPart (formula_text g) behind after)),
+        plain_chain (place_of (raw_form g)) (raw_form g) fs (plain_names g (front_of NamedPart (formula_text g) afterwards after)) (front_of NamedPart (members_text Implies fs) closing (back_of NamedPart (formula_text g) afterwards after)),
       )
   plain_names (hole p) h = tt
 
@@ -375,7 +375,7 @@ mutual
 
 -- the places of the operators are some of those of the tokens
 query_places : (t : WrittenQuery temporal) → Some (operators (raw_form t.body)) (at_places (query_text t))
-query_places t = second_some (operators (raw_form t.body)) (separated comma column_text t.head) (behind_head t.body) (first_some (operators (raw_form t.body)) (formula_text t.body) ends_query (operators_some t.body))
+query_places t = second_some (operators (raw_form t.body)) (separated comma column_text t.head) (after_head t.body) (first_some (operators (raw_form t.body)) (formula_text t.body) ends_query (operators_some t.body))
 
 -- of some places of which others are some
 pub some_through : (xs ys zs : List Place) → Some xs ys → Rises zs → Some ys zs → Rises xs
@@ -401,7 +401,7 @@ lawful_tree bytes t small spelled sizes =
     let number : Place → ℕ = operator_number (operators (raw_form t.body)) in
     let k = counted t.body number [] in
     record {
-      names = columns_named t.head (front_of NamedPart (separated comma column_text t.head) (behind_head t.body) (spelled_named bytes (query_text t) spelled).1);
+      names = columns_named t.head (front_of NamedPart (separated comma column_text t.head) (after_head t.body) (spelled_named bytes (query_text t) spelled).1);
       sizes = fits_expanded t.body o sizes number [];
       formulas = omega (arith, size, long, short, k.0, small);
       texts = omega (arith, size, long, short, k.1, small);

@@ -14,7 +14,7 @@ use Rattle.lrp_tense.specs.declared.written_operators.PairOperator.{PairOperator
 use Rattle.lrp_tense.specs.declared.expansion.BegunPair.{BegunPair}
 use Rattle.lrp_tense.specs.Expanding.{Naming, Renaming, present_name, operators, operators_each, moment_name, between_name, form_of_pair}
 use Rattle.lrp_tense.specs.Named.{naming_of}
-use Rattle.lrp_tense.specs.Numbers.{Numbers, next_number, behind_one, behind_all, expanded_from, each_from}
+use Rattle.lrp_tense.specs.Numbers.{Numbers, next_number, after_one, after_all, expanded_from, each_from}
 use Rattle.lrp_tense.specs.Scopes.{ScopeView, inside_variable, past, past_one, past_each, expanded_in, each_in}
 use Rattle.lrp_tense.specs.Written.{operator_of, form_inside, pair_of}
 use Rattle.lrp_tense.specs.BegunPair.{IsBegun, pair_begun}
@@ -69,9 +69,9 @@ operators_join no_raws gs = refl
 operators_join (raw f fs) gs = ap (λ x. operators f ++ x) (operators_join fs gs) ∙ sym (append_assoc (operators f) (operators_each fs) (operators_each gs))
 
 -- after some operators and then others
-pub behind_append : (n : Numbers) (xs ys : List Place) → behind_all n (xs ++ ys) ≡ behind_all (behind_all n xs) ys
-behind_append n [] ys = refl
-behind_append n (x ∷ xs) ys = behind_append (behind_one n x) xs ys
+pub after_append : (n : Numbers) (xs ys : List Place) → after_all n (xs ++ ys) ≡ after_all (after_all n xs) ys
+after_append n [] ys = refl
+after_append n (x ∷ xs) ys = after_append (after_one n x) xs ys
 
 -- after the formulas so far, and one more
 pub past_step : (fs : List RawFormula) (i : ℕ) (f : RawFormula) (a b c : ScopeView) → i < length fs → f ≡ get_or fs i f → b ≡ past_each a (raw_forms_of (take i fs)) → c ≡ past b (raw_form_of f) → c ≡ past_each a (raw_forms_of (take (i + 1) fs))
@@ -79,14 +79,14 @@ past_step fs i f a b c lt is e h =
     let one : operators_each (raw_forms_of (take (i + 1) fs)) ≡ operators_each (raw_forms_of (take i fs)) ++ operators (raw_form_of f) =
     ap operators_each (one_more fs i f lt is) ∙ operators_join (raw_forms_of (take i fs)) (raw (raw_form_of f) no_raws) ∙ ap (λ x. operators_each (raw_forms_of (take i fs)) ++ x) (append-nil (operators (raw_form_of f))) in
     h ∙ ap (λ x. past x (raw_form_of f)) e
-    ∙ ap (λ (n : Numbers). record a { numbers = n }) (sym (ap (behind_all a.numbers) one ∙ behind_append a.numbers (operators_each (raw_forms_of (take i fs))) (operators (raw_form_of f))))
+    ∙ ap (λ (n : Numbers). record a { numbers = n }) (sym (ap (after_all a.numbers) one ∙ after_append a.numbers (operators_each (raw_forms_of (take i fs))) (operators (raw_form_of f))))
 
-each_join : (fs gs : RawForms) (n : Numbers) (names : Naming) → each_from (raws_joined fs gs) n names ≡ raws_joined (each_from fs n names) (each_from gs (behind_all n (operators_each fs)) names)
+each_join : (fs gs : RawForms) (n : Numbers) (names : Naming) → each_from (raws_joined fs gs) n names ≡ raws_joined (each_from fs n names) (each_from gs (after_all n (operators_each fs)) names)
 unfolding raws_joined
 each_join no_raws gs n names = refl
 each_join (raw f fs) gs n names =
     ap (raw (expanded_from f n names))
-    (each_join fs gs (behind_all n (operators f)) names ∙ ap (λ m. raws_joined (each_from fs (behind_all n (operators f)) names) (each_from gs m names)) (sym (behind_append n (operators f) (operators_each fs))))
+    (each_join fs gs (after_all n (operators f)) names ∙ ap (λ m. raws_joined (each_from fs (after_all n (operators f)) names) (each_from gs m names)) (sym (after_append n (operators f) (operators_each fs))))
 
 -- the formulas expanded so far, and one more
 pub expand_step : (fs : List RawFormula) (gs hs : List RawFormula) (i : ℕ) (f : RawFormula) (g : RawFormula) (a : ScopeView) → i < length fs → f ≡ get_or fs i f → hs ≡ gs ++ g ∷ []
@@ -129,7 +129,7 @@ pub implies_joined : (s t : ScopeView) (p : Place) (f g : RawForm) (x : RawForm)
 implies_joined s t p f g x e h = ap₂ (λ y a. raw_implies p y (expanded_in a g)) h e
 
 pub implies_past : (s t u : ScopeView) (p : Place) (f g : RawForm) → t ≡ past s f → u ≡ past t g → u ≡ past s (raw_implies p f g)
-implies_past s t u p f g e h = h ∙ ap (λ a. past a g) e ∙ ap (λ (n : Numbers). record s { numbers = n }) (sym (behind_append s.numbers (operators f) (operators g)))
+implies_past s t u p f g e h = h ∙ ap (λ a. past a g) e ∙ ap (λ (n : Numbers). record s { numbers = n }) (sym (after_append s.numbers (operators f) (operators g)))
 
 -- ---- operators over two formulas
 
@@ -164,8 +164,8 @@ pair_joined s t p b f g h e =
     ∙ pair_next p.word s (operator_of p.at) f g
 
 -- and passed
-pair_behind : (word : Paired) (s : ScopeView) (o : Operator) (f g : RawForm) → past (past (past_one s o.place) f) g ≡ past s (raw_paired word o f g)
-pair_behind word s o f g = ap (λ (n : Numbers). record s { numbers = n }) (sym (behind_append (behind_one s.numbers o.place) (operators f) (operators g)))
+pair_after : (word : Paired) (s : ScopeView) (o : Operator) (f g : RawForm) → past (past (past_one s o.place) f) g ≡ past s (raw_paired word o f g)
+pair_after word s o f g = ap (λ (n : Numbers). record s { numbers = n }) (sym (after_append (after_one s.numbers o.place) (operators f) (operators g)))
 
 pub pair_past : (s t u : ScopeView) (p : PairOperator) (f g : RawForm) → t ≡ past (past_one s p.at.places.place) f → u ≡ past t g → u ≡ past s (pair_of p f g)
-pair_past s t u p f g e h = h ∙ ap (λ a. past a g) e ∙ pair_behind p.word s (operator_of p.at) f g
+pair_past s t u p f g e h = h ∙ ap (λ a. past a g) e ∙ pair_after p.word s (operator_of p.at) f g

@@ -11,7 +11,7 @@ use Rattle.std.specs.Str.Parse.{digits_value}
 use Rattle.lrp_model.specs.Lexing.{Scanned, QuotedText as TextRead, run, is_letter, is_blank, is_name_byte, word_or_name, one, one_or_two, symbol_from, text_from, text_scanned, skip, after, moved, further_symbol, headed, no_symbol, tokens, tokens_in, start, scan_in, symbol_in, tokens_in_from}
 use Rattle.std.specs.Char.{is_ascii_digit}
 use Rattle.lrp_model.specs.Names.{IsName}
-use Rattle.lrp_text.specs.Sources.{HasTokensBehind}
+use Rattle.lrp_text.specs.Sources.{HasTokensAfter}
 use Rattle.lrp_text.proofs.Scans.{chosen}
 use Rattle.lrp_tense.specs.Expanding.{IsPlain, AllDiffer}
 use Rattle.lrp_tense.proofs.Numbering.{IsEarlier, through, not_itself}
@@ -180,7 +180,7 @@ earlier_all p q [] r a = tt
 earlier_all p q (x ∷ ps) r a = (earlier_through p q x r a.0, earlier_all p q ps r a.1)
 
 -- whatever the token
-same_bytes : (k : Token) (bs : List ℕ) → HasTokensBehind k → HasBytes k bs → HasBytes hole_token bs
+same_bytes : (k : Token) (bs : List ℕ) → HasTokensAfter k → HasBytes k bs → HasBytes hole_token bs
 same_bytes (name_token n) [] g h = h
 same_bytes (word_token w) [] g h = h
 same_bytes (number_token n) [] g h = h

@@ -16,14 +16,14 @@ next_number (met ps) p = suc (length ps)
 next_number (ranked positions) p = operator_number_in positions p
 
 -- after that operator
-abbrev pub behind_one : Numbers → Place → Numbers
-behind_one (met ps) p = met (ps ++ p ∷ [])
-behind_one (ranked positions) p = ranked positions
+abbrev pub after_one : Numbers → Place → Numbers
+after_one (met ps) p = met (ps ++ p ∷ [])
+after_one (ranked positions) p = ranked positions
 
 -- after the operators at these places
-abbrev pub behind_all : Numbers → List Place → Numbers
-behind_all n [] = n
-behind_all n (p ∷ ps) = behind_all (behind_one n p) ps
+abbrev pub after_all : Numbers → List Place → Numbers
+after_all n [] = n
+after_all n (p ∷ ps) = after_all (after_one n p) ps
 
 -- the expanded formula whose first operator has the next number
 abbrev mutual
@@ -34,18 +34,18 @@ abbrev mutual
   expanded_from (raw_not p f) n names = raw_not p (expanded_from f n names)
   expanded_from (raw_and p fs) n names = raw_and p (each_from fs n names)
   expanded_from (raw_or p fs) n names = raw_or p (each_from fs n names)
-  expanded_from (raw_implies p f g) n names = raw_implies p (expanded_from f n names) (expanded_from g (behind_all n (operators f)) names)
+  expanded_from (raw_implies p f g) n names = raw_implies p (expanded_from f n names) (expanded_from g (after_all n (operators f)) names)
   expanded_from (raw_group p f) n names = raw_group p (expanded_from f n names)
   expanded_from (raw_exists p c f) n names = raw_exists p c (expanded_from f n (renamed_to c.name c.name ∷ names))
   expanded_from (raw_forall p c f) n names = raw_forall p c (expanded_from f n (renamed_to c.name c.name ∷ names))
   expanded_from (raw_ranged word o from to f) n names =
       form_of_range word o (moment_name o.name (next_number n o.place)) (present_name names o.name) from to
-      (expanded_from f (behind_one n o.place) (renamed_to o.name (moment_name o.name (next_number n o.place)) ∷ names))
+      (expanded_from f (after_one n o.place) (renamed_to o.name (moment_name o.name (next_number n o.place)) ∷ names))
   expanded_from (raw_paired word o f g) n names =
       form_of_pair word o (moment_name o.name (next_number n o.place)) (between_name o.name (next_number n o.place)) (present_name names o.name)
-      (expanded_from f (behind_one n o.place) (renamed_to o.name (between_name o.name (next_number n o.place)) ∷ names))
-      (expanded_from g (behind_all (behind_one n o.place) (operators f)) (renamed_to o.name (moment_name o.name (next_number n o.place)) ∷ names))
+      (expanded_from f (after_one n o.place) (renamed_to o.name (between_name o.name (next_number n o.place)) ∷ names))
+      (expanded_from g (after_all (after_one n o.place) (operators f)) (renamed_to o.name (moment_name o.name (next_number n o.place)) ∷ names))
 
   pub each_from : RawForms → Numbers → Naming → RawForms
   each_from no_raws n names = no_raws
-  each_from (raw f fs) n names = raw (expanded_from f n names) (each_from fs (behind_all n (operators f)) names)
+  each_from (raw f fs) n names = raw (expanded_from f n names) (each_from fs (after_all n (operators f)) names)

@@ -6,7 +6,7 @@ use Rattle.lrp_model.specs.declared.tokens.Symbol.TheVariants.{Open, Close, Open
 use Rattle.lrp_model.specs.Tokens.{Token}
 use Rattle.lrp_model.specs.Tokens.Token.{text_token, number_token, end_token}
 use Rattle.std.specs.Str.Parse.{digits_value}
-use Rattle.lrp_model.specs.Lexing.{is_letter, is_name_byte, is_forbidden, run, behind_run, word_or_name, Scanned, QuotedText as TextRead, longer, more_taken, bad_at, text_from, text_scanned, one, one_or_two, symbol_in, scan_in, scan, further_symbol, no_symbol}
+use Rattle.lrp_model.specs.Lexing.{is_letter, is_name_byte, is_forbidden, run, after_run, word_or_name, Scanned, QuotedText as TextRead, longer, more_taken, bad_at, text_from, text_scanned, one, one_or_two, symbol_in, scan_in, scan, further_symbol, no_symbol}
 use Rattle.std.specs.Char.{is_ascii_digit}
 use Rattle.lrp_text.proofs.Scans.{chosen}
 
@@ -110,8 +110,8 @@ pub scan_alone : (wide : Bool) (bs : List ℕ) → SameText (scan_in wide bs)
 unfolding scan_in
 scan_alone wide [] = λ t e. absurd cc
 scan_alone wide (b ∷ bs) =
-    chosen SameText (is_letter b) _ _ (λ e. none_same (record { token = word_or_name (run is_name_byte (b ∷ bs)); taken = run is_name_byte (b ∷ bs); left = behind_run is_name_byte (b ∷ bs) }) (word_no_text (run is_name_byte (b ∷ bs))))
-    (λ n. chosen SameText (is_ascii_digit b) _ _ (λ e. none_same (record { token = number_token (digits_value 10 (run is_ascii_digit (b ∷ bs))); taken = run is_ascii_digit (b ∷ bs); left = behind_run is_ascii_digit (b ∷ bs) }) tt)
+    chosen SameText (is_letter b) _ _ (λ e. none_same (record { token = word_or_name (run is_name_byte (b ∷ bs)); taken = run is_name_byte (b ∷ bs); left = after_run is_name_byte (b ∷ bs) }) (word_no_text (run is_name_byte (b ∷ bs))))
+    (λ n. chosen SameText (is_ascii_digit b) _ _ (λ e. none_same (record { token = number_token (digits_value 10 (run is_ascii_digit (b ∷ bs))); taken = run is_ascii_digit (b ∷ bs); left = after_run is_ascii_digit (b ∷ bs) }) tt)
     (λ m. chosen SameText (b == 34) (text_scanned (text_from false bs)) (symbol_in wide b bs) (λ e. quoted_same (text_from false bs) (text_alone false bs))
     (λ o. none_same (symbol_in wide b bs) (symbol_no_text wide b bs))))
 
@@ -133,7 +133,7 @@ pub scan_end : (wide : Bool) (bs : List ℕ) → EndsHere bs (scan_in wide bs)
 unfolding scan_in
 scan_end wide [] = λ e. refl
 scan_end wide (b ∷ bs) =
-    chosen (EndsHere (b ∷ bs)) (is_letter b) _ _ (λ e. none_ends (b ∷ bs) (record { token = word_or_name (run is_name_byte (b ∷ bs)); taken = run is_name_byte (b ∷ bs); left = behind_run is_name_byte (b ∷ bs) }) (word_no_text (run is_name_byte (b ∷ bs))))
-    (λ n. chosen (EndsHere (b ∷ bs)) (is_ascii_digit b) _ _ (λ e. none_ends (b ∷ bs) (record { token = number_token (digits_value 10 (run is_ascii_digit (b ∷ bs))); taken = run is_ascii_digit (b ∷ bs); left = behind_run is_ascii_digit (b ∷ bs) }) tt)
+    chosen (EndsHere (b ∷ bs)) (is_letter b) _ _ (λ e. none_ends (b ∷ bs) (record { token = word_or_name (run is_name_byte (b ∷ bs)); taken = run is_name_byte (b ∷ bs); left = after_run is_name_byte (b ∷ bs) }) (word_no_text (run is_name_byte (b ∷ bs))))
+    (λ n. chosen (EndsHere (b ∷ bs)) (is_ascii_digit b) _ _ (λ e. none_ends (b ∷ bs) (record { token = number_token (digits_value 10 (run is_ascii_digit (b ∷ bs))); taken = run is_ascii_digit (b ∷ bs); left = after_run is_ascii_digit (b ∷ bs) }) tt)
     (λ m. chosen (EndsHere (b ∷ bs)) (b == 34) (text_scanned (text_from false bs)) (symbol_in wide b bs) (λ e. quoted_ends (b ∷ bs) (text_from false bs))
     (λ o. none_ends (b ∷ bs) (symbol_in wide b bs) (symbol_no_text wide b bs))))

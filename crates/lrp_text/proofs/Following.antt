@@ -4,8 +4,8 @@ use Rattle.std.proofs.lemmas.List.{length-append}
 use Rattle.lrp_model.specs.declared.tokens.Place.{Place}
 use Rattle.lrp_model.specs.Tokens.{Token, Tokens}
 use Rattle.lrp_model.specs.Tokens.Token.{end_token, bad_token}
-use Rattle.lrp_model.specs.Lexing.{At, Scanned, after, skip, scan_in, headed, tokens_in_from}
-use Rattle.lrp_text.specs.Sources.{next_at, next_of, behind_next, tokens_left}
+use Rattle.lrp_model.specs.Lexing.{Remainder, Scanned, after, skip, scan_in, headed, tokens_in_from}
+use Rattle.lrp_text.specs.Sources.{next_at, next_of, after_next, tokens_left}
 use Rattle.lrp_text.proofs.Scans.{StopsPlain, EndsPlain, ends_some, scan_taken_in}
 use Rattle.lrp_text.proofs.Cuts.{skip_shorter}
 
@@ -42,7 +42,7 @@ enough wide (suc n) (suc m) p bs lt lt2 =
     (follows wide a.bytes (tokens_in_from wide n q s.left) (tokens_in_from wide m q s.left) (λ less. enough wide n m q s.left (omega (arith, short, less)) (omega (arith, short, less))) (scan_taken_in wide a.bytes).ends)
 
 -- the tokens that are left, one at a time
-pub next_tokens : (wide : Bool) (s : At) → tokens_left wide s ≡ headed (next_at s).place (next_of wide s) (next_of wide s).token (tokens_left wide (behind_next wide s))
+pub next_tokens : (wide : Bool) (s : Remainder) → tokens_left wide s ≡ headed (next_at s).place (next_of wide s) (next_of wide s).token (tokens_left wide (after_next wide s))
 unfolding tokens_in_from
 next_tokens wide s =
     let a = next_at s in

@@ -13,7 +13,7 @@ pub mod TokenTests
 pub mod ColumnRule
 pub mod IntegerRule
 pub mod OffsetRule
-pub mod Behind
+pub mod After
 pub mod Runs
 pub mod Scans
 pub mod Cuts

@@ -19,7 +19,7 @@ use Rattle.lrp_text.specs.Taking.{is_symbol_token, is_word_token, is_name_token,
 use Rattle.lrp_text.specs.declared.lexemes.Lexeme.{Lexeme}
 use Rattle.lrp_text.specs.declared.lexemes.Lexeme.TheVariants.{Name, Word, Number, LargeNumber, Text, LongText, Symbol, End, Bad}
 use Rattle.lrp_text.specs.Lexemes.{IsSaid, shows_symbol, shows_word, shows_name, shows_text, shows_end, shown_number, shown_period}
-use Rattle.lrp_text.specs.Sources.{Stands, HasTokensBehind, Goes}
+use Rattle.lrp_text.specs.Sources.{Stands, HasTokensAfter, IsInnerToken}
 
 -- a test says of each token what is shown of the lexeme of a slice
 pub record IsShown {A : Type 0} (test : Token → A) (slice : List ℕ) (shown : Lexeme → A) : Type 0 where
@@ -123,7 +123,7 @@ unfolding look
 look_place ts l slice place st = ap (look start (λ t. t.place)) st.whole ∙ ap (λ x. Ok (place, x)) (sym st.whole)
 
 -- a token of a test goes on, where the end and a bad byte are none of it
-goes_on : (test : Token → Bool) (k : Token) → test end_token ≡ false → test bad_token ≡ false → test k ≡ true → HasTokensBehind k
+goes_on : (test : Token → Bool) (k : Token) → test end_token ≡ false → test bad_token ≡ false → test k ≡ true → HasTokensAfter k
 goes_on test (name_token n) e b h = tt
 goes_on test (word_token w) e b h = tt
 goes_on test (number_token n) e b h = tt
@@ -140,23 +140,23 @@ goes Bad = false
 goes _ = true
 
 -- what a lexeme says goes on
-said_goes : (l : Lexeme) (slice : List ℕ) (k : Token) → goes l ≡ true → IsSaid l slice k → HasTokensBehind k
-said_goes Name slice k g e = subst HasTokensBehind (sym e) tt
-said_goes (Word w) slice k g e = subst HasTokensBehind (sym e) tt
-said_goes (Number n) slice k g e = subst HasTokensBehind (sym e.0) tt
-said_goes LargeNumber slice k g e = subst HasTokensBehind (sym e.1) tt
-said_goes Text slice k g e = subst HasTokensBehind (sym e.1) tt
-said_goes LongText slice k g e = subst HasTokensBehind (sym e.1) tt
-said_goes (Symbol y) slice k g e = subst HasTokensBehind (sym e) tt
+said_goes : (l : Lexeme) (slice : List ℕ) (k : Token) → goes l ≡ true → IsSaid l slice k → HasTokensAfter k
+said_goes Name slice k g e = subst HasTokensAfter (sym e) tt
+said_goes (Word w) slice k g e = subst HasTokensAfter (sym e) tt
+said_goes (Number n) slice k g e = subst HasTokensAfter (sym e.0) tt
+said_goes LargeNumber slice k g e = subst HasTokensAfter (sym e.1) tt
+said_goes Text slice k g e = subst HasTokensAfter (sym e.1) tt
+said_goes LongText slice k g e = subst HasTokensAfter (sym e.1) tt
+said_goes (Symbol y) slice k g e = subst HasTokensAfter (sym e) tt
 said_goes End slice k g e = absurd cc
 said_goes Bad slice k g e = absurd cc
 
 -- where a lexeme stands that others follow, a cursor may advance
-pub goes_shown : (ts : Tokens) (l : Lexeme) (slice : List ℕ) (place : Place) → Stands ts l slice place → goes l ≡ true → Goes ts
-goes_shown ts l slice place st g = subst Goes (sym st.whole) (said_goes l slice st.token g st.said)
+pub goes_shown : (ts : Tokens) (l : Lexeme) (slice : List ℕ) (place : Place) → Stands ts l slice place → goes l ≡ true → IsInnerToken ts
+goes_shown ts l slice place st g = subst IsInnerToken (sym st.whole) (said_goes l slice st.token g st.said)
 
 -- what is seen goes on
-pub goes_seen : (test : Token → Bool) (ts us : Tokens) (r : Bool) → test end_token ≡ false → test bad_token ≡ false → look false (λ t. test t.token) ts ≡ Ok (r, us) → r ≡ true → Goes ts
+pub goes_seen : (test : Token → Bool) (ts us : Tokens) (r : Bool) → test end_token ≡ false → test bad_token ≡ false → look false (λ t. test t.token) ts ≡ Ok (r, us) → r ≡ true → IsInnerToken ts
 unfolding look
 goes_seen test [] us r e b h is =
     let p : ◌≡◌ {A = Bool × Tokens} (false, []) (r, us) = cc in
@@ -360,7 +360,7 @@ sort_going Bad slice a e = absurd cc
 sort_going _ slice a e = refl
 
 -- a sort goes on
-pub sort_goes : (ts : Tokens) (l : Lexeme) (slice : List ℕ) (place : Place) (a : Sort) → Stands ts l slice place → shown_sort l slice ≡ Ok a → Goes ts
+pub sort_goes : (ts : Tokens) (l : Lexeme) (slice : List ℕ) (place : Place) (a : Sort) → Stands ts l slice place → shown_sort l slice ≡ Ok a → IsInnerToken ts
 sort_goes ts l slice place a st e = goes_shown ts l slice place st (sort_going l slice a e)
 
 -- a sort is taken

@@ -12,7 +12,7 @@ use Rattle.std.proofs.lemmas.Str.{IsUtf8-append, IsUtf8-take, IsUtf8-drop, IsCha
 use Rattle.lrp_model.specs.Texts.{FitsText}
 use Rattle.lrp_model.specs.Tokens.Token.{text_token, number_token}
 use Rattle.std.specs.Str.Parse.{digits_value}
-use Rattle.lrp_model.specs.Lexing.{is_letter, is_name_byte, is_forbidden, run, behind_run, word_or_name, Scanned, QuotedText as TextRead, longer, more_taken, bad_at, text_from, text_scanned, symbol_from, scan, scan_in}
+use Rattle.lrp_model.specs.Lexing.{is_letter, is_name_byte, is_forbidden, run, after_run, word_or_name, Scanned, QuotedText as TextRead, longer, more_taken, bad_at, text_from, text_scanned, symbol_from, scan, scan_in}
 use Rattle.std.specs.Char.{is_ascii_digit}
 use Rattle.lrp_text.specs.Lexemes.{read_of, text_read, ended}
 use Rattle.lrp_text.proofs.Scans.{chosen}
@@ -102,8 +102,8 @@ meant_utf8 true front (b ∷ bs) u =
     chosen (MeansUtf8 front) ((b == 34) || (b == 92)) (more_taken 92 (longer b b (text_from false bs))) (bad_at (92 ∷ b ∷ bs))
     (λ e.
     let halves = front_utf8 front 92 (b ∷ bs) (omega arith) u in
-    let behind = front_utf8 (92 ∷ []) b bs (escaped_small b e) halves.1 in
-    let both : IsUtf8 (front ++ b ∷ bs) = IsUtf8-append front (b ∷ bs) halves.0 behind.1 in
+    let after = front_utf8 (92 ∷ []) b bs (escaped_small b e) halves.1 in
+    let both : IsUtf8 (front ++ b ∷ bs) = IsUtf8-append front (b ∷ bs) halves.0 after.1 in
     utf8_more front (longer b b (text_from false bs)) (utf8_longer front b (text_from false bs) (meant_utf8 false (front ++ b ∷ []) bs (subst IsUtf8 (sym (append_assoc front (b ∷ []) bs)) both))))
     (λ e. tt)
 meant_utf8 false front [] u = tt
@@ -154,8 +154,8 @@ unfolding scan_in
 scan_quoted [] t = λ e. absurd cc
 scan_quoted (b ∷ bs) t =
     let P : Scanned → Type 0 = λ s. s.token ≡ text_token t → IsQuoted (b ∷ bs) t in
-    chosen P (is_letter b) _ _ (λ e. none_quoted (b ∷ bs) t (record { token = word_or_name (run is_name_byte (b ∷ bs)); taken = run is_name_byte (b ∷ bs); left = behind_run is_name_byte (b ∷ bs) }) (word_no_text (run is_name_byte (b ∷ bs))))
-    (λ n. chosen P (is_ascii_digit b) _ _ (λ e. none_quoted (b ∷ bs) t (record { token = number_token (digits_value 10 (run is_ascii_digit (b ∷ bs))); taken = run is_ascii_digit (b ∷ bs); left = behind_run is_ascii_digit (b ∷ bs) }) tt)
+    chosen P (is_letter b) _ _ (λ e. none_quoted (b ∷ bs) t (record { token = word_or_name (run is_name_byte (b ∷ bs)); taken = run is_name_byte (b ∷ bs); left = after_run is_name_byte (b ∷ bs) }) (word_no_text (run is_name_byte (b ∷ bs))))
+    (λ n. chosen P (is_ascii_digit b) _ _ (λ e. none_quoted (b ∷ bs) t (record { token = number_token (digits_value 10 (run is_ascii_digit (b ∷ bs))); taken = run is_ascii_digit (b ∷ bs); left = after_run is_ascii_digit (b ∷ bs) }) tt)
     (λ m. chosen P (b == 34) (text_scanned (text_from false bs)) (symbol_from b bs)
     (λ e h. subst (λ x. IsQuoted (x ∷ bs) t) (sym (eqb-true b 34 e)) (quoted_of bs t (text_from false bs) refl h))
     (λ o. none_quoted (b ∷ bs) t (symbol_from b bs) (symbol_no_text false b bs))))
@@ -171,21 +171,21 @@ ended_means made [] t e = absurd cc
 ended_means made (b ∷ bs) t e = ended_at made b bs t (b == 34) e
 
 -- the bytes after the opening quote, of the whole slice
-read_behind : (slice t : List ℕ) → IsQuoted slice t → (text_read (drop 1 slice)).0 ≡ Some t
-read_behind slice t q = ap (λ x. (text_read (drop 1 x)).0) q.whole ∙ q.read
+read_after : (slice t : List ℕ) → IsQuoted slice t → (text_read (drop 1 slice)).0 ≡ Some t
+read_after slice t q = ap (λ x. (text_read (drop 1 x)).0) q.whole ∙ q.read
 
 -- what was made of a text, up to its end, is the text
 pub made_is : (slice t made rest : List ℕ) → (scan slice).token ≡ text_token t → (text_read (drop 1 slice)).0 ≡ option_map (λ x. made ++ x) (text_read rest).0 → text_read rest ≡ ended rest → made ≡ t
-made_is slice t made rest e so_far d = ended_means made rest t (ap (λ r. option_map (λ x. made ++ x) r.0) (sym d) ∙ sym so_far ∙ read_behind slice t (scan_quoted slice t e))
+made_is slice t made rest e so_far d = ended_means made rest t (ap (λ r. option_map (λ x. made ++ x) r.0) (sym d) ∙ sym so_far ∙ read_after slice t (scan_quoted slice t e))
 
 -- the text of a slice is a data text
 pub slice_fits : (slice t : List ℕ) → (scan slice).token ≡ text_token t → length t ≤ 255 → FitsText t
-slice_fits slice t e short = text_fits_data (drop 1 slice) t (read_behind slice t (scan_quoted slice t e)) short
+slice_fits slice t e short = text_fits_data (drop 1 slice) t (read_after slice t (scan_quoted slice t e)) short
 
 -- and UTF-8
 pub slice_utf8 : (slice t : List ℕ) → (scan slice).token ≡ text_token t → IsUtf8 slice → IsUtf8 t
 slice_utf8 slice t e u =
     let q = scan_quoted slice t e in
     let all : IsUtf8 (34 ∷ q.rest) = subst IsUtf8 q.whole u in
-    let behind : IsUtf8 (drop 1 (34 ∷ q.rest)) = IsUtf8-drop (34 ∷ q.rest) 1 all (IsCharBoundary-after_ascii (34 ∷ q.rest) 0 all (omega arith) (omega arith)) in
-    text_is_utf8 q.rest t q.read behind
+    let after : IsUtf8 (drop 1 (34 ∷ q.rest)) = IsUtf8-drop (34 ∷ q.rest) 1 all (IsCharBoundary-after_ascii (34 ∷ q.rest) 0 all (omega arith) (omega arith)) in
+    text_is_utf8 q.rest t q.read after

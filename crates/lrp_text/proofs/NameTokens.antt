@@ -12,7 +12,7 @@ use Rattle.lrp_model.specs.Tokens.{Token, Tokens, Part, Takes, Spells, separated
 use Rattle.lrp_model.specs.Tokens.Token.{name_token, word_token, number_token, text_token, symbol_token, end_token, bad_token, hole_token}
 use Rattle.lrp_model.specs.Tokens.Part.{at, any}
 use Rattle.std.specs.Str.Parse.{digits_value}
-use Rattle.lrp_model.specs.Lexing.{Scanned, QuotedText as TextRead, scan, run, behind_run, is_letter, is_name_byte, word_or_name, one, one_or_two, symbol_from, text_from, text_scanned, skip, after, headed, tokens, start, scan_in, symbol_in, further_symbol, no_symbol, tokens_in_from, tokens_in}
+use Rattle.lrp_model.specs.Lexing.{Scanned, QuotedText as TextRead, scan, run, after_run, is_letter, is_name_byte, word_or_name, one, one_or_two, symbol_from, text_from, text_scanned, skip, after, headed, tokens, start, scan_in, symbol_in, further_symbol, no_symbol, tokens_in_from, tokens_in}
 use Rattle.std.specs.Char.{is_ascii_digit}
 use Rattle.lrp_model.specs.Columns.{column_text, sort_token}
 use Rattle.lrp_model.specs.Databases.{comma}
@@ -21,14 +21,14 @@ use Rattle.lrp_model.specs.Names.{IsName, IsNamedSort, AreNamed}
 use Rattle.lrp_text.proofs.Scans.{chosen}
 
 -- a run of a run is the run, and nothing is after it
-run_again : (test : ℕ → Bool) (bs : List ℕ) → (run test (run test bs) ≡ run test bs) × (behind_run test (run test bs) ≡ [])
-unfolding run behind_run
+run_again : (test : ℕ → Bool) (bs : List ℕ) → (run test (run test bs) ≡ run test bs) × (after_run test (run test bs) ≡ [])
+unfolding run after_run
 run_again test [] = (refl, refl)
 run_again test (b ∷ bs) = by (test b) refl (run_again test bs)
   where
-    by : (c : Bool) → test b ≡ c → (run test (run test bs) ≡ run test bs) × (behind_run test (run test bs) ≡ [])
-        → (run test (if c then b ∷ run test bs else []) ≡ (if c then b ∷ run test bs else [])) × (behind_run test (if c then b ∷ run test bs else []) ≡ [])
-    by true e h = (ap (λ c. if c then b ∷ run test (run test bs) else []) e ∙ ap (λ l. b ∷ l) h.0, ap (λ c. if c then behind_run test (run test bs) else b ∷ run test bs) e ∙ h.1)
+    by : (c : Bool) → test b ≡ c → (run test (run test bs) ≡ run test bs) × (after_run test (run test bs) ≡ [])
+        → (run test (if c then b ∷ run test bs else []) ≡ (if c then b ∷ run test bs else [])) × (after_run test (if c then b ∷ run test bs else []) ≡ [])
+    by true e h = (ap (λ c. if c then b ∷ run test (run test bs) else []) e ∙ ap (λ l. b ∷ l) h.0, ap (λ c. if c then after_run test (run test bs) else b ∷ run test bs) e ∙ h.1)
     by false e h = (refl, refl)
 
 -- the bytes that a scan of a name takes
@@ -36,16 +36,16 @@ abbrev word_scanned : List ℕ → Scanned
 word_scanned r = record { token = word_or_name r; taken = r; left = [] }
 
 -- a run of a name's bytes that begins with a letter is taken whole
-scan_word : (b : ℕ) (r : List ℕ) → is_letter b ≡ true → run is_name_byte r ≡ r → behind_run is_name_byte r ≡ [] → scan (b ∷ r) ≡ word_scanned (b ∷ r)
-unfolding scan_in run behind_run
+scan_word : (b : ℕ) (r : List ℕ) → is_letter b ≡ true → run is_name_byte r ≡ r → after_run is_name_byte r ≡ [] → scan (b ∷ r) ≡ word_scanned (b ∷ r)
+unfolding scan_in run after_run
 scan_word b r e whole none =
     let letter : is_name_byte b ≡ true = ap (λ c. c || is_ascii_digit b) e in
     let one_run : (if is_name_byte b then b ∷ run is_name_byte r else []) ≡ b ∷ r = ap (λ c. if c then b ∷ run is_name_byte r else []) letter ∙ ap (λ l. b ∷ l) whole in
-    let left : (if is_name_byte b then behind_run is_name_byte r else b ∷ r) ≡ [] = ap (λ c. if c then behind_run is_name_byte r else b ∷ r) letter ∙ none in
-    ap (λ c. if c then scanned_word (if is_name_byte b then b ∷ run is_name_byte r else []) (if is_name_byte b then behind_run is_name_byte r else b ∷ r) else
-    (if is_ascii_digit b then record { token = number_token (digits_value 10 (run is_ascii_digit (b ∷ r))); taken = run is_ascii_digit (b ∷ r); left = behind_run is_ascii_digit (b ∷ r) } else
+    let left : (if is_name_byte b then after_run is_name_byte r else b ∷ r) ≡ [] = ap (λ c. if c then after_run is_name_byte r else b ∷ r) letter ∙ none in
+    ap (λ c. if c then scanned_word (if is_name_byte b then b ∷ run is_name_byte r else []) (if is_name_byte b then after_run is_name_byte r else b ∷ r) else
+    (if is_ascii_digit b then record { token = number_token (digits_value 10 (run is_ascii_digit (b ∷ r))); taken = run is_ascii_digit (b ∷ r); left = after_run is_ascii_digit (b ∷ r) } else
     (if b == 34 then text_scanned (text_from false r) else symbol_from b r))) e
-    ∙ ap (λ l. scanned_word l (if is_name_byte b then behind_run is_name_byte r else b ∷ r)) one_run ∙ ap (scanned_word (b ∷ r)) left
+    ∙ ap (λ l. scanned_word l (if is_name_byte b then after_run is_name_byte r else b ∷ r)) one_run ∙ ap (scanned_word (b ∷ r)) left
   where
     scanned_word : List ℕ → List ℕ → Scanned
     scanned_word w l = record { token = word_or_name w; taken = w; left = l }
@@ -162,9 +162,9 @@ pub all_front : {A : Type 0} (P : A → Type 0) (xs ys : List A) → AllByRecurs
 all_front P [] ys h = tt
 all_front P (x ∷ xs) ys h = (h.0, all_front P xs ys h.1)
 
-pub all_behind : {A : Type 0} (P : A → Type 0) (xs ys : List A) → AllByRecursion P (xs ++ ys) → AllByRecursion P ys
-all_behind P [] ys h = h
-all_behind P (x ∷ xs) ys h = all_behind P xs ys h.1
+pub all_after : {A : Type 0} (P : A → Type 0) (xs ys : List A) → AllByRecursion P (xs ++ ys) → AllByRecursion P ys
+all_after P [] ys h = h
+all_after P (x ∷ xs) ys h = all_after P xs ys h.1
 
 pub all_tail : {A : Type 0} (P : A → Type 0) (x : A) (xs : List A) → AllByRecursion P (x ∷ xs) → AllByRecursion P xs
 all_tail P x xs h = h.1
@@ -190,7 +190,7 @@ pub columns_named : (cs : List RawColumn) → AllByRecursion NamedPart (separate
 columns_named [] h = tt
 columns_named (c ∷ []) h = (column_named c h, tt)
 columns_named (c ∷ d ∷ cs) h =
-    (column_named c (all_front NamedPart (column_text c) (comma ∷ separated comma column_text (d ∷ cs)) h), columns_named (d ∷ cs) (all_tail NamedPart comma (separated comma column_text (d ∷ cs)) (all_behind NamedPart (column_text c) (comma ∷ separated comma column_text (d ∷ cs)) h)))
+    (column_named c (all_front NamedPart (column_text c) (comma ∷ separated comma column_text (d ∷ cs)) h), columns_named (d ∷ cs) (all_tail NamedPart comma (separated comma column_text (d ∷ cs)) (all_after NamedPart (column_text c) (comma ∷ separated comma column_text (d ∷ cs)) h)))
 
 -- the names in parts that bytes spell are names
 pub spelled_named_in : (wide : Bool) (bytes : List ℕ) (ps : List Part) → Spells ps (tokens_in wide bytes) → AllByRecursion NamedPart ps

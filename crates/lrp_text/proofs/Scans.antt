@@ -12,7 +12,7 @@ use Rattle.lrp_model.specs.declared.tokens.Symbol.TheVariants.{Open, Close, Open
 use Rattle.lrp_model.specs.Tokens.{Token}
 use Rattle.lrp_model.specs.Tokens.Token.{end_token, bad_token, number_token, symbol_token}
 use Rattle.std.specs.Str.Parse.{digits_value}
-use Rattle.lrp_model.specs.Lexing.{is_letter, is_name_byte, is_forbidden, moved, after, run, behind_run, word_or_name, Scanned, QuotedText as TextRead, longer, more_taken, bad_at, text_from, text_scanned, one, one_or_two, symbol_in, scan_in, scan, further_symbol, no_symbol}
+use Rattle.lrp_model.specs.Lexing.{is_letter, is_name_byte, is_forbidden, moved, after, run, after_run, word_or_name, Scanned, QuotedText as TextRead, longer, more_taken, bad_at, text_from, text_scanned, one, one_or_two, symbol_in, scan_in, scan, further_symbol, no_symbol}
 use Rattle.std.specs.Char.{is_ascii_digit}
 use Rattle.lrp_text.proofs.Runs.{run_whole}
 
@@ -113,7 +113,7 @@ pub record IsTaken (bs : List ℕ) (s : Scanned) : Type 0 where
   pub ends : ((s.token ≡ bad_token) × StopsPlain s.taken s.left) ⊎ (((s.token ≡ end_token) × (s.taken ≡ [])) ⊎ EndsPlain s.taken)
 
 -- a token that is a run
-run_taken_so : (test : ℕ → Bool) (k : Token) (b : ℕ) (bs : List ℕ) → ((x : ℕ) → test x ≡ true → (x == 10) ≡ false) → ((x : ℕ) → test x ≡ true → x < 128) → test b ≡ true → IsTaken (b ∷ bs) (record { token = k; taken = run test (b ∷ bs); left = behind_run test (b ∷ bs) })
+run_taken_so : (test : ℕ → Bool) (k : Token) (b : ℕ) (bs : List ℕ) → ((x : ℕ) → test x ≡ true → (x == 10) ≡ false) → ((x : ℕ) → test x ≡ true → x < 128) → test b ≡ true → IsTaken (b ∷ bs) (record { token = k; taken = run test (b ∷ bs); left = after_run test (b ∷ bs) })
 run_taken_so test k b bs plain small e = record {
   whole = run_whole test (b ∷ bs);
   line = run_line test plain (b ∷ bs);

@@ -9,18 +9,18 @@ use Rattle.lrp_model.specs.Refused.{IsCause, Through, GoesThrough, Stops, Fittin
 use Rattle.lrp_text.proofs.Sound.{takes_join, eat_ok, Eaten, takes_onto, Sound, look_ok, Front, takes_front, takes_shorter}
 
 -- a text that goes through, with tokens before it
-through_behind : (T R : Tokens → Type 0) (head front : Tokens) (k : Fault) (bad : Tokens) → ((x : Tokens) → T x → R (head ++ x)) → Through T front k bad → Through R (head ++ front) k bad
-through_behind T R head front Syntax bad into g = tt
-through_behind T R head front _ bad into g = record { token = g.token; cause = g.cause; tail = g.tail; at = g.at; more = g.more; begins = subst R (sym (append_assoc head front (g.token ∷ g.more))) (into (front ++ g.token ∷ g.more) g.begins) }
+through_after : (T R : Tokens → Type 0) (head front : Tokens) (k : Fault) (bad : Tokens) → ((x : Tokens) → T x → R (head ++ x)) → Through T front k bad → Through R (head ++ front) k bad
+through_after T R head front Syntax bad into g = tt
+through_after T R head front _ bad into g = record { token = g.token; cause = g.cause; tail = g.tail; at = g.at; more = g.more; begins = subst R (sym (append_assoc head front (g.token ∷ g.more))) (into (front ++ g.token ∷ g.more) g.begins) }
 
 -- some tokens stand before a text
-pub behind : (T R : Bool → Tokens → Type 0) (head ts us : Tokens) (e : Fault × Tokens) → ts ≡ head ++ us → ((c : Bool) (x : Tokens) → T c x → R c (head ++ x)) → Stops T us e → Stops R ts e
-behind T R head ts us e is into s = record {
+pub after_front : (T R : Bool → Tokens → Type 0) (head ts us : Tokens) (e : Fault × Tokens) → ts ≡ head ++ us → ((c : Bool) (x : Tokens) → T c x → R c (head ++ x)) → Stops T us e → Stops R ts e
+after_front T R head ts us e is into s = record {
   front = head ++ s.front;
   whole = is ∙ ap (λ x. head ++ x) s.whole ∙ sym (append_assoc head s.front e.1);
   more = s.more;
   begins = subst (R true) (sym (append_assoc head s.front s.more)) (into true (s.front ++ s.more) s.begins);
-  through = through_behind (T false) (R false) head s.front e.0 e.1 (into false) s.through;
+  through = through_after (T false) (R false) head s.front e.0 e.1 (into false) s.through;
 }
 
 -- a text that goes through and goes on
@@ -146,7 +146,7 @@ separated_next : {A : Type 0} (p : Parser A) (spell : A → List Part) (Fits : A
 separated_next p spell Fits comma is_comma n told again found a false ts us vs e h lt one fit eaten = absurd cc
 separated_next p spell Fits comma is_comma n told again found a true ts us vs e h lt one fit eaten =
     let shorter : length us ≡ length (eaten.0 ∷ vs) = ap length eaten.1 in
-    behind (SomeText comma spell Fits) (SomeText comma spell Fits) (one.head ++ eaten.0 ∷ []) ts vs e
+    after_front (SomeText comma spell Fits) (SomeText comma spell Fits) (one.head ++ eaten.0 ∷ []) ts vs e
     (one.whole ∙ ap (λ x. one.head ++ x) eaten.1 ∙ sym (append_assoc one.head (eaten.0 ∷ []) vs))
     (next_text comma spell Fits a one.head eaten.0 fit one.spelled (told eaten.0 eaten.2))
     (again (found ++ a ∷ []) vs e (omega arith) h)
@@ -184,7 +184,7 @@ until_next p spell Fits stop size sound viable some n again found false ts e lt 
       let fewer : length a.0.1 + length (spell a.0.0) ≡ length ts = takes_shorter (spell a.0.0) ts a.0.1 one.0 in
       let nonempty : 0 < length (spell a.0.0) = some a.0.0 in
       let front = takes_front (spell a.0.0) ts a.0.1 one.0 in
-      behind (TextOf (flat_map spell) (AllByRecursion Fits)) (TextOf (flat_map spell) (AllByRecursion Fits)) front.head ts a.0.1 e front.whole (next_joined spell Fits a.0.0 front.head one.1 front.spelled) (again (found ++ a.0.0 ∷ []) a.0.1 e (omega arith) (omega arith) a.2)
+      after_front (TextOf (flat_map spell) (AllByRecursion Fits)) (TextOf (flat_map spell) (AllByRecursion Fits)) front.head ts a.0.1 e front.whole (next_joined spell Fits a.0.0 front.head one.1 front.spelled) (again (found ++ a.0.0 ∷ []) a.0.1 e (omega arith) (omega arith) a.2)
 ]
 
 -- a list up to the token that ends it stops where its members do; the size is a bound that members with lists of their own ask for
@@ -235,7 +235,7 @@ sub_step p f spell Fits R ts e sound viable h complete rest = elim (bind_err (p 
   | inr a ↦
       let one = sound ts a.0 a.1 in
       let front = takes_front (spell a.0.0) ts a.0.1 one.0 in
-      behind (λ c x. R c (front.head ++ x)) R front.head ts a.0.1 e front.whole (λ c x r. r) (rest a.0.0 front.head a.0.1 front.spelled one.1 a.2)
+      after_front (λ c x. R c (front.head ++ x)) R front.head ts a.0.1 e front.whole (λ c x r. r) (rest a.0.0 front.head a.0.1 front.spelled one.1 a.2)
 ]
 
 -- a token that was eaten or not, and then another parser
@@ -243,7 +243,7 @@ eat_step_told : {B : Type 0} (test : Placed → Bool) (f : Bool → Parser B) (R
     → ((t : Placed) (vs : Tokens) → test t ≡ true → f true vs ≡ Err e → Stops (λ c x. R c (t ∷ x)) vs e)
     → (f false ts ≡ Err e → Stops R ts e)
     → Stops R ts e
-eat_step_told test f R ts us true e k h some none = behind (λ c x. R c (k.0 ∷ x)) R (k.0 ∷ []) ts us e k.1 (λ c x r. r) (some k.0 us k.2 h)
+eat_step_told test f R ts us true e k h some none = after_front (λ c x. R c (k.0 ∷ x)) R (k.0 ∷ []) ts us e k.1 (λ c x r. r) (some k.0 us k.2 h)
 eat_step_told test f R ts us false e k h some none = none (ap (f false) k ∙ h)
 
 -- a token that may be eaten, and then another parser
@@ -275,7 +275,7 @@ sub_short p f spell Fits R ts e sound viable h complete rest = elim (bind_err (p
   | inr a ↦
       let one = sound ts a.0 a.1 in
       let front = takes_front (spell a.0.0) ts a.0.1 one.0 in
-      behind (λ c x. R c (front.head ++ x)) R front.head ts a.0.1 e front.whole (λ c x r. r) (rest a.0.0 front.head a.0.1 front.spelled one.1 (takes_shorter (spell a.0.0) ts a.0.1 one.0) a.2)
+      after_front (λ c x. R c (front.head ++ x)) R front.head ts a.0.1 e front.whole (λ c x r. r) (rest a.0.0 front.head a.0.1 front.spelled one.1 (takes_shorter (spell a.0.0) ts a.0.1 one.0) a.2)
 ]
 
 -- a token that was eaten or not, and then another parser over fewer tokens
@@ -285,7 +285,7 @@ eat_short_told : {B : Type 0} (test : Placed → Bool) (f : Bool → Parser B) (
     → Stops R ts e
 eat_short_told test f R ts us true e k h some none =
     let size : length ts ≡ length (k.0 ∷ us) = ap length k.1 in
-    behind (λ c x. R c (k.0 ∷ x)) R (k.0 ∷ []) ts us e k.1 (λ c x r. r) (some k.0 us k.2 (omega arith) h)
+    after_front (λ c x. R c (k.0 ∷ x)) R (k.0 ∷ []) ts us e k.1 (λ c x r. r) (some k.0 us k.2 (omega arith) h)
 eat_short_told test f R ts us false e k h some none = none (ap (f false) k ∙ h)
 
 -- a token that may be eaten, and then another parser over fewer tokens

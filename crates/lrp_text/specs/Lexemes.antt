@@ -51,8 +51,8 @@ abbrev pub text_read : List ℕ → Option (List ℕ) × List ℕ
 text_read bs = read_of (text_from false bs)
 
 -- a text with these bytes in front
-abbrev pub behind_bytes : List ℕ → Option (List ℕ) × List ℕ → Option (List ℕ) × List ℕ
-behind_bytes front r = (option_map (λ t. front ++ t) r.0, r.1)
+abbrev pub after_bytes : List ℕ → Option (List ℕ) × List ℕ → Option (List ℕ) × List ℕ
+after_bytes front r = (option_map (λ t. front ++ t) r.0, r.1)
 
 -- a text that a quote ends, or one that has no such end
 abbrev pub ended : List ℕ → Option (List ℕ) × List ℕ

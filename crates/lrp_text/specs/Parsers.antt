@@ -88,9 +88,9 @@ Reads outcome (Err Memory) new = Unit {0}
 Reads outcome (Err k) new = outcome ≡ Err (k, new)
 
 -- nothing is left after a whole text, and all from the fault on where it was refused
-abbrev pub left_behind : {A : Type 0} → Result A Fault → Tokens → Tokens
-left_behind (Ok a) ts = []
-left_behind (Err k) ts = ts
+abbrev pub left_after : {A : Type 0} → Result A Fault → Tokens → Tokens
+left_after (Ok a) ts = []
+left_after (Err k) ts = ts
 
 -- what a function that may run out of memory ensures: this result, unless memory ran out
 abbrev pub IsResultOrMemory : {A : Type 0} → Result A Fault → Result A Fault → Type 0

@@ -9,11 +9,11 @@ use Rattle.lrp_model.specs.declared.tokens.LexKind.TheVariants.{Number as LargeN
 use Rattle.lrp_model.specs.declared.tokens.LexFault.{LexFault}
 use Rattle.lrp_model.specs.Tokens.{Token, Tokens}
 use Rattle.lrp_model.specs.Tokens.Token.{name_token, word_token, number_token, text_token, symbol_token, end_token, bad_token}
-use Rattle.lrp_model.specs.Lexing.{At, after, scan}
+use Rattle.lrp_model.specs.Lexing.{Remainder, after, scan}
 use Rattle.lrp_model.specs.Limits.{greatest_number}
 use Rattle.lrp_text.specs.declared.lexemes.Lexeme.{Lexeme}
 use Rattle.lrp_text.specs.declared.lexemes.Lexeme.TheVariants.{Name as NameSeen, Word as WordSeen, Number as NumberSeen, LargeNumber as LargeNumberSeen, Text as TextSeen, LongText as LongTextSeen, Symbol as SymbolSeen, End as EndSeen, Bad as BadSeen}
-use Rattle.lrp_text.specs.Sources.{next_at, next_of, behind_next}
+use Rattle.lrp_text.specs.Sources.{next_at, next_of, after_next}
 
 -- a lawful token of this kind
 abbrev pub IsTokenOfKind : TokenKind → Token → Type 0
@@ -33,30 +33,30 @@ IsFaulty BadByte bad_token = Unit {0}
 IsFaulty _ _ = ⊥
 
 -- the next token is given, with its slice and its place, and the lexer stands after it
-pub record GivesToken (old new : At) (kind : TokenKind) (slice : List ℕ) (place : Place) : Type 0 where
+pub record GivesToken (old new : Remainder) (kind : TokenKind) (slice : List ℕ) (place : Place) : Type 0 where
   pub kind_is : IsTokenOfKind kind (next_of false old).token
   pub slice_is : slice ≡ (next_of false old).taken
   pub place_is : place ≡ (next_at old).place
-  pub goes_on : new ≡ behind_next false old
+  pub goes_on : new ≡ after_next false old
 
 -- the next token is faulty; the lexer stands after it, or at a bad byte where it was
-pub record GivesFault (old new : At) (kind : LexKind) (place at : Place) (next : At) : Type 0 where
+pub record GivesFault (old new : Remainder) (kind : LexKind) (place at : Place) (next : Remainder) : Type 0 where
   pub kind_is : IsFaulty kind (next_of false old).token
   pub place_is : place ≡ at
   pub goes_on : new ≡ next
 
 -- a fault, at its token or at its byte
-abbrev pub FaultAt : At → At → LexKind → Place → Type 0
+abbrev pub FaultAt : Remainder → Remainder → LexKind → Place → Type 0
 FaultAt old new BadByte place = GivesFault old new BadByte place (after (next_at old).place (next_of false old).taken) old
-FaultAt old new kind place = GivesFault old new kind place (next_at old).place (behind_next false old)
+FaultAt old new kind place = GivesFault old new kind place (next_at old).place (after_next false old)
 
 -- what the next token gives
-abbrev pub GivesNext : At → At → Result SourceToken LexFault → Type 0
+abbrev pub GivesNext : Remainder → Remainder → Result SourceToken LexFault → Type 0
 GivesNext old new (Ok t) = GivesToken old new t.kind t.slice.now t.place
 GivesNext old new (Err f) = FaultAt old new f.kind f.place
 
 -- a slice of what was left, after other bytes, with its place and the place after it
-pub record IsSliceOf (old : At) (slice : List ℕ) (place : Place) (new : At) : Type 0 where
+pub record IsSliceOf (old : Remainder) (slice : List ℕ) (place : Place) (new : Remainder) : Type 0 where
   pub skipped : List ℕ
   pub whole : old.bytes ≡ skipped ++ (slice ++ new.bytes)
   pub place_is : place ≡ after old.place skipped
@@ -96,5 +96,5 @@ pub record IsTextSlice (slice : List ℕ) : Type 0 where
   pub short : length text ≤ 255
 
 -- a slice that is the text that stands next
-abbrev pub IsNextText : At → List ℕ → Type 0
+abbrev pub IsNextText : Remainder → List ℕ → Type 0
 IsNextText old slice = (s : IsTextSlice slice) × ((next_of false old).token ≡ text_token s.text)

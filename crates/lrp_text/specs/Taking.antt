@@ -199,6 +199,6 @@ abbrev pub expect_end : Parser (Unit {0})
 expect_end = accept (λ t. required (is_end t))
 
 -- nothing is left after the end, and all where it was refused
-abbrev pub behind_end : Result (Unit {0}) Fault → Tokens → Tokens
-behind_end (Ok u) ts = []
-behind_end (Err k) ts = ts
+abbrev pub after_end : Result (Unit {0}) Fault → Tokens → Tokens
+after_end (Ok u) ts = []
+after_end (Err k) ts = ts

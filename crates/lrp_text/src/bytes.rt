@@ -1,11 +1,11 @@
 // The bytes that tokens are made of, and the runs of them.
 ghost use Rattle.std.specs.Prelude.{◌≡◌, ◌≤◌, ◌<◌, ◌+◌, ◌^◌, length, min, false};
 ghost use Rattle.std.specs.Str.Parse.{digits_value};
-ghost use Rattle.lrp_model.specs.Lexing.{is_letter as is_letter_byte, is_name_byte as is_byte_of_names, is_blank as is_blank_byte, is_forbidden as is_forbidden_byte, skip as skip_rule, run, behind_run};
+ghost use Rattle.lrp_model.specs.Lexing.{is_letter as is_letter_byte, is_name_byte as is_byte_of_names, is_blank as is_blank_byte, is_forbidden as is_forbidden_byte, skip as skip_rule, run, after_run};
 ghost use Rattle.std.specs.Char.{is_ascii_digit as is_digit_byte};
 ghost use Rattle.lrp_model.specs.Limits.{greatest_number};
 
-use crate::places::behind;
+use crate::places::after_byte;
 use lrp_model::{LIMIT, Place};
 
 pub fn is_letter(b: u8) -> bool
@@ -61,16 +61,16 @@ pub fn skip(place: Place, bytes: &[u8]) -> (Place, &[u8])
         } else if !is_blank(*b) {
             return (at, rest);
         }
-        at = behind(at, *b);
+        at = after_byte(at, *b);
         rest = tail;
     }
     (at, rest)
 }
 
 // Goes after the letters, digits and underscores that come first.
-#[tactic(auto, unfolding(lrp_model::specs::Lexing::behind_run))]
-pub fn behind_name(bytes: &[u8]) -> &[u8]
-    ensures rest { result.now ≡ behind_run is_byte_of_names bytes.now }
+#[tactic(auto, unfolding(lrp_model::specs::Lexing::after_run))]
+pub fn after_name(bytes: &[u8]) -> &[u8]
+    ensures rest { result.now ≡ after_run is_byte_of_names bytes.now }
     ensures shorter { length result.now ≤ length bytes.now }
 {
     let mut rest = bytes;
@@ -84,11 +84,11 @@ pub fn behind_name(bytes: &[u8]) -> &[u8]
 }
 
 // The value of the digits that come first, or one more than the limit where it is greater, and what stands after them.
-#[tactic(auto, unfolding(lrp_model::specs::Lexing::run, lrp_model::specs::Lexing::behind_run))]
+#[tactic(auto, unfolding(lrp_model::specs::Lexing::run, lrp_model::specs::Lexing::after_run))]
 pub fn number(bytes: &[u8]) -> (u64, &[u8])
     ensures value { result.0 ≡ min (digits_value 10 (run is_digit_byte bytes.now))
         (greatest_number + 1) }
-    ensures rest { result.1.now ≡ behind_run is_digit_byte bytes.now }
+    ensures rest { result.1.now ≡ after_run is_digit_byte bytes.now }
 {
     let most = LIMIT as u64 + 1;
     let mut value = 0u64;

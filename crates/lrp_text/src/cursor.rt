@@ -11,7 +11,7 @@ use std::marker::Model;
 pub struct TokenCursor<'a> {
     here: Source<'a>,
     found: Found<'a>,
-    behind: Source<'a>,
+    after: Source<'a>,
 }
 
 impl<'a> Model for TokenCursor<'a> {
@@ -23,7 +23,7 @@ impl<'a> Model for TokenCursor<'a> {
 
     ghost view = { λ c. tokens_left c.here.wide (at_of c.here) };
 
-    ghost invariant = { λ c. IsCursorAt c.here c.found c.behind };
+    ghost invariant = { λ c. IsCursorAt c.here c.found c.after };
 }
 
 impl<'a> TokenCursor<'a> {
@@ -32,8 +32,8 @@ impl<'a> TokenCursor<'a> {
     ghost use Rattle.lrp_model.specs.Lexing.{tokens, tokens_in};
     ghost use Rattle.lrp_model.specs.Limits.{greatest_number, most_bytes};
     ghost use Rattle.lrp_text.specs.Parsers.{Reads, look, eat};
-    ghost use Rattle.lrp_text.specs.Taking.{here, is_symbol, is_word, is_name, is_token_named, expect_named, is_text, is_end, expect, expect_word, expect_end, behind_end, number, period, IsWrittenPeriod, name, text};
-    ghost use Rattle.lrp_text.specs.Sources.{Stands, Goes};
+    ghost use Rattle.lrp_text.specs.Taking.{here, is_symbol, is_word, is_name, is_token_named, expect_named, is_text, is_end, expect, expect_word, expect_end, after_end, number, period, IsWrittenPeriod, name, text};
+    ghost use Rattle.lrp_text.specs.Sources.{Stands, IsInnerToken};
 
     /// The tokens of a text of at most 16,777,216 bytes.
     pub fn new(text: &'a str) -> Self
@@ -53,12 +53,8 @@ impl<'a> TokenCursor<'a> {
             rest: text,
             wide,
         };
-        let (found, behind) = step(here);
-        TokenCursor {
-            here,
-            found,
-            behind,
-        }
+        let (found, after) = step(here);
+        TokenCursor { here, found, after }
     }
 
     /// What stands next, for a reader that decides by more than one kind of token.
@@ -71,14 +67,14 @@ impl<'a> TokenCursor<'a> {
 
     /// Goes after the next token, which is not the end, nor a byte that begins none.
     pub fn advance(&mut self)
-        requires { Goes self.old }
+        requires { IsInnerToken self.old }
         ensures { (t : Placed) × (self.old ≡ t ∷ self.new) }
     {
-        let here = self.behind;
-        let (found, behind) = step(here);
+        let here = self.after;
+        let (found, after) = step(here);
         self.here = here;
         self.found = found;
-        self.behind = behind;
+        self.after = after;
     }
 
     /// The place of the next token.
@@ -259,7 +255,7 @@ impl<'a> TokenCursor<'a> {
 
     /// Refuses what stands before the end, after which nothing is left.
     pub fn expect_end(&self) -> Result<(), Fault>
-        ensures value { Reads (expect_end self.now) result (behind_end result self.now) }
+        ensures value { Reads (expect_end self.now) result (after_end result self.now) }
         ensures takes_no_memory { result ≢ Err Fault.Memory }
     {
         if self.peek().lexeme.is_end() {

@@ -12,10 +12,10 @@ pub struct Lexer<'a> {
 
 impl<'a> Model for Lexer<'a> {
     ghost use Rattle.std.specs.Prelude.{◌≡◌, false};
-    ghost use Rattle.lrp_model.specs.Lexing.{At};
+    ghost use Rattle.lrp_model.specs.Lexing.{Remainder};
     ghost use Rattle.lrp_text.specs.Sources.{at_of, HasPlacesInRange};
 
-    ghost Value = { At };
+    ghost Value = { Remainder };
 
     ghost view = { λ l. at_of l.source };
 

@@ -15,6 +15,6 @@ pub use cursor::TokenCursor;
 pub use lexemes::{Found, Lexeme};
 pub use lexer::Lexer;
 pub use lrp_model::{LexFault, LexKind, Token, TokenKind};
-pub use places::place_behind;
+pub use places::place_after;
 pub use reading::{column, columns, integer, sort};
 pub use texts::text_of;

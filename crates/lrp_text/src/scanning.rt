@@ -2,12 +2,12 @@
 ghost use Rattle.std.specs.Prelude.{◌≡◌, ◌<◌, [], ◌∷◌, MatchOption, IfSome, length};
 ghost use Rattle.std.specs.Option.{option_map};
 ghost use Rattle.std.specs.Str.Parse.{digits_value};
-ghost use Rattle.lrp_model.specs.Lexing.{symbol_in, word_or_name, run, behind_run, is_name_byte, scan_in as scan_rule};
+ghost use Rattle.lrp_model.specs.Lexing.{symbol_in, word_or_name, run, after_run, is_name_byte, scan_in as scan_rule};
 ghost use Rattle.std.specs.Char.{is_ascii_digit as is_digit_byte};
 ghost use Rattle.lrp_model.specs.Tokens.Token.{symbol_token};
-ghost use Rattle.lrp_text.specs.Lexemes.{IsLexeme, IsNamed, IsNumberLexeme, bad_symbol, text_read, behind_bytes, ended};
+ghost use Rattle.lrp_text.specs.Lexemes.{IsLexeme, IsNamed, IsNumberLexeme, bad_symbol, text_read, after_bytes, ended};
 
-use crate::bytes::{behind_name, is_digit, is_forbidden, is_letter, number};
+use crate::bytes::{after_name, is_digit, is_forbidden, is_letter, number};
 use crate::lexemes::Lexeme;
 use lrp_model::{LIMIT, Symbol, Word};
 
@@ -75,16 +75,16 @@ fn word(name: &[u8]) -> Lexeme
 #[tactic(auto, using(crate::proofs::Runs::run_taken))]
 fn name(bytes: &[u8]) -> (Lexeme, &[u8])
     ensures lexeme { IsNamed result.0 (run is_name_byte bytes.now) }
-    ensures rest { result.1.now ≡ behind_run is_name_byte bytes.now }
+    ensures rest { result.1.now ≡ after_run is_name_byte bytes.now }
 {
-    let rest = behind_name(bytes);
+    let rest = after_name(bytes);
     (word(&bytes[..bytes.len() - rest.len()]), rest)
 }
 
 // The number that digits make, and what stands after it.
 fn limited_number(bytes: &[u8]) -> (Lexeme, &[u8])
     ensures lexeme { IsNumberLexeme result.0 (digits_value 10 (run is_digit_byte bytes.now)) }
-    ensures rest { result.1.now ≡ behind_run is_digit_byte bytes.now }
+    ensures rest { result.1.now ≡ after_run is_digit_byte bytes.now }
 {
     let (value, rest) = number(bytes);
     if value > LIMIT as u64 {
@@ -98,7 +98,7 @@ fn limited_number(bytes: &[u8]) -> (Lexeme, &[u8])
 #[tactic(auto, unfolding(lrp_model::specs::Lexing::text_from))]
 pub fn character(bytes: &[u8]) -> Option<(u8, &[u8])>
     ensures text { MatchOption result (text_read bytes.now ≡ ended bytes.now)
-        (λ r. text_read bytes.now ≡ behind_bytes (r.0 ∷ []) (text_read r.1.now)) }
+        (λ r. text_read bytes.now ≡ after_bytes (r.0 ∷ []) (text_read r.1.now)) }
     ensures shorter { IfSome result (λ r. length r.1.now < length bytes.now) }
 {
     match bytes {

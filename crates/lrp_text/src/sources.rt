@@ -19,7 +19,7 @@ pub struct Source<'a> {
 
 // Goes after the blanks and comments that come first.
 #[tactic(auto, using(crate::proofs::Cuts::skip_cut, crate::proofs::Cuts::skip_rest, crate::proofs::Cuts::skip_shorter))]
-fn behind_blanks(source: Source<'_>) -> Source<'_>
+fn after_blanks(source: Source<'_>) -> Source<'_>
     requires { HasPlacesInRange (at_of source) }
     ensures next { at_of result ≡ next_at (at_of source.entry) }
     ensures signs { result.wide ≡ source.entry.wide }
@@ -60,7 +60,7 @@ pub fn step(source: Source<'_>) -> (Found<'_>, Source<'_>)
         place,
         rest: text,
         wide,
-    } = behind_blanks(source);
+    } = after_blanks(source);
     let (lexeme, slice, rest) = first(wide, text);
     let end = Place {
         line: place.line,

@@ -10,7 +10,7 @@ use std::alloc::Global;
 use std::str::from_utf8;
 
 // The bytes after the first one.
-fn behind_first(text: &str) -> &[u8]
+fn after_first(text: &str) -> &[u8]
     ensures { result.now ≡ drop 1 text.now }
 {
     match text.as_bytes() {
@@ -25,7 +25,7 @@ pub fn text_of(alloc: Global, slice: &str) -> Result<DataText, Memory>
     ensures { IfOk result (λ made. (scan slice.now).token ≡ text_token made) }
 {
     let mut made = Vec::new(alloc);
-    let mut rest = behind_first(slice);
+    let mut rest = after_first(slice);
     while let Some((b, tail)) = character(rest) {
         made.push(b)?;
         rest = tail;

@@ -158,11 +158,11 @@ pub text_lacks : (c : ℕ) → c < 48 → 120 ≢ c → (t : Text) → Lacks c (
 text_lacks c lt ne t = (ne, hex_lacks c lt t)
 
 -- a part that spells a text begins with `x`, and what follows is the text in hex
-pub behind_x : (part digits : List ℕ) (t : Text) → part ≡ 120 ∷ digits → IsSpelling IsDataText text_part part t → IsHex digits t
-behind_x part digits t e s = let f : 120 ∷ digits ≡ 120 ∷ hex t = sym e ∙ s.spelled in record { small = text_bytes t s.fits.utf8; spelled = cc }
+pub after_x : (part digits : List ℕ) (t : Text) → part ≡ 120 ∷ digits → IsSpelling IsDataText text_part part t → IsHex digits t
+after_x part digits t e s = let f : 120 ∷ digits ≡ 120 ∷ hex t = sym e ∙ s.spelled in record { small = text_bytes t s.fits.utf8; spelled = cc }
 
 pub text_read : (part digits bytes : List ℕ) (r : Result Text TokenFault) → part ≡ 120 ∷ digits → IsHex digits bytes → IsPartRead (λ t. IsDataText t × (t ≡ bytes)) r → IsPartRead (IsSpelling IsDataText text_part part) r
 text_read part digits bytes (Ok t) e h s = record { fits = s.0; spelled = e ∙ ap (λ x. 120 ∷ x) (h.spelled ∙ ap hex (sym s.1)) }
-text_read part digits bytes (Err Form) e h none = λ t s. none t (s.fits, hex_same digits t bytes (behind_x part digits t e s) h)
+text_read part digits bytes (Err Form) e h none = λ t s. none t (s.fits, hex_same digits t bytes (after_x part digits t e s) h)
 text_read part digits bytes (Err Shape) e h s = s
 text_read part digits bytes (Err Memory) e h s = tt

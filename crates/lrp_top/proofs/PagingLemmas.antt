@@ -18,7 +18,7 @@ use Rattle.lrp_top.specs.Keeping.{AsksSame, IsAnswerKept, IsFileRead, IsPageDue,
 use Rattle.lrp_top.specs.Questions.{IsServed, database_source, query_source, resumed_as}
 use Rattle.lrp_top.specs.Resuming.{IsResumed}
 use Rattle.lrp_top.specs.Seen.{IsOverrun, ShelfSeen, SinkSeen}
-use Rattle.lrp_top.specs.Steps.{Behind, Then}
+use Rattle.lrp_top.specs.Steps.{After, Then}
 use Rattle.lrp_top.specs.Telling.{TellsPage}
 use Rattle.lrp_top.specs.declared.asking.Asked.{Asked}
 use Rattle.lrp_top.specs.declared.files.DatabaseFile.{DatabaseFile}
@@ -54,14 +54,14 @@ no_overruns seen outcome (name ∷ names) none = ((λ over. absurd (none name ov
 -- ---- steps
 
 -- a step between is passed
-counted_behind : {A : Type 0} (first : Result A Refusal) (Counted : Result (Unit {0}) Refusal → Type 0) (Next : A → Outcome → Type 0) (outcome : Outcome) → Counted (Ok tt) → Behind first Next outcome → Behind first (λ a. Then Counted (λ done. Next a)) outcome
-counted_behind (Ok a) C N outcome c h = record { first = Ok tt; is = c; next = h }
-counted_behind (Err refusal) C N outcome c h = h
+counted_after : {A : Type 0} (first : Result A Refusal) (Counted : Result (Unit {0}) Refusal → Type 0) (Next : A → Outcome → Type 0) (outcome : Outcome) → Counted (Ok tt) → After first Next outcome → After first (λ a. Then Counted (λ done. Next a)) outcome
+counted_after (Ok a) C N outcome c h = record { first = Ok tt; is = c; next = h }
+counted_after (Err refusal) C N outcome c h = h
 
 -- what is refused wherever a page begins is refused after that
-pub behind_any : (head : List Column) (o : Option ToldTuple) (Next : Option Tuple → Outcome → Type 0) (outcome : Outcome) → ((t : Option Tuple) → Next t outcome) → Behind (resumed_as head (Ok o)) Next outcome
-behind_any head None N outcome h = h None
-behind_any head (Some t) N outcome h = h _
+pub after_any : (head : List Column) (o : Option ToldTuple) (Next : Option Tuple → Outcome → Type 0) (outcome : Outcome) → ((t : Option Tuple) → Next t outcome) → After (resumed_as head (Ok o)) Next outcome
+after_any head None N outcome h = h None
+after_any head (Some t) N outcome h = h _
 
 -- ---- what is told
 
@@ -95,7 +95,7 @@ module _ (page : PageAsked) (d : DatabaseFile) (kept : KeptAnswer) (read : IsFil
   abbrev pub Next : List ℕ → Option Tuple → Outcome → Type 0
   Next digest tuple = IsOutput (TellsPage db q page.paging.from page.paging.to tuple page.paging.limit page.paging.civil page.paging.json digest)
 
-  pub page_due : (first : Result (Option Tuple) Refusal) (outcome : Outcome) → IsResumed kept.query.files head (after_text page.paging.after) first → Behind first (Next kept.query.files) outcome → IsPageDue page d.bytes kept.query.file.bytes outcome
+  pub page_due : (first : Result (Option Tuple) Refusal) (outcome : Outcome) → IsResumed kept.query.files head (after_text page.paging.after) first → After first (Next kept.query.files) outcome → IsPageDue page d.bytes kept.query.file.bytes outcome
   page_due first outcome resumed next =
       let counted : IsCounted page.files.planning db q page.paging.cap (Ok tt) = subst (λ cap. IsCounted page.files.planning db q cap (Ok tt)) same.cap_is (subst (λ (way : Planning). IsCounted way db q kept.query.cap (Ok tt)) same.planning is.counted) in
       let planned : IsPlannedAs page.files.planning None db q (Ok is.plan) = subst (λ (way : Planning). IsPlannedAs way None db q (Ok is.plan)) same.planning is.planned in
@@ -107,5 +107,5 @@ module _ (page : PageAsked) (d : DatabaseFile) (kept : KeptAnswer) (read : IsFil
       (record {
         first = first;
         is = subst (λ digest. IsResumed digest head (after_text page.paging.after) first) is.digest resumed;
-        next = counted_behind first (IsCounted page.files.planning db q page.paging.cap) (Next _) outcome counted (subst (λ digest. Behind first (Next digest) outcome) is.digest next);
+        next = counted_after first (IsCounted page.files.planning db q page.paging.cap) (Next _) outcome counted (subst (λ digest. After first (Next digest) outcome) is.digest next);
       })

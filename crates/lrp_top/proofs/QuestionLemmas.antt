@@ -15,7 +15,7 @@ use Rattle.lrp_top.specs.declared.language.QueryLanguage.{QueryLanguage}
 use Rattle.lrp_top.specs.Questions.{IsMadeOf, database_source, query_source}
 use Rattle.lrp_top.specs.Seen.{ShelfSeen}
 use Rattle.lrp_top.specs.Sources.{Source}
-use Rattle.lrp_top.specs.Steps.{Behind, Then}
+use Rattle.lrp_top.specs.Steps.{After, Then}
 use Rattle.lrp_top.proofs.StepLemmas.{mapped, no_refusal, same_refusal}
 use Rattle.lrp_outputs.specs.declared.head.HeadNeed.{HeadNeed}
 use Rattle.lrp_outputs.specs.declared.refusal.Refusal.{Refusal}
@@ -120,8 +120,8 @@ needed_same of asked need seen Next result e h = subst (λ flag. IsPlannedFor of
 
 -- a plan stands after a head that fits
 pub planned_as : (way : Planning) (need : Option HeadNeed) (db : List Relation) (q : Queried) (p : Plan) → IsPlannedAs way need db q (Ok p) → IsPlanned way db q (Ok p)
-planned_as way need db q p h = behind_fit h.first h.next
+planned_as way need db q p h = after_fit h.first h.next
   where
-    behind_fit : (first : Result (Unit {0}) Refusal) → Behind first (λ fit. IsPlanned way db q) (Ok p) → IsPlanned way db q (Ok p)
-    behind_fit (Ok fit) next = next
-    behind_fit (Err refusal) next = no_refusal p refusal next
+    after_fit : (first : Result (Unit {0}) Refusal) → After first (λ fit. IsPlanned way db q) (Ok p) → IsPlanned way db q (Ok p)
+    after_fit (Ok fit) next = next
+    after_fit (Err refusal) next = no_refusal p refusal next

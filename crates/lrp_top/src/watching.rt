@@ -116,7 +116,7 @@ fn kept_leasts(
         (told result) }
 {
     match least_answers(alloc, database, query, edits, how.cap) {
-        Ok(leasts) => Ok(Output::Leasts(leasts)),
+        Ok(leasts) => Ok(Output::LeastAnswers(leasts)),
         Err(fault) => Err(refused(fault, how.cap)),
     }
 }
@@ -138,7 +138,7 @@ fn new_leasts(
         cap: how.cap,
     };
     match least_answers_anew(alloc, database, query, edits, anew) {
-        Ok(leasts) => Ok(Output::Leasts(leasts)),
+        Ok(leasts) => Ok(Output::LeastAnswers(leasts)),
         Err(fault) => Err(refused(fault, how.cap)),
     }
 }

@@ -15,7 +15,7 @@ use Rattle.lrp_watch.specs.Anew.{IsPastAfter, IsPastPlan, IsWithinPlan}
 use Rattle.lrp_watch.specs.Changes.{IsToldOver}
 use Rattle.lrp_watch.specs.Decided.{AreDecided, CanBeDecided}
 use Rattle.lrp_watch.specs.Edited.{AreEdited, IsEdited}
-use Rattle.lrp_watch.specs.Leasts.{IsLeastOver}
+use Rattle.lrp_watch.specs.LeastAnswers.{IsLeastOver}
 use Rattle.lrp_watch.proofs.Headings.{decided_still, edits_still}
 use Rattle.lrp_watch.proofs.Replacing.{all_one}
 
@@ -87,13 +87,13 @@ module _ (way : Planning) (q : Question) (cap : ℕ) (domain : List Text) where
 
   -- ---- faults
 
-  past_behind : (es : List Edit) (db : List Relation) (later : List (List Relation)) (e : Edit) (rest : List Edit) (next : List Relation) (fault : KeepFault) (number : ℕ) → AreEdited es db later → AllByRecursion (IsWithinPlan way q cap) (db ∷ later) → IsEdited e (last_held db later) next → IsPastPlan way q cap next fault
+  past_after : (es : List Edit) (db : List Relation) (later : List (List Relation)) (e : Edit) (rest : List Edit) (next : List Relation) (fault : KeepFault) (number : ℕ) → AreEdited es db later → AllByRecursion (IsWithinPlan way q cap) (db ∷ later) → IsEdited e (last_held db later) next → IsPastPlan way q cap next fault
       → number ≡ suc (length es) → IsPastAfter way q cap (es ++ e ∷ rest) db number fault
-  past_behind [] db [] e rest next fault number h w is past n = subst (λ k. IsPastAfter way q cap (e ∷ rest) db k fault) (sym n) (w.0, (next, is, past))
-  past_behind [] db (l ∷ later) e rest next fault number h w is past n = cc
-  past_behind (x ∷ es) db [] e rest next fault number h w is past n = absurd h
-  past_behind (x ∷ es) db (l ∷ later) e rest next fault number h w is past n =
-      subst (λ k. IsPastAfter way q cap (x ∷ es ++ e ∷ rest) db k fault) (sym n) (w.0, (l, h.0, past_behind es l later e rest next fault (suc (length es)) h.1 w.1 is past refl))
+  past_after [] db [] e rest next fault number h w is past n = subst (λ k. IsPastAfter way q cap (e ∷ rest) db k fault) (sym n) (w.0, (next, is, past))
+  past_after [] db (l ∷ later) e rest next fault number h w is past n = cc
+  past_after (x ∷ es) db [] e rest next fault number h w is past n = absurd h
+  past_after (x ∷ es) db (l ∷ later) e rest next fault number h w is past n =
+      subst (λ k. IsPastAfter way q cap (x ∷ es ++ e ∷ rest) db k fault) (sym n) (w.0, (l, h.0, past_after es l later e rest next fault (suc (length es)) h.1 w.1 is past refl))
 
   pub past_at : (count : ℕ) (edits : List Edit) (db now next : List Relation) (e : Edit) (spots : List (Option Spot)) (number : ℕ) (fault : KeepFault) → count < length edits → e ≡ get_or edits count e → AreDecidedUpTo count edits db now spots → IsEdited e now next
       → number ≡ count + 1 → IsPastPlan way q cap next fault → IsPastAfter way q cap edits db number fault
@@ -102,7 +102,7 @@ module _ (way : Planning) (q : Question) (cap : ℕ) (domain : List Text) where
       let size : length (take count edits) ≡ count = length-take-le count edits (omega (arith, low)) in
       let split : edits ≡ take count edits ++ e ∷ drop (suc count) edits = sym (take-append-drop count edits) ∙ ap (λ xs. take count edits ++ xs) (drop-cons edits count e low ∙ ap (λ x. x ∷ drop (suc count) edits) (sym at)) in
       subst (λ es. IsPastAfter way q cap es db number fault) (sym split)
-      (past_behind (take count edits) db d.later e (drop (suc count) edits) next fault number d.edited d.within (subst (λ k. IsEdited e k next) h.now_is is) past (let one : number ≡ count + 1 = n in omega (arith, one, size)))
+      (past_after (take count edits) db d.later e (drop (suc count) edits) next fault number d.edited d.within (subst (λ k. IsEdited e k next) h.now_is is) past (let one : number ≡ count + 1 = n in omega (arith, one, size)))
 
   pub past_first : (edits : List Edit) (db now : List Relation) (number : ℕ) (fault : KeepFault) → now ≡ db → number ≡ 0 → IsPastPlan way q cap now fault → IsPastAfter way q cap edits db number fault
   past_first edits db now number fault same n past = subst (λ k. IsPastAfter way q cap edits db k fault) (sym n) (subst (λ d. IsPastPlan way q cap d fault) same past)

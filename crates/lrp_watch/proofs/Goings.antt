@@ -19,7 +19,7 @@ use Rattle.lrp_model.specs.Core.{HasElements}
 use Rattle.lrp_keep.specs.Keeps.{CanBeHeld, IsRelationOf, KeepView, scaled_reach_of}
 use Rattle.lrp_keep.specs.Replaced.{replaced, with_rows}
 use Rattle.lrp_watch.specs.Edits.{IsEditMade, IsMadeBy}
-use Rattle.lrp_watch.specs.Leasts.{CanBeMade, CanGoOn}
+use Rattle.lrp_watch.specs.LeastAnswers.{CanBeMade, CanGoOn}
 use Rattle.lrp_cutting.proofs.Lists.{in_map}
 
 -- ---- relations of which one has other rows

@@ -14,7 +14,7 @@ use Rattle.lrp_answers.specs.declared.answer.Answer.{Answer}
 use Rattle.lrp_answers.specs.Spots.{spot_tuple}
 use Rattle.lrp_keep.specs.Keeps.{IsKeptLeast, KeepView, shape_for}
 use Rattle.lrp_outputs.specs.First.{IsFirst}
-use Rattle.lrp_watch.specs.Leasts.{IsLeastOver}
+use Rattle.lrp_watch.specs.LeastAnswers.{IsLeastOver}
 use Rattle.lrp_outputs.proofs.Spots.{texts_known}
 
 -- ---- the shape of an answer

@@ -24,7 +24,7 @@ use Rattle.lrp_tables.specs.Calls.{IsColumnBound}
 use Rattle.lrp_edits.specs.EditMeaning.{IsEditOf}
 use Rattle.lrp_edits.specs.declared.edits.Edit.{Edit}
 use Rattle.lrp_keep.specs.Keeps.{CanBeHeld, CanBeKept, CanStandAlone, IsRelationOf, opened, StaysWithinLimits}
-use Rattle.lrp_watch.specs.Leasts.{CanBeMade, CanGoOn}
+use Rattle.lrp_watch.specs.LeastAnswers.{CanBeMade, CanGoOn}
 use Rattle.lrp_watch.specs.Watching.{CanBeWatched, row_texts_of, watched_constants, texts_of_value}
 
 -- ---- lists

@@ -11,9 +11,9 @@ use Rattle.lrp_keep.specs.Keeps.{KeepView}
 use Rattle.lrp_keep.specs.declared.faults.KeepFault.{KeepFault}
 use Rattle.lrp_watch.specs.declared.faults.WatchFault.{WatchFault}
 use Rattle.lrp_watch.specs.declared.faults.WatchFault.TheVariants.{PeriodLimit, BoundLimit, TooManyCells, Memory}
-use Rattle.lrp_watch.specs.Edits.{AreMade, IsEditMade, IsPassedBehind, IsRefusedEdit, last_kept}
+use Rattle.lrp_watch.specs.Edits.{AreMade, IsEditMade, IsPassedAfter, IsRefusedEdit, last_kept}
 use Rattle.lrp_watch.specs.Faults.{IsFaultBy}
-use Rattle.lrp_watch.specs.Leasts.{AreDone, CanGoOn, IsLeastOver, IsTold}
+use Rattle.lrp_watch.specs.LeastAnswers.{AreDone, CanGoOn, IsLeastOver, IsTold}
 use Rattle.lrp_watch.proofs.Goings.{IsKin, goes_on, kin_of, kin_then}
 
 -- ---- one edit more
@@ -90,7 +90,7 @@ fault_as P Q f Memory h = tt
 
 -- the edit after those that were made is refused
 pub passed_at : (count : ℕ) (edits : List Edit) (old now : KeepView) (e : Edit) (spots : List (Option Spot)) (number : ℕ) (fault : KeepFault) → count < length edits → e ≡ get_or edits count e → AreDoneUpTo count edits old now spots
-    → number ≡ count + 1 → IsRefusedEdit e now fault → IsPassedBehind edits old number fault
+    → number ≡ count + 1 → IsRefusedEdit e now fault → IsPassedAfter edits old number fault
 passed_at count edits old now e spots number fault l at h n refused =
     let d = h.done in
     let size : length (take count edits) ≡ count = length-take-le count edits (omega (arith, l)) in
@@ -98,7 +98,7 @@ passed_at count edits old now e spots number fault l at h n refused =
     record {
       before = take count edits;
       edit = e;
-      behind = drop (suc count) edits;
+      after = drop (suc count) edits;
       are = split;
       number_is = n ∙ ap (λ m. m + 1) (sym size);
       later = d.later;

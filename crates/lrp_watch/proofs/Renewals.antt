@@ -38,7 +38,7 @@ use Rattle.lrp_store.specs.Least.{IsLeastSpot}
 use Rattle.lrp_store.specs.Tables.{InAnswer}
 use Rattle.lrp_watch.specs.Decided.{CanBeDecided, IsRenumbered}
 use Rattle.lrp_keep.specs.Keeps.{shape_for}
-use Rattle.lrp_watch.specs.Leasts.{IsLeastOver}
+use Rattle.lrp_watch.specs.LeastAnswers.{IsLeastOver}
 use Rattle.lrp_watch.proofs.Known.{StandsForTuples, shape_is}
 
 -- ---- databases have texts in data columns

@@ -17,7 +17,7 @@ use Rattle.lrp_outputs.specs.Spots.{IsKnownLeast, answer_tuple}
 use Rattle.lrp_tables.specs.Columns.{head_texts, head_times}
 use Rattle.lrp_watch.specs.Anew.{TellsLeastsAnew}
 use Rattle.lrp_watch.specs.Decided.{AreDecided}
-use Rattle.lrp_watch.specs.Leasts.{HasFewColumns, IsLeastOver, IsOverHead}
+use Rattle.lrp_watch.specs.LeastAnswers.{HasFewColumns, IsLeastOver, IsOverHead}
 use Rattle.lrp_watch.proofs.Tellings.{firsts_told, known_told, lines_of}
 
 pub few_columns_of : (db : List Relation) (query : Query) → IsSortedQuery db (question_of query) → HasFewColumns query.head.columns

@@ -17,10 +17,10 @@ use Rattle.lrp_edits.specs.declared.edits.Edit.{Edit}
 use Rattle.lrp_kept.proofs.SortedDisjuncts.{few_head_texts, few_head_times}
 use Rattle.lrp_keep.specs.Keeps.{KeepView, opened, IsPastLimit, StaysWithinLimits, shape_for}
 use Rattle.lrp_keep.specs.declared.faults.KeepFault.{KeepFault}
-use Rattle.lrp_watch.specs.Edits.{IsPassedAt, IsPassedBehind}
+use Rattle.lrp_watch.specs.Edits.{IsPassedAt, IsPassedAfter}
 use Rattle.lrp_watch.specs.Faults.{IsFaultAt}
 use Rattle.lrp_outputs.specs.First.{IsFirst, first_line}
-use Rattle.lrp_watch.specs.Leasts.{AreDone, CanGoOn, HasFewColumns, IsLeastOver, IsOverHead}
+use Rattle.lrp_watch.specs.LeastAnswers.{AreDone, CanGoOn, HasFewColumns, IsLeastOver, IsOverHead}
 use Rattle.lrp_outputs.specs.Spots.{IsKnownLeast, answer_tuple}
 use Rattle.lrp_watch.specs.Watching.{CanBeWatched, IsOpened, IsPassed, TellsLeasts, watched_constants}
 use Rattle.lrp_watch.proofs.Known.{shape_is}
@@ -120,11 +120,11 @@ module _ (query : Query) (db : List Relation) (edits : List Edit) (cap : ℕ) (d
     at = subst (λ n. IsPassedAt edits k n fault) (sym h.0) (subst (λ (l : KeepView). IsPastLimit l fault) (sym is) h.1);
   }
 
-  pub passed_later : StaysWithinLimits (opened query db domain cap) → (number : ℕ) (fault : KeepFault) → IsPassedBehind edits k number fault → IsPassed db (question_of query) edits cap number fault
+  pub passed_later : StaysWithinLimits (opened query db domain cap) → (number : ℕ) (fault : KeepFault) → IsPassedAfter edits k number fault → IsPassed db (question_of query) edits cap number fault
   passed_later h number fault p =
       let e : number ≡ suc (length p.before) = p.number_is ∙ omega arith in
       record {
         kept = k;
         opened = opened_is;
-        at = subst (λ n. IsPassedAt edits k n fault) (sym e) (within h, subst (λ n. IsPassedBehind edits k n fault) e p);
+        at = subst (λ n. IsPassedAt edits k n fault) (sym e) (within h, subst (λ n. IsPassedAfter edits k n fault) e p);
       }

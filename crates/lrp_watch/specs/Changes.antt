@@ -6,7 +6,7 @@ use Rattle.lrp_model.specs.declared.relations.Relation.{Relation}
 use Rattle.lrp_model.specs.declared.relations.Row.{Row}
 use Rattle.lrp_model.specs.declared.tuples.Spot.{Spot}
 use Rattle.lrp_kept.specs.EqualRows.{AreEqualRows}
-use Rattle.lrp_watch.specs.Leasts.{IsLeastOver}
+use Rattle.lrp_watch.specs.LeastAnswers.{IsLeastOver}
 
 -- the row at the place is equal, and none before it is
 pub record IsFirstEqualAt (row : Row) (rows : List Row) (place : ℕ) : Type 0 where

@@ -13,7 +13,7 @@ use Rattle.lrp_edits.specs.declared.edits.Edit.{Edit}
 use Rattle.lrp_keep.specs.Keeps.{IsSortedQuery}
 use Rattle.lrp_watch.specs.Anew.{IsWithinPlan}
 use Rattle.lrp_watch.specs.Edited.{AreEdited}
-use Rattle.lrp_watch.specs.Leasts.{IsLeastOver}
+use Rattle.lrp_watch.specs.LeastAnswers.{IsLeastOver}
 
 -- a well-sorted query, whose points have periods of at least 1
 pub record CanBeDecided (db : List Relation) (q : Question) : Type 0 where

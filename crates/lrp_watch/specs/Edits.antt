@@ -37,11 +37,11 @@ pub record IsRefusedEdit (e : Edit) (k : KeepView) (fault : KeepFault) : Type 0 
   pub cause : IsPastLimit (with_added k e.relation e.row) fault
 
 -- the edits before the one of this number, from 1, are made, and at that one the limit is passed
-pub record IsPassedBehind (edits : List Edit) (k : KeepView) (number : ℕ) (fault : KeepFault) : Type 0 where
+pub record IsPassedAfter (edits : List Edit) (k : KeepView) (number : ℕ) (fault : KeepFault) : Type 0 where
   pub before : List Edit
   pub edit : Edit
-  pub behind : List Edit
-  pub are : edits ≡ before ++ edit ∷ behind
+  pub after : List Edit
+  pub are : edits ≡ before ++ edit ∷ after
   pub number_is : number ≡ length before + 1
   pub later : List KeepView
   pub made : AreMade before k later
@@ -50,4 +50,4 @@ pub record IsPassedBehind (edits : List Edit) (k : KeepView) (number : ℕ) (fau
 -- the limit is passed at the edit of this number and none before; the opening is edit 0
 abbrev pub IsPassedAt : List Edit → KeepView → ℕ → KeepFault → Type 0
 IsPassedAt edits k zero fault = IsPastLimit k fault
-IsPassedAt edits k (suc n) fault = StaysWithinLimits k × IsPassedBehind edits k (suc n) fault
+IsPassedAt edits k (suc n) fault = StaysWithinLimits k × IsPassedAfter edits k (suc n) fault

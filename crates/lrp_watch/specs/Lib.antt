@@ -7,6 +7,6 @@ pub mod Edited
 pub mod Anew
 -- What contracts of single functions need beside.
 pub mod Faults
-pub mod Leasts
+pub mod LeastAnswers
 pub mod Changes
 pub mod Decided

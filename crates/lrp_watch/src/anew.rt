@@ -10,8 +10,8 @@ ghost use Rattle.lrp_watch.specs.Anew.{CanBeDecidedAnew, IsPassedAnew, IsPastPla
 ghost use Rattle.lrp_watch.specs.Changes.{IsToldOver};
 ghost use Rattle.lrp_watch.specs.Decided.{AreDecided, CanBeDecided, IsRenumbered};
 ghost use Rattle.lrp_watch.specs.Faults.{IsFaultAt, IsFaultBy};
-ghost use Rattle.lrp_watch.specs.Leasts.{IsLeastOver};
-ghost use Rattle.lrp_outputs.specs.Outputs.{leasts_text};
+ghost use Rattle.lrp_watch.specs.LeastAnswers.{IsLeastOver};
+ghost use Rattle.lrp_outputs.specs.Outputs.{least_answers_text};
 ghost use Rattle.lrp_outputs.specs.Spots.{HasKnownTexts};
 
 use crate::domains::constants_of;
@@ -24,7 +24,7 @@ use lrp_edits::Edit;
 use lrp_eval::{EvalFault, answer};
 use lrp_guarded::plan_by;
 use lrp_model::{Domain, List, Memory, Plan, Planning, Query, Spot};
-use lrp_outputs::{Leasts, small_answers_have_room, spots_stand_for_tuples};
+use lrp_outputs::{LeastAnswers, small_answers_have_room, spots_stand_for_tuples};
 use lrp_plan::{PlanFault, kept_queries_have_periods};
 use lrp_plan_laws::sorted_queries_are_settled;
 use std::alloc::Global;
@@ -48,10 +48,10 @@ pub fn least_answers_anew(
     query: &Query,
     edits: &[Edit],
     anew: Anew,
-) -> Result<Leasts, WatchFault>
+) -> Result<LeastAnswers, WatchFault>
     requires { CanBeDecidedAnew database.now (question_of query.now) edits.now }
     ensures told { IfOk result (λ made. TellsLeastsAnew anew.planning database.now
-        (question_of query.now) edits.now anew.cap (leasts_text made)) }
+        (question_of query.now) edits.now anew.cap (least_answers_text made)) }
     ensures fault { IfErr result (IsFaultBy (IsPassedAnew anew.planning database.now
         (question_of query.now) edits.now anew.cap)) }
 {
@@ -64,7 +64,7 @@ pub fn least_answers_anew(
     };
     let spots = renewed.spots(database, edits)?;
     let answer = no_answers(alloc, query, domain)?;
-    Ok(Leasts { answer, spots })
+    Ok(LeastAnswers { answer, spots })
 }
 
 // A query that is decided anew, and the constants by whose numbers the texts of its least answers are told.

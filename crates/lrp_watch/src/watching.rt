@@ -2,10 +2,10 @@
 ghost use Rattle.std.specs.Prelude.{◌≡◌, IfErr, IfOk, OnOk};
 ghost use Rattle.lrp_model.specs.Formulas.{question_of};
 ghost use Rattle.lrp_keep.specs.Keeps.{CanBeKept, opened as opened_by, IsPastLimit, StaysWithinLimits};
-ghost use Rattle.lrp_watch.specs.Edits.{IsEditMade, IsPassedBehind, IsRefusedEdit};
+ghost use Rattle.lrp_watch.specs.Edits.{IsEditMade, IsPassedAfter, IsRefusedEdit};
 ghost use Rattle.lrp_watch.specs.Faults.{IsFaultAt, IsFaultBy};
-ghost use Rattle.lrp_watch.specs.Leasts.{AreDone, CanBeMade, CanGoOn, HasFewColumns, IsLeastOver, IsOverHead, IsTold};
-ghost use Rattle.lrp_outputs.specs.Outputs.{leasts_text};
+ghost use Rattle.lrp_watch.specs.LeastAnswers.{AreDone, CanBeMade, CanGoOn, HasFewColumns, IsLeastOver, IsOverHead, IsTold};
+ghost use Rattle.lrp_outputs.specs.Outputs.{least_answers_text};
 ghost use Rattle.lrp_watch.specs.Watching.{CanBeWatched, IsPassed, TellsLeasts};
 
 use crate::domains::constants_of;
@@ -16,7 +16,7 @@ use lrp_database::Database;
 use lrp_edits::Edit;
 use lrp_keep::{Keep, KeepFault};
 use lrp_model::{Copies, Domain, List, Memory, Query, Spot, texts_in_order};
-use lrp_outputs::{Leasts, spots_stand_for_tuples};
+use lrp_outputs::{LeastAnswers, spots_stand_for_tuples};
 use std::alloc::Global;
 
 /// The least answers of a query over a database as it is read, and after each of some edits.
@@ -30,10 +30,10 @@ pub fn least_answers(
     query: &Query,
     edits: &[Edit],
     cap: u32,
-) -> Result<Leasts, WatchFault>
+) -> Result<LeastAnswers, WatchFault>
     requires { CanBeWatched database.now (question_of query.now) edits.now }
     ensures told { IfOk result (λ made. TellsLeasts database.now
-        (question_of query.now) edits.now cap (leasts_text made)) }
+        (question_of query.now) edits.now cap (least_answers_text made)) }
     ensures fault { IfErr result (IsFaultBy (IsPassed database.now
         (question_of query.now) edits.now cap)) }
 {
@@ -43,7 +43,7 @@ pub fn least_answers(
     let mut keep = opened(alloc, database, query, &domain, cap)?;
     let spots = spots_of(alloc, &mut keep, edits)?;
     let answer = no_answers(alloc, query, domain)?;
-    Ok(Leasts { answer, spots })
+    Ok(LeastAnswers { answer, spots })
 }
 
 /// No answers of a query: its head and the constants, by which spots are told, so that no zone is made beside those kept.
@@ -90,7 +90,7 @@ fn spots_of(
 ) -> Result<List<Option<Spot>>, WatchFault>
     requires { CanGoOn keep.old edits.now }
     ensures done { IfOk result (AreDone edits.now keep.old keep.new) }
-    ensures fault { IfErr result (IsFaultBy (IsPassedBehind edits.now keep.old)) }
+    ensures fault { IfErr result (IsFaultBy (IsPassedAfter edits.now keep.old)) }
 {
     let mut spots = List::new(alloc);
     tell(keep, &mut spots)?;

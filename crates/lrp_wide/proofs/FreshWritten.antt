@@ -25,7 +25,7 @@ use Rattle.lrp_model.specs.Queries.FurtherMembers.{last, more}
 use Rattle.lrp_model.specs.QueryMeaning.{star_name, term_kind, argument_kind, raw_argument, raw_several, raw_form, raw_forms, raw_chain, raw_definition, raw_file}
 use Rattle.lrp_model.specs.QueryReading.{IsFile}
 use Rattle.lrp_model.specs.RawQueries.{RawForm, RawDefinitionView, RawFileView, place_of}
-use Rattle.lrp_text.proofs.NameTokens.{NamedPart, all_front, all_behind, spelled_named_in}
+use Rattle.lrp_text.proofs.NameTokens.{NamedPart, all_front, all_after, spelled_named_in}
 use Rattle.lrp_tense.proofs.Scoping.{own_name}
 use Rattle.lrp_wide.specs.Meaning.{is_star_kind}
 use Rattle.lrp_wide.proofs.SatisfyNotions.{Unless}
@@ -40,7 +40,7 @@ front : (xs ys : List Part) → NamedParts (xs ++ ys) → NamedParts xs
 front = all_front NamedPart
 
 back : (xs ys : List Part) → NamedParts (xs ++ ys) → NamedParts ys
-back = all_behind NamedPart
+back = all_after NamedPart
 
 abbrev closing : List Part
 closing = any (symbol_token Close) ∷ []
@@ -102,8 +102,8 @@ mutual
   letters_from (chain t p f g fs) h =
       let further : List Part = members_text Implies fs ++ closing in
       let rest : List Part = any (word_token Implies) ∷ (formula_text g ++ further) in
-      let behind = (back (formula_text f) rest h.1).1 in
-      (letters_from f (front (formula_text f) rest h.1), chain_from (place_of (raw_form g)) (raw_form g) fs (letters_from g (front (formula_text g) further behind)) (front (members_text Implies fs) closing (back (formula_text g) further behind)))
+      let after = (back (formula_text f) rest h.1).1 in
+      (letters_from f (front (formula_text f) rest h.1), chain_from (place_of (raw_form g)) (raw_form g) fs (letters_from g (front (formula_text g) further after)) (front (members_text Implies fs) closing (back (formula_text g) further after)))
   letters_from (hole p) h = tt
 
   -- a formula and what it implies in turn
@@ -128,13 +128,13 @@ pub record FileLetters (f : RawFileView) : Type 0 where
 
 query_from : (q : WrittenQuery wide) → NamedParts (query_text q) → HasLetters (raw_form q.body)
 query_from q h =
-    let behind : List Part = any (symbol_token Bar) ∷ (formula_text q.body ++ any (symbol_token CloseBrace) ∷ any end_token ∷ []) in
-    letters_from q.body (front (formula_text q.body) (any (symbol_token CloseBrace) ∷ any end_token ∷ []) (back (separated comma column_text q.head) behind h.1).1)
+    let after : List Part = any (symbol_token Bar) ∷ (formula_text q.body ++ any (symbol_token CloseBrace) ∷ any end_token ∷ []) in
+    letters_from q.body (front (formula_text q.body) (any (symbol_token CloseBrace) ∷ any end_token ∷ []) (back (separated comma column_text q.head) after h.1).1)
 
 definition_from : (d : WrittenDefinition wide) → NamedParts (definition_text d) → DefinesLetters (raw_definition d)
 definition_from d h =
-    let behind : List Part = any (symbol_token Close) ∷ any (name_token as_word) ∷ (formula_text d.body ++ any (symbol_token Semicolon) ∷ []) in
-    letters_from d.body (front (formula_text d.body) (any (symbol_token Semicolon) ∷ []) (back (separated comma column_text d.columns) behind h.1.1.1).1.1)
+    let after : List Part = any (symbol_token Close) ∷ any (name_token as_word) ∷ (formula_text d.body ++ any (symbol_token Semicolon) ∷ []) in
+    letters_from d.body (front (formula_text d.body) (any (symbol_token Semicolon) ∷ []) (back (separated comma column_text d.columns) after h.1.1.1).1.1)
 
 definitions_from : (ds : List (WrittenDefinition wide)) → NamedParts (flat_map definition_text ds) → AllByRecursion DefinesLetters (map raw_definition ds)
 definitions_from [] h = tt

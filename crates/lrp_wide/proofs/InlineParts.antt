@@ -9,7 +9,7 @@ use Rattle.lrp_model.specs.declared.tokens.Place.{Place}
 use Rattle.lrp_tense.specs.Expanding.{name_term}
 use Rattle.lrp_wide.specs.Inlining.{Passed, itself, equal, compared_columns, compared_form, some_each, with_comparisons}
 use Rattle.lrp_wide.specs.Inside.{comparisons_of}
-use Rattle.lrp_wide.specs.Settings.{and_behind, forms_then}
+use Rattle.lrp_wide.specs.Settings.{and_after, forms_then}
 
 -- one `exists` more, the innermost
 pub some_each-more : (p : Place) (cs : List RawColumn) (c : RawColumn) (f : RawForm) → some_each p (cs ++ c ∷ []) f ≡ some_each p cs (raw_exists p c f)
@@ -22,7 +22,7 @@ forms_then-is [] f = refl
 forms_then-is (g ∷ gs) f = ap (raw (raw_form_of g)) (forms_then-is gs f)
 
 -- it is in one `and` with them
-pub pushed-is : (p : Place) (gs all : List RawFormula) (f : RawFormula) (g : RawForm) → 0 < length gs → all ≡ gs ++ f ∷ [] → raw_form_of f ≡ g → raw_and p (raw_forms_of all) ≡ and_behind p gs g
+pub pushed-is : (p : Place) (gs all : List RawFormula) (f : RawFormula) (g : RawForm) → 0 < length gs → all ≡ gs ++ f ∷ [] → raw_form_of f ≡ g → raw_and p (raw_forms_of all) ≡ and_after p gs g
 pushed-is p [] all f g lt e h = absurd (omega (arith, lt))
 pushed-is p (x ∷ gs) all f g lt e h = ap (λ l. raw_and p (raw_forms_of l)) e ∙ ap (raw_and p) (forms_then-is (x ∷ gs) f) ∙ ap (λ y. raw_and p (forms_then (x ∷ gs) y)) h
 
@@ -39,10 +39,10 @@ unfolding forms_before
 then_before [] f = refl
 then_before (g ∷ gs) f = ap (raw (raw_form_of g)) (then_before gs f)
 
-behind_of : (p : Place) (gs : List RawFormula) (f : RawForm) → and_behind p gs f ≡ and_of p (map raw_form_of gs) f
+after_of : (p : Place) (gs : List RawFormula) (f : RawForm) → and_after p gs f ≡ and_of p (map raw_form_of gs) f
 unfolding and_of
-behind_of p [] f = refl
-behind_of p (g ∷ gs) f = ap (raw_and p) (then_before (g ∷ gs) f)
+after_of p [] f = refl
+after_of p (g ∷ gs) f = ap (raw_and p) (then_before (g ∷ gs) f)
 
 before_compared : (p : Place) (ps : List Passed) (f : RawForm) → forms_before (comparisons_of p ps) f ≡ with_comparisons p ps f
 unfolding forms_before
@@ -62,5 +62,5 @@ compared_of p (equal b c t ∷ ps) f = ap (λ fs. some_each p (b ∷ compared_co
 
 -- the formula after its comparisons, under an `exists` for each column that is compared
 pub compared-is : (p : Place) (ps : List Passed) (gs : List RawFormula) (f : RawForm) → map raw_form_of gs ≡ comparisons_of p ps
-    → some_each p (compared_columns ps) (and_behind p gs f) ≡ compared_form p (compared_columns ps) ps f
-compared-is p ps gs f e = ap (some_each p (compared_columns ps)) (behind_of p gs f ∙ ap (λ fs. and_of p fs f) e) ∙ compared_of p ps f
+    → some_each p (compared_columns ps) (and_after p gs f) ≡ compared_form p (compared_columns ps) ps f
+compared-is p ps gs f e = ap (some_each p (compared_columns ps)) (after_of p gs f ∙ ap (λ fs. and_of p fs f) e) ∙ compared_of p ps f

@@ -15,7 +15,7 @@ use Rattle.lrp_model.specs.declared.tokens.Place.{Place}
 use Rattle.lrp_wide.specs.Inlining.{Counted, Known, Passed, UseSetting, compared_form, counted_from, inlined, inlined_atom, known_of, known_with, meant_by, passed, passed_name, some_each, star_total, use_form}
 use Rattle.lrp_wide.specs.Inside.{AreArguments, AreBeside, AreWritten, HasPlainBody, IsAround, IsUsedBody, IsInsideBody, IsMeant, IsNamedIn, IsNextBody, IsPlainUse, IsUsed, body_setting, inlined_here, known_by, known_here, met_form}
 use Rattle.lrp_wide.specs.Limits.{depth_of}
-use Rattle.lrp_wide.specs.Settings.{and_behind, name_passed, setting_of}
+use Rattle.lrp_wide.specs.Settings.{and_after, name_passed, setting_of}
 use Rattle.lrp_wide.specs.declared.atoms.Met.{Met}
 use Rattle.lrp_wide.specs.declared.inlining.UsedBody.{UsedBody}
 use Rattle.lrp_wide.specs.declared.inlining.Named.{Named}
@@ -147,7 +147,7 @@ module _ (s : Scene) (file : RawFileView) (w : Written) (is : s.written ≡ Some
   -- a use becomes what its body becomes, under its quantifiers
   pub used-is : (d : Named) (met : Met) (a : Arguments) (cs : List Column) (r : Relation) (of made : RawForm) → slice_get w.definitions.now.definitions d.number ≡ Some r → cs ≡ r.columns
       → AreArguments (setting_of s.setting) met cs a → IsUsedBody s file (record { named = d; number = met.number; place = met.place; first = a.next; passed = a.passed }) of
-      → made ≡ some_each met.place a.stars.items (some_each met.place a.columns.items (and_behind met.place a.comparisons.items of)) → IsUsed s file met d.number made
+      → made ≡ some_each met.place a.stars.items (some_each met.place a.columns.items (and_after met.place a.comparisons.items of)) → IsUsed s file met d.number made
   used-is d met a cs r of made er ec args h em = record {
     used = λ k e.
         let S : UseSetting = setting_of s.setting in

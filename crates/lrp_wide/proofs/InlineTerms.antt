@@ -60,9 +60,9 @@ module _ (s : UseSetting) (p : Place) (k : ℕ) (cs : List Column) (ts : List Ra
   }
 
   -- a term after the last column
-  pub starred-behind : (i j : ℕ) (terms : List RawTerm) (binders : List RawColumn) (t : RawTerm) → length cs ≤ i → drop i ts ≡ t ∷ drop (i + 1) ts
+  pub starred-after : (i j : ℕ) (terms : List RawTerm) (binders : List RawColumn) (t : RawTerm) → length cs ≤ i → drop i ts ≡ t ∷ drop (i + 1) ts
       → AreStarred s p k cs ts i j terms binders → AreStarred s p k cs ts (i + 1) j (terms ++ set_term s t ∷ []) binders
-  starred-behind i j terms binders t le dt h =
+  starred-after i j terms binders t le dt h =
       let here : drop i cs ≡ [] = drop_all i cs le in
       let next : drop (i + 1) cs ≡ [] = drop_all (i + 1) cs (omega (arith, le)) in
       record {

@@ -13,7 +13,7 @@ use Rattle.lrp_sorts.specs.Definitions.{rowless}
 use Rattle.lrp_wide.specs.Counts.{file_numbers}
 use Rattle.lrp_wide.specs.Inlining.{Counted, Known, Passed, UseSetting, compared_columns, compared_form, counted_from, counted_in, known_of, known_with, passed, passed_name, plain_definition, some_each, star_columns, star_total, use_form}
 use Rattle.lrp_wide.specs.Inside.{AreArguments, AreBeside}
-use Rattle.lrp_wide.specs.Settings.{and_behind, name_passed, passed_of}
+use Rattle.lrp_wide.specs.Settings.{and_after, name_passed, passed_of}
 use Rattle.lrp_wide.specs.declared.atoms.Met.{Met}
 use Rattle.lrp_wide.specs.declared.inlining.Written.{Written}
 use Rattle.lrp_wide.specs.declared.passing.Arguments.{Arguments}
@@ -38,13 +38,13 @@ use-setting p k first given ps start counted own h ef ec =
 -- where its columns, its numbers and its body are those of the definition
 pub used-form : (s : UseSetting) (met : Met) (k : Known) (columns : List Column) (a : Arguments) (of : RawForm) (there : UseSetting) → columns ≡ k.columns → AreArguments s met columns a
     → there ≡ record { name = passed_name (passed s met.place met.number (suc met.number) k.columns met.terms.now) met.number; place = λ q. met.place; number = counted_from (suc met.number + star_total k.columns met.terms.now) k.counted }
-    → of ≡ k.form there → some_each met.place a.stars.items (some_each met.place a.columns.items (and_behind met.place a.comparisons.items of)) ≡ use_form s met.place met.number k met.terms.now
+    → of ≡ k.form there → some_each met.place a.stars.items (some_each met.place a.columns.items (and_after met.place a.comparisons.items of)) ≡ use_form s met.place met.number k met.terms.now
 used-form s met k columns a of there ec h es eo =
     let g : AreArguments s met k.columns a = subst (λ cs. AreArguments s met cs a) ec h in
     let p : Place = met.place in
     let ps : List Passed = passed s p met.number (suc met.number) k.columns met.terms.now in
     let stars : List RawColumn = star_columns p (suc met.number) k.columns met.terms.now in
-    ap₂ (λ x y. some_each p x (some_each p y (and_behind p a.comparisons.items of))) g.stars g.columns
+    ap₂ (λ x y. some_each p x (some_each p y (and_after p a.comparisons.items of))) g.stars g.columns
     ∙ ap (some_each p stars) (compared-is p ps a.comparisons.items of g.comparisons)
     ∙ ap (λ f. some_each p stars (compared_form p (compared_columns ps) ps f)) (eo ∙ ap k.form es)
 

@@ -21,7 +21,7 @@ use Rattle.lrp_model.specs.DatabaseMeaning.{column_of}
 use Rattle.lrp_model.specs.Sorting.{IsWellSorted, query_faults}
 use Rattle.lrp_model.specs.RawQueries.{RawForm, RawForms, RawDefinitionView, RawFileView, HasNoOperator, raw_atom, raw_compare, raw_member, raw_not, raw_and, raw_or, raw_implies, raw_group, raw_exists, raw_forall, raw_ranged, raw_paired, no_raws, raw}
 use Rattle.lrp_model.specs.declared.faults.QueryFault.{QueryFault}
-use Rattle.lrp_text.proofs.NameTokens.{NamedPart, all_front, all_behind, columns_named, spelled_named_in}
+use Rattle.lrp_text.proofs.NameTokens.{NamedPart, all_front, all_after, columns_named, spelled_named_in}
 use Rattle.lrp_query.specs.Lawful.{FitsRaw, formulas_in}
 use Rattle.lrp_query.proofs.HoleFree.{tokens_clean}
 use Rattle.lrp_query.proofs.Whole.{CleanPart, clean_parts, whole}
@@ -52,10 +52,10 @@ after_head w = any (symbol_token Bar) ∷ (formula_text w ++ any (symbol_token C
 
 module _ (P : Part → Type 0) where
   definition_body : (d : WrittenDefinition wide) → AllByRecursion P (definition_text d) → AllByRecursion P (formula_text d.body)
-  definition_body d h = all_front P (formula_text d.body) (any (symbol_token Semicolon) ∷ []) (all_behind P (separated comma column_text d.columns) (after_columns d.body) h.1.1.1).1.1
+  definition_body d h = all_front P (formula_text d.body) (any (symbol_token Semicolon) ∷ []) (all_after P (separated comma column_text d.columns) (after_columns d.body) h.1.1.1).1.1
 
   query_body : (q : WrittenQuery wide) → AllByRecursion P (query_text q) → AllByRecursion P (formula_text q.body)
-  query_body q h = all_front P (formula_text q.body) (any (symbol_token CloseBrace) ∷ any end_token ∷ []) (all_behind P (separated comma column_text q.head) (after_head q.body) h.1).1
+  query_body q h = all_front P (formula_text q.body) (any (symbol_token CloseBrace) ∷ any end_token ∷ []) (all_after P (separated comma column_text q.head) (after_head q.body) h.1).1
 
 -- ---- operators
 
@@ -84,7 +84,7 @@ definitions_expandable (d ∷ ds) h r = (
     names = plain_names d.body (definition_body NamedPart d (all_front NamedPart (definition_text d) (flat_map definition_text ds) h));
     places = risen_differ (operators (raw_form d.body)) (some_rise (operators (raw_form d.body)) (at_places (definition_text d ++ flat_map definition_text ds)) (first_some (operators (raw_form d.body)) (definition_text d) (flat_map definition_text ds) (definition_places d)) r);
   },
-  definitions_expandable ds (all_behind NamedPart (definition_text d) (flat_map definition_text ds) h) (later_rise (definition_text d) (flat_map definition_text ds) r),
+  definitions_expandable ds (all_after NamedPart (definition_text d) (flat_map definition_text ds) h) (later_rise (definition_text d) (flat_map definition_text ds) r),
 )
 
 -- ---- `*`
@@ -123,7 +123,7 @@ expandable_tree bytes f spelled letters =
     record {
       definitions = definitions_expandable f.definitions (all_front NamedPart before (query_text f.query) named) (some_rise (at_places before) (at_places (file_text f)) (first_some (at_places before) before (query_text f.query) (some_itself (at_places before))) rises);
       query = record {
-        names = plain_names f.query.body (query_body NamedPart f.query (all_behind NamedPart before (query_text f.query) named));
+        names = plain_names f.query.body (query_body NamedPart f.query (all_after NamedPart before (query_text f.query) named));
         places = risen_differ (operators (raw_form f.query.body)) (some_rise (operators (raw_form f.query.body)) (at_places (query_text f.query)) (query_places f.query) (later_rise before (query_text f.query) rises));
       };
       stars = file_no_star (raw_file f) letters;
@@ -146,7 +146,7 @@ definitions_fit : (ds : List (WrittenDefinition wide)) → AllByRecursion CleanP
 definitions_fit [] c h = tt
 definitions_fit (d ∷ ds) c h = (
   fits_raw d.body (whole d.body (definition_body CleanPart d (all_front CleanPart (definition_text d) (flat_map definition_text ds) c))) h.0.sizes,
-  definitions_fit ds (all_behind CleanPart (definition_text d) (flat_map definition_text ds) c) h.1,
+  definitions_fit ds (all_after CleanPart (definition_text d) (flat_map definition_text ds) c) h.1,
 )
 
 fits_tree : (bytes : List ℕ) (f : WrittenFile wide) → Spells (file_text f) (tokens_in true bytes) → FitsFile f → FileFits (raw_file f)
@@ -156,8 +156,8 @@ fits_tree bytes f spelled sizes =
     let named : AllByRecursion NamedPart (file_text f) = spelled_named_in true bytes (file_text f) spelled in
     record {
       definitions = definitions_fit f.definitions (all_front CleanPart before (query_text f.query) clean) sizes.definitions;
-      query = fits_raw f.query.body (whole f.query.body (query_body CleanPart f.query (all_behind CleanPart before (query_text f.query) clean))) sizes.query.sizes;
-      head = columns_named f.query.head (all_front NamedPart (separated comma column_text f.query.head) (after_head f.query.body) (all_behind NamedPart before (query_text f.query) named).1);
+      query = fits_raw f.query.body (whole f.query.body (query_body CleanPart f.query (all_after CleanPart before (query_text f.query) clean))) sizes.query.sizes;
+      head = columns_named f.query.head (all_front NamedPart (separated comma column_text f.query.head) (after_head f.query.body) (all_after NamedPart before (query_text f.query) named).1);
     }
 
 file_fits : (bytes : List ℕ) (f : RawFileView) → IsFile bytes f → FileFits f

@@ -7,7 +7,7 @@ use Rattle.std.proofs.lemmas.List.Sums.{sum_by-cons}
 use Rattle.lrp_model.specs.declared.tokens.Place.{Place}
 use Rattle.lrp_tense.specs.Expanding.{is_before}
 use Rattle.lrp_wide.specs.Inlining.{Counted, numbers_before, numbers_of}
-use Rattle.lrp_wide.specs.Counts.{AreAscending, AreSummed, IsFirstBehind, SumTo, counted_of, end_before}
+use Rattle.lrp_wide.specs.Counts.{AreAscending, AreSummed, IsFirstAfter, SumTo, counted_of, end_before}
 use Rattle.lrp_wide.specs.declared.numbering.Counted.{Counted as CountedAtom}
 use Rattle.lrp_wide.proofs.NumberPlaces.{before-through}
 
@@ -87,15 +87,15 @@ before-point sum (a ∷ atoms) total p (suc n) h le yes' no' =
     let one : numbers_before (counted_of (a ∷ atoms)) p ≡ a.numbers + numbers_before (counted_of atoms) p = one_before a atoms p ∙ ap (λ b. cond b a.numbers 0 + numbers_before (counted_of atoms) p) first in
     omega (arith, rest, one)
 
-pub before-first : (atoms : List CountedAtom) (total : ℕ) (p : Place) (n : ℕ) → SumTo 0 atoms total → IsFirstBehind atoms p n → numbers_before (counted_of atoms) p ≡ at_index atoms n total
-before-first atoms total p n h f = let e = before-point 0 atoms total p n h f.bound f.before f.behind in omega (arith, e)
+pub before-first : (atoms : List CountedAtom) (total : ℕ) (p : Place) (n : ℕ) → SumTo 0 atoms total → IsFirstAfter atoms p n → numbers_before (counted_of atoms) p ≡ at_index atoms n total
+before-first atoms total p n h f = let e = before-point 0 atoms total p n h f.bound f.before f.after in omega (arith, e)
 
 -- ---- what stands before a place is a first part
 
-behind_first : (a : CountedAtom) (atoms : List CountedAtom) → AreAscending (a ∷ atoms) → (j : ℕ) (d : CountedAtom) → j < length atoms → is_before a.place (get_or atoms j d).place ≡ true
-behind_first a [] h j d lt = absurd (omega (arith, lt))
-behind_first a (b ∷ atoms) h zero d lt = h.0
-behind_first a (b ∷ atoms) h (suc j) d lt = before-through a.place b.place (get_or atoms j d).place h.0 (behind_first b atoms h.1 j d (omega (arith, lt)))
+after_first : (a : CountedAtom) (atoms : List CountedAtom) → AreAscending (a ∷ atoms) → (j : ℕ) (d : CountedAtom) → j < length atoms → is_before a.place (get_or atoms j d).place ≡ true
+after_first a [] h j d lt = absurd (omega (arith, lt))
+after_first a (b ∷ atoms) h zero d lt = h.0
+after_first a (b ∷ atoms) h (suc j) d lt = before-through a.place b.place (get_or atoms j d).place h.0 (after_first b atoms h.1 j d (omega (arith, lt)))
 
 without_first : (a : CountedAtom) (atoms : List CountedAtom) → AreAscending (a ∷ atoms) → AreAscending atoms
 without_first a [] h = tt
@@ -104,7 +104,7 @@ without_first a (b ∷ atoms) h = h.1
 pub partitioned : (atoms : List CountedAtom) (p : Place) → AreAscending atoms → (i j : ℕ) (d : CountedAtom) → i ≤ j → j < length atoms → is_before (get_or atoms j d).place p ≡ true → is_before (get_or atoms i d).place p ≡ true
 partitioned [] p h i j d le lt e = absurd (omega (arith, lt))
 partitioned (a ∷ atoms) p h zero zero d le lt e = e
-partitioned (a ∷ atoms) p h zero (suc j) d le lt e = before-through a.place (get_or atoms j d).place p (behind_first a atoms h j d (omega (arith, lt))) e
+partitioned (a ∷ atoms) p h zero (suc j) d le lt e = before-through a.place (get_or atoms j d).place p (after_first a atoms h j d (omega (arith, lt))) e
 partitioned (a ∷ atoms) p h (suc i) zero d le lt e = absurd (omega (arith, le))
 partitioned (a ∷ atoms) p h (suc i) (suc j) d le lt e = partitioned atoms p (without_first a atoms h) i j d (omega (arith, le)) (omega (arith, lt)) e
 

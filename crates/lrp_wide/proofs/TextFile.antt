@@ -178,9 +178,9 @@ find_front {A} t (x ∷ xs) ys r e = by (t x) e (λ k. find_front t xs ys r k)
     by true e k = e
     by false e k = k e
 
-find_behind : {A : Type 0} (t : A → Bool) (xs ys : List A) → find t xs ≡ None → find t (xs ++ ys) ≡ find t ys
-find_behind {A} t [] ys e = refl
-find_behind {A} t (x ∷ xs) ys e = by (t x) e (λ k. find_behind t xs ys k)
+find_after : {A : Type 0} (t : A → Bool) (xs ys : List A) → find t xs ≡ None → find t (xs ++ ys) ≡ find t ys
+find_after {A} t [] ys e = refl
+find_after {A} t (x ∷ xs) ys e = by (t x) e (λ k. find_after t xs ys k)
   where
     by : (b : Bool) → cond b (Some x) (find t xs) ≡ None → (find t xs ≡ None → find t (xs ++ ys) ≡ find t ys) → cond b (Some x) (find t (xs ++ ys)) ≡ find t ys
     by true e k = cc
@@ -199,7 +199,7 @@ columns_given T all ds g n k = by (relation_named all n) refl k
 
 pub own_given : (T : Signature) (all : List Relation) (d : RawDefinitionView) (ds : List RawDefinitionView) → GivesColumns T all (d ∷ ds) → relation_named all d.name ≡ None → T d.name ≡ map column_of d.columns
 own_given T all d ds g fresh =
-    g d.name (defined_relation d) (find_behind (λ r. bytes_eq r.name d.name) all (map defined_relation (d ∷ ds)) fresh ∙ ap (λ b. cond b (Some (defined_relation d)) (relation_named (map defined_relation ds) d.name)) (own_name d.name))
+    g d.name (defined_relation d) (find_after (λ r. bytes_eq r.name d.name) all (map defined_relation (d ∷ ds)) fresh ∙ ap (λ b. cond b (Some (defined_relation d)) (relation_named (map defined_relation ds) d.name)) (own_name d.name))
 
 pub given_more : (T : Signature) (all : List Relation) (d : RawDefinitionView) (ds : List RawDefinitionView) → GivesColumns T all (d ∷ ds) → GivesColumns T (all ++ defined_relation d ∷ []) ds
 given_more T all d ds g n r e = g n r (ap (λ l. relation_named l n) (sym (append_assoc all (defined_relation d ∷ []) (map defined_relation ds))) ∙ e)
@@ -251,7 +251,7 @@ pub file_columns : (db : List Relation) (ds : List RawDefinitionView) (q : RawQu
 file_columns db ds q t n r e = by (relation_named db n) refl
   where
     by : (o : Option Relation) → relation_named db n ≡ o → signature db ds n ≡ r.columns
-    by None k = columns_met db n r ds (sym (find_behind (λ r. bytes_eq r.name n) db (map defined_relation ds) k) ∙ e)
+    by None k = columns_met db n r ds (sym (find_after (λ r. bytes_eq r.name n) db (map defined_relation ds) k) ∙ e)
     by (Some z) k =
         let there : relation_named (db ++ map defined_relation ds) n ≡ Some z = find_front (λ r. bytes_eq r.name n) db (map defined_relation ds) z k in
         let is : z ≡ r = cc in

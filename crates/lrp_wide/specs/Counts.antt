@@ -50,10 +50,10 @@ end_before (a ∷ []) p = is_before a.place p
 end_before (a ∷ (b ∷ atoms)) p = end_before (b ∷ atoms) p
 
 -- this many of the first stand before a place, and none after them does
-pub record IsFirstBehind (atoms : List CountedAtom) (p : Place) (n : ℕ) : Type 0 where
+pub record IsFirstAfter (atoms : List CountedAtom) (p : Place) (n : ℕ) : Type 0 where
   pub bound : n ≤ length atoms
   pub before : AllWithin (λ a. is_before a.place p ≡ true) atoms 0 n
-  pub behind : AllWithin (λ a. is_before a.place p ≡ false) atoms n (length atoms)
+  pub after : AllWithin (λ a. is_before a.place p ≡ false) atoms n (length atoms)
 
 -- the total is below 2^64, and a flag tells of atoms that stand in the order of their places
 pub record AreSummed (atoms : List CountedAtom) (total : ℕ) (is_ascending : Bool) : Type 0 where

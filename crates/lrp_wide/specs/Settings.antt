@@ -61,6 +61,6 @@ abbrev pub forms_then : List RawFormula → RawForm → RawForms
 forms_then [] f = raw f no_raws
 forms_then (g ∷ gs) f = raw (raw_form_of g) (forms_then gs f)
 
-abbrev pub and_behind : Place → List RawFormula → RawForm → RawForm
-and_behind p [] f = f
-and_behind p (g ∷ gs) f = raw_and p (forms_then (g ∷ gs) f)
+abbrev pub and_after : Place → List RawFormula → RawForm → RawForm
+and_after p [] f = f
+and_after p (g ∷ gs) f = raw_and p (forms_then (g ∷ gs) f)

@@ -3,7 +3,7 @@ ghost use Rattle.std.specs.Prelude.{◌≡◌, ◌<◌, ◌+◌, ◌++◌, ◌^�
 ghost use Rattle.lrp_model.specs.RawQueries.{raw_file_of, raw_form_of, raw_forms_of};
 ghost use Rattle.lrp_model.specs.Rows.{columns_in, relation_named};
 ghost use Rattle.lrp_wide.specs.Inlining.{Known, atom_numbers as numbers_of_atom, counted_each, counted_in, meant_by, numbers_before};
-ghost use Rattle.lrp_wide.specs.Counts.{AreAscending, AreRelationsNumbered, AreRowless, IsFirstBehind, counted_of, end_before, file_numbers};
+ghost use Rattle.lrp_wide.specs.Counts.{AreAscending, AreRelationsNumbered, AreRowless, IsFirstAfter, counted_of, end_before, file_numbers};
 ghost use Rattle.lrp_tense.specs.Expanding.{is_before as is_before_of};
 
 use crate::measures::{stars_of, terms_of};
@@ -135,7 +135,7 @@ impl Numbers {
         if !self.is_ascending {
             return sum_before(atoms, place);
         }
-        let first = first_behind(atoms, place);
+        let first = first_after(atoms, place);
         if first == atoms.len() {
             return self.total;
         }
@@ -144,9 +144,9 @@ impl Numbers {
 }
 
 // How many of the atoms, which stand in the order of their places, stand before a place.
-fn first_behind(atoms: &[Counted], place: Place) -> usize
+fn first_after(atoms: &[Counted], place: Place) -> usize
     requires { AreAscending atoms.now }
-    ensures { IsFirstBehind atoms.now place result }
+    ensures { IsFirstAfter atoms.now place result }
 {
     atoms.partition_point(|atom| is_before(atom.place, place))
 }

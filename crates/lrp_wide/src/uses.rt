@@ -4,7 +4,7 @@ ghost use Rattle.lrp_model.specs.RawQueries.{raw_compare, raw_form_of};
 ghost use Rattle.lrp_model.specs.declared.formulas.Op.TheVariants.{Eq};
 ghost use Rattle.lrp_tense.specs.Expanding.{name_term};
 ghost use Rattle.lrp_wide.specs.Inlining.{column_added, some_each as some_each_of};
-ghost use Rattle.lrp_wide.specs.Settings.{and_behind};
+ghost use Rattle.lrp_wide.specs.Settings.{and_after};
 
 use crate::names::NameText;
 use crate::numbering::{Numbers, plus};
@@ -188,7 +188,7 @@ pub fn with_comparisons(
     of: Box<RawFormula>,
 ) -> Result<Box<RawFormula>, Memory>
     ensures { IfOk result (λ made. raw_form_of made.value
-        ≡ and_behind place comparisons.items (raw_form_of of.value)) }
+        ≡ and_after place comparisons.items (raw_form_of of.value)) }
 {
     if comparisons.is_empty() {
         return Ok(of);

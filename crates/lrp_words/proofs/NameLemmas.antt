@@ -9,7 +9,7 @@ use Rattle.std.proofs.lemmas.Bool.Decides.{nat_tests}
 use Rattle.lrp_model.specs.Texts.{Text}
 use Rattle.lrp_model.specs.Tokens.{Token, Tokens}
 use Rattle.lrp_model.specs.Tokens.Token.{name_token, word_token, number_token, text_token, symbol_token, end_token, bad_token, hole_token}
-use Rattle.lrp_model.specs.Lexing.{tokens, start, scan_in, run, behind_run, word_or_name}
+use Rattle.lrp_model.specs.Lexing.{tokens, start, scan_in, run, after_run, word_or_name}
 use Rattle.lrp_model.specs.Limits.{most_bytes}
 use Rattle.lrp_model.specs.Names.{IsName}
 use Rattle.lrp_text.specs.Parsers.{look}
@@ -60,5 +60,5 @@ name_is text ts b e h t = is_name text (ap (spells_name text) (sym e) ∙ sym (s
 
 -- the name that a relation of answers has where none is given
 pub answer_named : IsName (codes "answer")
-unfolding scan_in run behind_run word_or_name
+unfolding scan_in run after_run word_or_name
 answer_named = refl

@@ -8,9 +8,9 @@ syntax case match
 syntax match fizhedulError /[^ \t\r]/
 syntax match fizhedulName /\h\w*/
 syntax match fizhedulRelation /\h\w*\ze\s*(/
-" The word of a temporal operator stands before a name; behind a colon it is a sort.
+" The word of a temporal operator stands before a name; after a colon it is a sort.
 syntax match fizhedulKeyword /\(once\|always\|since\|until\)\ze\s\+\(\(relation\|where\|time\|data\|n\|exists\|forall\|implies\|not\|and\|or\|in\)\w\@!\)\@!\h/
-" So does the word that begins a definition; `as` stands behind the parenthesis of its columns.
+" So does the word that begins a definition; `as` stands after the parenthesis of its columns.
 syntax match fizhedulKeyword /define\ze\s\+\(\(relation\|where\|time\|data\|n\|exists\|forall\|implies\|not\|and\|or\|in\)\w\@!\)\@!\h/
 syntax match fizhedulKeyword /\()\s\?\)\@<=as\w\@!/
 syntax match fizhedulSort /\(:\s*\)\@<=\h\w*/

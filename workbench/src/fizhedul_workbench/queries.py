@@ -46,7 +46,7 @@ def is_definition(text: str) -> bool:
 
 
 def parts_of(text: str) -> list[str]:
-    """A text cut behind each semicolon: definitions, and a query where one comes after them."""
+    """A text cut after each semicolon: definitions, and a query where one comes after them."""
     ends = [found.end() for found in PIECE.finditer(text) if found.group() == ";"]
     cut = [text[begin:end].strip() for begin, end in zip([0, *ends], [*ends, len(text)])]
     return [part for part in cut if pieces(part)]

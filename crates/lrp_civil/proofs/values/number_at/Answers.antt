@@ -1,7 +1,7 @@
 use Rattle.std.proofs.Common.{◌-◌, ◌∙◌, ap, sym, get_or, take, length, arith}
 use Rattle.std.specs.Char.{is_ascii_digit}
 use Rattle.std.specs.List.{list_all}
-use Rattle.lrp_text.proofs.Runs.{behind_shorter}
+use Rattle.lrp_text.proofs.Runs.{after_shorter}
 use Rattle.lrp_calendar.proofs.PartLemmas.{none_is}
 use Rattle.lrp_civil.proofs.PaceLemmas.{digits_are, no_digits, no_large, no_zero, number_found, run_digits}
 use Rattle.lrp_civil.proofs.values.number_at.Goals as goal
@@ -9,7 +9,7 @@ use Rattle.lrp_civil.proofs.values.number_at.Goals as goal
 pub slice_bounds-digits-count : goal.slice_bounds-digits-count
 slice_bounds-digits-count c =
     let is = ap length c.after_digits-rest.ensures in
-    let short = behind_shorter is_ascii_digit c.args.bytes.now in
+    let short = after_shorter is_ascii_digit c.args.bytes.now in
     omega (arith, is, short)
 
 pub written-requires-clause-digits : goal.written-requires-clause-digits

@@ -1,5 +1,5 @@
 -- The bound of one more matrix is taken in.
-use Rattle.lrp_cutting.proofs.Lists.{behind_first, rest_in, first_in, read}
+use Rattle.lrp_cutting.proofs.Lists.{after_first, rest_in, first_in, read}
 use Rattle.lrp_cutting.proofs.WidestLaws.{widest_one, widest_more}
 use Rattle.lrp_cutting.proofs.hull.widest.Goals as goal
 
@@ -23,5 +23,5 @@ bound_of-requires-clause-small c = c.requires.place.small c.matrix-item.result (
 
 pub loop-matrix-preserved : goal.loop-matrix-preserved
 loop-matrix-preserved c =
-    rw (behind_first _ _ _ _ c.matrix-item.result c.in_ok-first.ensures.cases.0 c.loop-matrix-test.true c.matrix-item.is)
+    rw (after_first _ _ _ _ c.matrix-item.result c.in_ok-first.ensures.cases.0 c.loop-matrix-test.true c.matrix-item.is)
     (widest_more _ c.matrix-item.result _ _ _ _ _ c.loop-matrix.invariant c.bound_of.ensures c.wider-widest.ensures)

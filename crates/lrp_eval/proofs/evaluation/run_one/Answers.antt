@@ -8,7 +8,7 @@ use Rattle.lrp_eval.proofs.evaluation.run_one.Goals as goal
 
 pub returns-in-Err-clause-fault : goal.returns-in-Err-clause-fault
 returns-in-Err-clause-fault c = λ step e planned q h run.
-    let x = c.fault_behind.ensures step e in
+    let x = c.fault_after.ensures step e in
     let m : ManyAt planned c.args.database.now q c.args.setting.now.cap (suc (length c.args.tables)) = (c.run_growing.ensures.run planned q h run).many (c.in-Err.is ∙ ap Err x.0) in
     subst (λ k. IsFirstMany planned c.args.database.now q c.args.setting.now.cap k) (sym (x.1 ∙ ap suc c.len-count.ensures)) (first_many planned c.args.database.now q c.args.setting.now.cap c.args.tables run m)
 

@@ -6,7 +6,7 @@ use Rattle.lrp_eval.proofs.groups.parts_of.Goals as goal
 
 pub returns-then-place-before : goal.returns-then-place-before
 returns-then-place-before c = inr (record {
-  behind = omega (arith, c.if-place-before.true, c.requires.low);
+  after = omega (arith, c.if-place-before.true, c.requires.low);
   at = subst (λ (ps : List Table). slice_get c.args.made.now (c.args.number - 1 - length c.args.group.now.tables.now) ≡ Some ps) (sym c.as_slice.ensures) c.at.ensures;
 })
 

@@ -5,7 +5,7 @@ use Rattle.lrp_model.specs.declared.tuples.Cell.{Cell}
 use Rattle.std.specs.Int.{w64}
 use Rattle.std.proofs.lemmas.Int.{ints}
 use Rattle.lrp_minus.specs.Absences.{IsAbsentAt, IsChosenTo}
-use Rattle.lrp_minus.proofs.AbsenceLaws.{IsBehind, filling_on, period_word, next_word, behind_none, residue_chosen, residue_more, residue_refused}
+use Rattle.lrp_minus.proofs.AbsenceLaws.{IsPastResidue, filling_on, period_word, next_word, after_none, residue_chosen, residue_more, residue_refused}
 use Rattle.lrp_tables.proofs.Gathering.{IsGathering, gathering_none}
 use Rattle.lrp_minus.specs.Counts.{GrowsIn, most_left}
 use Rattle.lrp_minus.proofs.Growth.{HasResidueBefore, grows_not, residues_chosen, residues_last, residues_next}
@@ -17,8 +17,8 @@ loop-residue-init t c =
     let columns : c.from-columns.result ≡ c.args.absences.now.store.now.shape.times = c.from-columns.ensures ∙ ap (λ s. s.times) c.shape.ensures.value in
     let low : c.args.column < c.args.absences.now.store.now.shape.times = omega (arith, c.requires.column, columns, c.if-column-columns.false) in (
       omega (arith, ints),
-      λ high r. gathering_none (IsAbsentAt c.args.absences.now.store.now c.args.column c.args.cell.now) c.args.absences.now.cap (high + 2 * c.args.absences.now.store.now.period) c.args.out.now (IsBehind c.args.absences.now.store.now.period c.args.column (pos 0)) c.requires.fill.valid
-          (behind_none c.args.absences.now.store.now c.requires.fill.store c.args.column c.args.cell.now c.requires.chosen low),
+      λ high r. gathering_none (IsAbsentAt c.args.absences.now.store.now c.args.column c.args.cell.now) c.args.absences.now.cap (high + 2 * c.args.absences.now.store.now.period) c.args.out.now (IsPastResidue c.args.absences.now.store.now.period c.args.column (pos 0)) c.requires.fill.valid
+          (after_none c.args.absences.now.store.now c.requires.fill.store c.args.column c.args.cell.now c.requires.chosen low),
       grows_not (HasResidueBefore c.args.column c.args.cell.now (pos 0)) (most_left c.args.absences.now.store.now) c.args.out.now,
     )
 
@@ -55,7 +55,7 @@ loop-residue-preserved t c =
     let below : to_z w64 c.loop-residue.residue-bits <ℤ pos c.args.absences.now.store.now.period = omega (arith, ints, end, c.loop-residue-test.true) in
     let next = next_word c.args.absences.now.store.now c.requires.fill.store (to_z w64 c.loop-residue.residue-bits) c.loop-residue.invariant.0 below in (
       next.1,
-      λ high r. subst (λ (e : ℤ). IsGathering (IsAbsentAt c.args.absences.now.store.now c.args.column c.args.cell.now) (IsBehind c.args.absences.now.store.now.period c.args.column e) c.args.absences.now.cap (high + 2 * c.args.absences.now.store.now.period) c.args.out.now c.fill_residues.new.out) (sym next.0)
+      λ high r. subst (λ (e : ℤ). IsGathering (IsAbsentAt c.args.absences.now.store.now c.args.column c.args.cell.now) (IsPastResidue c.args.absences.now.store.now.period c.args.column e) c.args.absences.now.cap (high + 2 * c.args.absences.now.store.now.period) c.args.out.now c.fill_residues.new.out) (sym next.0)
           (residue_more c.args.absences.now.store.now c.requires.fill.store c.args.column c.args.cell.now c.requires.chosen low (to_z w64 c.loop-residue.residue-bits) c.args.absences.now.cap (high + 2 * c.args.absences.now.store.now.period) c.args.out.now c.loop-residue.out c.fill_residues.new.out c.with_residue-next.result c.with_residue-next.ensures
           (c.loop-residue.invariant.1 high r) (c.in-Ok.ensures.ok high r)),
       subst (λ (e : ℤ). GrowsIn (HasResidueBefore c.args.column c.args.cell.now e) (most_left c.args.absences.now.store.now) c.args.out.now c.fill_residues.new.out) (sym next.0)

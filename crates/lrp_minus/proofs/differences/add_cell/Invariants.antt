@@ -4,10 +4,10 @@ use Rattle.lrp_store.specs.Stores.{HasReach, zones_at}
 use Rattle.lrp_minus.specs.Cutters.{IsSparedIn}
 use Rattle.lrp_tables.proofs.Gathering.{IsGathering}
 use Rattle.lrp_cutting.proofs.Lists.{IsReadTo}
-use Rattle.lrp_minus.proofs.SparedLaws.{IsBehindZone}
+use Rattle.lrp_minus.proofs.SparedLaws.{IsAfterZone}
 use Rattle.lrp_minus.proofs.differences.add_cell.Given as goal
 
 abbrev pub invariant-loop-zone : goal.invariant-loop-zone
 invariant-loop-zone l =
-    IsReadTo (λ i. (l.out.shape ≡ l.initial.out.shape) × (l.out.period ≡ l.initial.out.period) × ((high : ℕ) → HasReach l.difference.left.now high → HasReach l.difference.right.now high → IsGathering (IsSparedIn l.difference.places.now l.difference.left.now l.cell l.difference.right.now) (IsBehindZone (zones_at l.difference.left.now l.cell) i) l.difference.cap (high + 2 * l.initial.out.period) l.initial.out l.out))
+    IsReadTo (λ i. (l.out.shape ≡ l.initial.out.shape) × (l.out.period ≡ l.initial.out.period) × ((high : ℕ) → HasReach l.difference.left.now high → HasReach l.difference.right.now high → IsGathering (IsSparedIn l.difference.places.now l.difference.left.now l.cell l.difference.right.now) (IsAfterZone (zones_at l.difference.left.now l.cell) i) l.difference.cap (high + 2 * l.initial.out.period) l.initial.out l.out))
     (zones_at l.difference.left.now l.cell) l.zone-iterator

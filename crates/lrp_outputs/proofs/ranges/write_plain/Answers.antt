@@ -1,7 +1,7 @@
 -- The ends, and then a line feed.
 use Rattle.std.proofs.Common.{SFits, rules, w64, codes}
 use Rattle.std.proofs.lemmas.Result.{err_from_is_err_and}
-use Rattle.lrp_io.proofs.PieceLemmas.{front_before, written_behind, written_err}
+use Rattle.lrp_io.proofs.PieceLemmas.{front_before, written_after, written_err}
 use Rattle.lrp_print.proofs.Lines.{front_as, ok_as}
 use Rattle.lrp_model.specs.Printed.{joined_by}
 use Rattle.lrp_outputs.specs.RangeLines.{end_bytes, range_ends}
@@ -25,4 +25,4 @@ returns-clause-text g c =
     let low : SFits w64 range.from = search rules in
     let high : SFits w64 range.to = search rules in
     let both = joined_by (codes ", ") (end_bytes ends.civil ends.json) (range_ends range) in
-    written_behind _ _ _ both (codes "\n") _ (ok_as _ _ _ _ (ends_by_words ends.civil ends.json (codes ", ") range low high) c.in_ok-write_joined.ensures.text) c.write_bytes.ensures.text
+    written_after _ _ _ both (codes "\n") _ (ok_as _ _ _ _ (ends_by_words ends.civil ends.json (codes ", ") range low high) c.in_ok-write_joined.ensures.text) c.write_bytes.ensures.text

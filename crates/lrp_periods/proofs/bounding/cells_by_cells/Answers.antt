@@ -2,7 +2,7 @@
 use Rattle.std.proofs.Common.{◌≡◌, ◌*◌, ◌^◌, sym, ap, subst, ◌∙◌, arith}
 use Rattle.std.specs.FinMap as finite
 use Rattle.lrp_tables.specs.Caps.{InhabitsMoreThan}
-use Rattle.lrp_tables.specs.Tables.{Has}
+use Rattle.lrp_tables.specs.Tables.{HasAssignment}
 use Rattle.lrp_periods.proofs.WayLaws.{few_of_table, none_more, one_more}
 use Rattle.lrp_periods.proofs.bounding.cells_by_cells.Goals as goal
 
@@ -17,4 +17,4 @@ returns-then-bound-cap-clause-few c = λ domain ascends numbered m.
     let t : c.loop-turn.turn ≡ c.args.table.now.store.shape.times = (let v = ap (λ s. s.times) c.shape-shape.ensures.value in omega (arith, v, c.loop-turn-test.false, c.loop-turn.auto.turn-end)) in
     few_of_table domain ascends c.args.table.now c.shape-shape.ensures.valid numbered c.ways_of-ways.result c.loop-turn.bound c.ways_of-ways.ensures.some
     (let e = c.loop-turn.invariant ∙ ap (λ i. finite.len c.args.table.now.store.tables * c.ways_of-ways.result ^ i) t in omega (arith, e, c.if-bound-cap.true))
-    (subst (λ k. InhabitsMoreThan c.loop-turn.bound domain k c.args.table.now.vars.times c.args.table.now.vars.texts (Has c.args.table.now domain)) (sym c.ways_of-ways.ensures.value) m)
+    (subst (λ k. InhabitsMoreThan c.loop-turn.bound domain k c.args.table.now.vars.times c.args.table.now.vars.texts (HasAssignment c.args.table.now domain)) (sym c.ways_of-ways.ensures.value) m)

@@ -1,7 +1,7 @@
 -- One right part after another is taken away.
 use Rattle.std.proofs.Common.{arith}
 use Rattle.std.specs.Prelude.{◌≤◌, length}
-use Rattle.lrp_tables.specs.Tables.{Has}
+use Rattle.lrp_tables.specs.Tables.{HasAssignment}
 use Rattle.lrp_cutting.proofs.Lists.{read}
 use Rattle.lrp_periods.specs.Parts.{HasSome, IsPartOfSet}
 use Rattle.lrp_periods.specs.Sets.{IsDifferenceOf}
@@ -23,5 +23,5 @@ pub loop-place-preserved : goal.loop-place-preserved
 loop-place-preserved c = leaves_more (take_word c.requires) c.loop-place.place c.index-rights-place.result c.loop-place-test.true c.index-rights-place.is c.loop-place.invariant c.in_ok-less.ensures
 
 pub returns : goal.returns
-returns c = of_word c.requires.period_is (λ p. IsPartOfSet c.args.setting.now.domain.now c.args.left.now.vars.times c.args.left.now.vars.texts p (IsDifferenceOf (Has c.args.left.now c.args.setting.now.domain.now) (HasSome c.args.setting.now.domain.now c.args.rights.now)) c.loop-place.made)
+returns c = of_word c.requires.period_is (λ p. IsPartOfSet c.args.setting.now.domain.now c.args.left.now.vars.times c.args.left.now.vars.texts p (IsDifferenceOf (HasAssignment c.args.left.now c.args.setting.now.domain.now) (HasSome c.args.setting.now.domain.now c.args.rights.now)) c.loop-place.made)
     (leaves_all (take_word c.requires) c.loop-place.place (let l : length c.args.rights.now ≤ c.loop-place.place = omega (arith, c.loop-place-test.false) in l) c.loop-place.invariant)

@@ -1,21 +1,21 @@
 use Rattle.std.proofs.Common.{◌++◌, codes}
 use Rattle.std.specs.Fmt.{decimal}
 use Rattle.std.proofs.lemmas.Result.{err_from_is_err_and}
-use Rattle.lrp_io.proofs.PieceLemmas.{written_behind, written_err, front_behind, front_before}
+use Rattle.lrp_io.proofs.PieceLemmas.{written_after, written_err, front_after, front_before}
 use Rattle.lrp_print.proofs.plans.write_operands.Goals as goal
 
 pub returns-in_err-write_number-clause-text : goal.returns-in_err-write_number-clause-text
 returns-in_err-write_number-clause-text g c =
     let p = err_from_is_err_and c.from_residual-in_err-write_number.result c.from_residual-in_err-write_number.ensures.1 in
     written_err _ _ (c.args.word.now ++ ((decimal c.args.left) ++ ((codes " ") ++ (decimal c.args.right)))) _ p.0 p.1
-    (front_behind _ _ _ c.args.word.now ((decimal c.args.left) ++ ((codes " ") ++ (decimal c.args.right))) c.in_ok-write_bytes.ensures.text (front_before _ _ (decimal c.args.left) ((codes " ") ++ (decimal c.args.right)) c.in_err-write_number.ensures.text))
+    (front_after _ _ _ c.args.word.now ((decimal c.args.left) ++ ((codes " ") ++ (decimal c.args.right))) c.in_ok-write_bytes.ensures.text (front_before _ _ (decimal c.args.left) ((codes " ") ++ (decimal c.args.right)) c.in_err-write_number.ensures.text))
 
 pub returns-in_err-write_bytes-2-clause-text : goal.returns-in_err-write_bytes-2-clause-text
 returns-in_err-write_bytes-2-clause-text g c =
     let p = err_from_is_err_and c.from_residual-in_err-write_bytes-2.result c.from_residual-in_err-write_bytes-2.ensures.1 in
     written_err _ _ (c.args.word.now ++ ((decimal c.args.left) ++ ((codes " ") ++ (decimal c.args.right)))) _ p.0 p.1
-    (front_behind _ _ _ c.args.word.now ((decimal c.args.left) ++ ((codes " ") ++ (decimal c.args.right))) c.in_ok-write_bytes.ensures.text (front_behind _ _ _ (decimal c.args.left) ((codes " ") ++ (decimal c.args.right)) c.in_ok-write_number.ensures.text (front_before _ _ (codes " ") (decimal c.args.right) c.in_err-write_bytes-2.ensures.text)))
+    (front_after _ _ _ c.args.word.now ((decimal c.args.left) ++ ((codes " ") ++ (decimal c.args.right))) c.in_ok-write_bytes.ensures.text (front_after _ _ _ (decimal c.args.left) ((codes " ") ++ (decimal c.args.right)) c.in_ok-write_number.ensures.text (front_before _ _ (codes " ") (decimal c.args.right) c.in_err-write_bytes-2.ensures.text)))
 
 pub returns-clause-text : goal.returns-clause-text
 returns-clause-text g c =
-    written_behind _ _ _ c.args.word.now ((decimal c.args.left) ++ ((codes " ") ++ (decimal c.args.right))) _ c.in_ok-write_bytes.ensures.text (written_behind _ _ _ (decimal c.args.left) ((codes " ") ++ (decimal c.args.right)) _ c.in_ok-write_number.ensures.text (written_behind _ _ _ (codes " ") (decimal c.args.right) _ c.in_ok-write_bytes-2.ensures.text c.write_number-2.ensures.text))
+    written_after _ _ _ c.args.word.now ((decimal c.args.left) ++ ((codes " ") ++ (decimal c.args.right))) _ c.in_ok-write_bytes.ensures.text (written_after _ _ _ (decimal c.args.left) ((codes " ") ++ (decimal c.args.right)) _ c.in_ok-write_number.ensures.text (written_after _ _ _ (codes " ") (decimal c.args.right) _ c.in_ok-write_bytes-2.ensures.text c.write_number-2.ensures.text))

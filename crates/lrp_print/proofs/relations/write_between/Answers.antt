@@ -1,7 +1,7 @@
 use Rattle.std.proofs.Common.{◌++◌, codes}
 use Rattle.std.proofs.lemmas.Result.{err_from_is_err_and}
 use Rattle.lrp_model.specs.Printed.{time_name, offset_bytes}
-use Rattle.lrp_io.proofs.PieceLemmas.{written_behind, written_err, front_behind, front_before}
+use Rattle.lrp_io.proofs.PieceLemmas.{written_after, written_err, front_after, front_before}
 use Rattle.lrp_print.proofs.Lines.{ok_as, front_as}
 use Rattle.lrp_print.proofs.relations.write_between.Goals as goal
 
@@ -13,12 +13,12 @@ returns-in_err-write_bytes-clause-text g c =
 pub returns-in_err-write_bytes-2-clause-text : goal.returns-in_err-write_bytes-2-clause-text
 returns-in_err-write_bytes-2-clause-text g c =
     let p = err_from_is_err_and c.from_residual-in_err-write_bytes-2.result c.from_residual-in_err-write_bytes-2.ensures.1 in
-    written_err _ _ (time_name c.args.columns.now c.args.bound.now.left ++ (codes " <= " ++ (time_name c.args.columns.now c.args.bound.now.right ++ offset_bytes c.args.bound.now.most))) _ p.0 p.1 (front_behind _ _ _ (time_name c.args.columns.now c.args.bound.now.left) (codes " <= " ++ (time_name c.args.columns.now c.args.bound.now.right ++ (offset_bytes c.args.bound.now.most))) (ok_as _ _ _ _ c.name_of_time.ensures c.in_ok-write_bytes.ensures.text) (front_before _ _ (codes " <= ") (time_name c.args.columns.now c.args.bound.now.right ++ (offset_bytes c.args.bound.now.most)) c.in_err-write_bytes-2.ensures.text))
+    written_err _ _ (time_name c.args.columns.now c.args.bound.now.left ++ (codes " <= " ++ (time_name c.args.columns.now c.args.bound.now.right ++ offset_bytes c.args.bound.now.most))) _ p.0 p.1 (front_after _ _ _ (time_name c.args.columns.now c.args.bound.now.left) (codes " <= " ++ (time_name c.args.columns.now c.args.bound.now.right ++ (offset_bytes c.args.bound.now.most))) (ok_as _ _ _ _ c.name_of_time.ensures c.in_ok-write_bytes.ensures.text) (front_before _ _ (codes " <= ") (time_name c.args.columns.now c.args.bound.now.right ++ (offset_bytes c.args.bound.now.most)) c.in_err-write_bytes-2.ensures.text))
 
 pub returns-in_err-write_bytes-3-clause-text : goal.returns-in_err-write_bytes-3-clause-text
 returns-in_err-write_bytes-3-clause-text g c =
     let p = err_from_is_err_and c.from_residual-in_err-write_bytes-3.result c.from_residual-in_err-write_bytes-3.ensures.1 in
-    written_err _ _ (time_name c.args.columns.now c.args.bound.now.left ++ (codes " <= " ++ (time_name c.args.columns.now c.args.bound.now.right ++ offset_bytes c.args.bound.now.most))) _ p.0 p.1 (front_behind _ _ _ (time_name c.args.columns.now c.args.bound.now.left) (codes " <= " ++ (time_name c.args.columns.now c.args.bound.now.right ++ (offset_bytes c.args.bound.now.most))) (ok_as _ _ _ _ c.name_of_time.ensures c.in_ok-write_bytes.ensures.text) (front_behind _ _ _ (codes " <= ") (time_name c.args.columns.now c.args.bound.now.right ++ (offset_bytes c.args.bound.now.most)) c.in_ok-write_bytes-2.ensures.text (front_before _ _ (time_name c.args.columns.now c.args.bound.now.right) (offset_bytes c.args.bound.now.most) (front_as _ _ _ _ c.name_of_time-2.ensures c.in_err-write_bytes-3.ensures.text))))
+    written_err _ _ (time_name c.args.columns.now c.args.bound.now.left ++ (codes " <= " ++ (time_name c.args.columns.now c.args.bound.now.right ++ offset_bytes c.args.bound.now.most))) _ p.0 p.1 (front_after _ _ _ (time_name c.args.columns.now c.args.bound.now.left) (codes " <= " ++ (time_name c.args.columns.now c.args.bound.now.right ++ (offset_bytes c.args.bound.now.most))) (ok_as _ _ _ _ c.name_of_time.ensures c.in_ok-write_bytes.ensures.text) (front_after _ _ _ (codes " <= ") (time_name c.args.columns.now c.args.bound.now.right ++ (offset_bytes c.args.bound.now.most)) c.in_ok-write_bytes-2.ensures.text (front_before _ _ (time_name c.args.columns.now c.args.bound.now.right) (offset_bytes c.args.bound.now.most) (front_as _ _ _ _ c.name_of_time-2.ensures c.in_err-write_bytes-3.ensures.text))))
 
 pub returns-clause-text : goal.returns-clause-text
-returns-clause-text g c = written_behind _ _ _ (time_name c.args.columns.now c.args.bound.now.left) (codes " <= " ++ (time_name c.args.columns.now c.args.bound.now.right ++ (offset_bytes c.args.bound.now.most))) _ (ok_as _ _ _ _ c.name_of_time.ensures c.in_ok-write_bytes.ensures.text) (written_behind _ _ _ (codes " <= ") (time_name c.args.columns.now c.args.bound.now.right ++ (offset_bytes c.args.bound.now.most)) _ c.in_ok-write_bytes-2.ensures.text (written_behind _ _ _ (time_name c.args.columns.now c.args.bound.now.right) (offset_bytes c.args.bound.now.most) _ (ok_as _ _ _ _ c.name_of_time-2.ensures c.in_ok-write_bytes-3.ensures.text) (c.write_offset.ensures.text)))
+returns-clause-text g c = written_after _ _ _ (time_name c.args.columns.now c.args.bound.now.left) (codes " <= " ++ (time_name c.args.columns.now c.args.bound.now.right ++ (offset_bytes c.args.bound.now.most))) _ (ok_as _ _ _ _ c.name_of_time.ensures c.in_ok-write_bytes.ensures.text) (written_after _ _ _ (codes " <= ") (time_name c.args.columns.now c.args.bound.now.right ++ (offset_bytes c.args.bound.now.most)) _ c.in_ok-write_bytes-2.ensures.text (written_after _ _ _ (time_name c.args.columns.now c.args.bound.now.right) (offset_bytes c.args.bound.now.most) _ (ok_as _ _ _ _ c.name_of_time-2.ensures c.in_ok-write_bytes-3.ensures.text) (c.write_offset.ensures.text)))

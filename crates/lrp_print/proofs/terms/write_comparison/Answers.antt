@@ -1,27 +1,27 @@
 use Rattle.std.proofs.Common.{◌++◌, codes}
 use Rattle.lrp_model.specs.PrintedPlans.{time_bytes, op_bytes}
 use Rattle.std.proofs.lemmas.Result.{err_from_is_err_and}
-use Rattle.lrp_io.proofs.PieceLemmas.{written_behind, written_err, front_behind, front_before}
+use Rattle.lrp_io.proofs.PieceLemmas.{written_after, written_err, front_after, front_before}
 use Rattle.lrp_print.proofs.terms.write_comparison.Goals as goal
 
 pub returns-in_err-write_bytes-clause-text : goal.returns-in_err-write_bytes-clause-text
 returns-in_err-write_bytes-clause-text g c =
     let p = err_from_is_err_and c.from_residual-in_err-write_bytes.result c.from_residual-in_err-write_bytes.ensures.1 in
     written_err _ _ ((time_bytes c.args.left.now) ++ ((codes " ") ++ ((op_bytes c.args.op) ++ ((codes " ") ++ (time_bytes c.args.right.now))))) _ p.0 p.1
-    (front_behind _ _ _ (time_bytes c.args.left.now) ((codes " ") ++ ((op_bytes c.args.op) ++ ((codes " ") ++ (time_bytes c.args.right.now)))) c.in_ok-write_time.ensures.text (front_before _ _ (codes " ") ((op_bytes c.args.op) ++ ((codes " ") ++ (time_bytes c.args.right.now))) c.in_err-write_bytes.ensures.text))
+    (front_after _ _ _ (time_bytes c.args.left.now) ((codes " ") ++ ((op_bytes c.args.op) ++ ((codes " ") ++ (time_bytes c.args.right.now)))) c.in_ok-write_time.ensures.text (front_before _ _ (codes " ") ((op_bytes c.args.op) ++ ((codes " ") ++ (time_bytes c.args.right.now))) c.in_err-write_bytes.ensures.text))
 
 pub returns-in_err-write_op-clause-text : goal.returns-in_err-write_op-clause-text
 returns-in_err-write_op-clause-text g c =
     let p = err_from_is_err_and c.from_residual-in_err-write_op.result c.from_residual-in_err-write_op.ensures.1 in
     written_err _ _ ((time_bytes c.args.left.now) ++ ((codes " ") ++ ((op_bytes c.args.op) ++ ((codes " ") ++ (time_bytes c.args.right.now))))) _ p.0 p.1
-    (front_behind _ _ _ (time_bytes c.args.left.now) ((codes " ") ++ ((op_bytes c.args.op) ++ ((codes " ") ++ (time_bytes c.args.right.now)))) c.in_ok-write_time.ensures.text (front_behind _ _ _ (codes " ") ((op_bytes c.args.op) ++ ((codes " ") ++ (time_bytes c.args.right.now))) c.in_ok-write_bytes.ensures.text (front_before _ _ (op_bytes c.args.op) ((codes " ") ++ (time_bytes c.args.right.now)) c.in_err-write_op.ensures.text)))
+    (front_after _ _ _ (time_bytes c.args.left.now) ((codes " ") ++ ((op_bytes c.args.op) ++ ((codes " ") ++ (time_bytes c.args.right.now)))) c.in_ok-write_time.ensures.text (front_after _ _ _ (codes " ") ((op_bytes c.args.op) ++ ((codes " ") ++ (time_bytes c.args.right.now))) c.in_ok-write_bytes.ensures.text (front_before _ _ (op_bytes c.args.op) ((codes " ") ++ (time_bytes c.args.right.now)) c.in_err-write_op.ensures.text)))
 
 pub returns-in_err-write_bytes-2-clause-text : goal.returns-in_err-write_bytes-2-clause-text
 returns-in_err-write_bytes-2-clause-text g c =
     let p = err_from_is_err_and c.from_residual-in_err-write_bytes-2.result c.from_residual-in_err-write_bytes-2.ensures.1 in
     written_err _ _ ((time_bytes c.args.left.now) ++ ((codes " ") ++ ((op_bytes c.args.op) ++ ((codes " ") ++ (time_bytes c.args.right.now))))) _ p.0 p.1
-    (front_behind _ _ _ (time_bytes c.args.left.now) ((codes " ") ++ ((op_bytes c.args.op) ++ ((codes " ") ++ (time_bytes c.args.right.now)))) c.in_ok-write_time.ensures.text (front_behind _ _ _ (codes " ") ((op_bytes c.args.op) ++ ((codes " ") ++ (time_bytes c.args.right.now))) c.in_ok-write_bytes.ensures.text (front_behind _ _ _ (op_bytes c.args.op) ((codes " ") ++ (time_bytes c.args.right.now)) c.in_ok-write_op.ensures.text (front_before _ _ (codes " ") (time_bytes c.args.right.now) c.in_err-write_bytes-2.ensures.text))))
+    (front_after _ _ _ (time_bytes c.args.left.now) ((codes " ") ++ ((op_bytes c.args.op) ++ ((codes " ") ++ (time_bytes c.args.right.now)))) c.in_ok-write_time.ensures.text (front_after _ _ _ (codes " ") ((op_bytes c.args.op) ++ ((codes " ") ++ (time_bytes c.args.right.now))) c.in_ok-write_bytes.ensures.text (front_after _ _ _ (op_bytes c.args.op) ((codes " ") ++ (time_bytes c.args.right.now)) c.in_ok-write_op.ensures.text (front_before _ _ (codes " ") (time_bytes c.args.right.now) c.in_err-write_bytes-2.ensures.text))))
 
 pub returns-clause-text : goal.returns-clause-text
 returns-clause-text g c =
-    written_behind _ _ _ (time_bytes c.args.left.now) ((codes " ") ++ ((op_bytes c.args.op) ++ ((codes " ") ++ (time_bytes c.args.right.now)))) _ c.in_ok-write_time.ensures.text (written_behind _ _ _ (codes " ") ((op_bytes c.args.op) ++ ((codes " ") ++ (time_bytes c.args.right.now))) _ c.in_ok-write_bytes.ensures.text (written_behind _ _ _ (op_bytes c.args.op) ((codes " ") ++ (time_bytes c.args.right.now)) _ c.in_ok-write_op.ensures.text (written_behind _ _ _ (codes " ") (time_bytes c.args.right.now) _ c.in_ok-write_bytes-2.ensures.text c.write_time-2.ensures.text)))
+    written_after _ _ _ (time_bytes c.args.left.now) ((codes " ") ++ ((op_bytes c.args.op) ++ ((codes " ") ++ (time_bytes c.args.right.now)))) _ c.in_ok-write_time.ensures.text (written_after _ _ _ (codes " ") ((op_bytes c.args.op) ++ ((codes " ") ++ (time_bytes c.args.right.now))) _ c.in_ok-write_bytes.ensures.text (written_after _ _ _ (op_bytes c.args.op) ((codes " ") ++ (time_bytes c.args.right.now)) _ c.in_ok-write_op.ensures.text (written_after _ _ _ (codes " ") (time_bytes c.args.right.now) _ c.in_ok-write_bytes-2.ensures.text c.write_time-2.ensures.text)))

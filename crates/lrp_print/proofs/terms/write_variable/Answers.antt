@@ -1,7 +1,7 @@
 use Rattle.std.proofs.Common.{◌++◌}
 use Rattle.lrp_model.specs.Printed.{offset_bytes}
 use Rattle.std.proofs.lemmas.Result.{err_from_is_err_and}
-use Rattle.lrp_io.proofs.PieceLemmas.{written_behind, written_err, front_before}
+use Rattle.lrp_io.proofs.PieceLemmas.{written_after, written_err, front_before}
 use Rattle.lrp_print.proofs.Lines.{ok_as, front_as}
 use Rattle.lrp_print.proofs.terms.write_variable.Goals as goal
 
@@ -13,4 +13,4 @@ returns-in_err-write_bytes-clause-text g c =
 
 pub returns-clause-text : goal.returns-clause-text
 returns-clause-text g c =
-    written_behind _ _ _ c.args.name.now (offset_bytes c.args.plus.now) _ (ok_as _ _ _ _ c.as_bytes.ensures c.in_ok-write_bytes.ensures.text) c.write_offset.ensures.text
+    written_after _ _ _ c.args.name.now (offset_bytes c.args.plus.now) _ (ok_as _ _ _ _ c.as_bytes.ensures c.in_ok-write_bytes.ensures.text) c.write_offset.ensures.text

@@ -10,12 +10,12 @@ use Rattle.lrp_text.specs.ColumnRule.{column}
 use Rattle.lrp_text.proofs.Turns.{more_below, last_below, none_below, lifts}
 use Rattle.lrp_query.specs.declared.starts.Start.TheVariants.{Not as by_not, Exists as by_exists, Forall as by_forall, Open as by_open, Name as by_name, Term as by_term}
 use Rattle.lrp_query.specs.declared.words.Leading.TheVariants.{OfRange, OfPair}
-use Rattle.lrp_query.specs.Rules.{named, negated, existing, holding, enclosed, behind_first, implying, conjoined, disjoined, both, either, chained, whole, closed_whole, member_of, quantified, binders_rule}
+use Rattle.lrp_query.specs.Rules.{named, negated, existing, holding, enclosed, after_first, implying, conjoined, disjoined, both, either, chained, whole, closed_whole, member_of, quantified, binders_rule}
 use Rattle.lrp_query.specs.OperatorRules.{closed_by, ranged_parts, paired_parts}
 use Rattle.lrp_query.specs.Grammars.{meant, operators_in, formula_in, formulas_in, part_in, whole_in, word_in, joined_of, quantified_by}
 use Rattle.lrp_query.specs.Reading.{ReadsAs}
 use Rattle.lrp_query.proofs.Started.{started_in, cut_in}
-use Rattle.lrp_query.proofs.Parts.{narrow_part, wide_part, narrow_existing, wide_existing, unread_existing, narrow_holding, wide_holding, unread_holding, narrow_enclosed, wide_enclosed, unread_enclosed, plain_behind_at, range_behind_at, pair_behind_at, none_behind_at}
+use Rattle.lrp_query.proofs.Parts.{narrow_part, wide_part, narrow_existing, wide_existing, unread_existing, narrow_holding, wide_holding, unread_holding, narrow_enclosed, wide_enclosed, unread_enclosed, plain_after_at, range_after_at, pair_after_at, none_after_at}
 use Rattle.lrp_query.proofs.Chains.{chain_cut, chain_unread, chain_ends, chain_goes, chain_fails}
 use Rattle.lrp_query.proofs.Places.{bare_is, implied_is}
 use Rattle.lrp_query.proofs.formulas.+reading.Goals as goal
@@ -80,26 +80,26 @@ pub read_named-returns-clause-value : goal.read_named-returns-clause-value
 unfolding named
 read_named-returns-clause-value g t c = λ turns lt.
     let fewer : length c.name.new.self < turns = omega (arith, c.in_ok-name.ensures.fewer, lt) in
-    rw c.in_ok-name.ensures.value (c.read_behind.ensures.value turns fewer)
+    rw c.in_ok-name.ensures.value (c.read_after.ensures.value turns fewer)
 
-pub read_behind_first-returns-then-eat_word-clause-value : goal.read_behind_first-returns-then-eat_word-clause-value
-unfolding behind_first
-read_behind_first-returns-then-eat_word-clause-value g t c = λ turns lt.
+pub read_after_first-returns-then-eat_word-clause-value : goal.read_after_first-returns-then-eat_word-clause-value
+unfolding after_first
+read_after_first-returns-then-eat_word-clause-value g t c = λ turns lt.
     let goes : eat (is_word Implies) c.args.tokens.now ≡ Ok (true, c.eat_word.new.self) = c.eat_word.ensures.value ∙ ap (λ b. Ok (b, c.eat_word.new.self)) c.if-eat_word.true in
     let less : length c.eat_word.new.self < turns = omega (arith, c.eat_word.ensures.shorter, lt) in
     rw goes (c.read_implication.ensures.value turns less)
 
-pub read_behind_first-returns-then-eat_word-2-clause-value : goal.read_behind_first-returns-then-eat_word-2-clause-value
-unfolding behind_first
-read_behind_first-returns-then-eat_word-2-clause-value g t c = λ turns lt.
+pub read_after_first-returns-then-eat_word-2-clause-value : goal.read_after_first-returns-then-eat_word-2-clause-value
+unfolding after_first
+read_after_first-returns-then-eat_word-2-clause-value g t c = λ turns lt.
     let first : eat (is_word Implies) c.args.tokens.now ≡ Ok (false, c.eat_word.new.self) = c.eat_word.ensures.value ∙ ap (λ b. Ok (b, c.eat_word.new.self)) c.if-eat_word.false in
     let goes : eat (is_word And) c.eat_word.new.self ≡ Ok (true, c.eat_word-2.new.self) = c.eat_word-2.ensures.value ∙ ap (λ b. Ok (b, c.eat_word-2.new.self)) c.if-eat_word-2.true in
     let less : length c.eat_word-2.new.self < turns = omega (arith, c.eat_word.ensures.shorter, c.eat_word-2.ensures.shorter, lt) in
     rw (first, goes) (c.read_conjunction.ensures.value turns less)
 
-pub read_behind_first-returns-then-eat_word-3-clause-value : goal.read_behind_first-returns-then-eat_word-3-clause-value
-unfolding behind_first
-read_behind_first-returns-then-eat_word-3-clause-value g t c = λ turns lt.
+pub read_after_first-returns-then-eat_word-3-clause-value : goal.read_after_first-returns-then-eat_word-3-clause-value
+unfolding after_first
+read_after_first-returns-then-eat_word-3-clause-value g t c = λ turns lt.
     let first : eat (is_word Implies) c.args.tokens.now ≡ Ok (false, c.eat_word.new.self) = c.eat_word.ensures.value ∙ ap (λ b. Ok (b, c.eat_word.new.self)) c.if-eat_word.false in
     let second : eat (is_word And) c.eat_word.new.self ≡ Ok (false, c.eat_word-2.new.self) = c.eat_word-2.ensures.value ∙ ap (λ b. Ok (b, c.eat_word-2.new.self)) c.if-eat_word-2.false in
     let goes : eat (is_word Or) c.eat_word-2.new.self ≡ Ok (true, c.eat_word-3.new.self) = c.eat_word-3.ensures.value ∙ ap (λ b. Ok (b, c.eat_word-3.new.self)) c.if-eat_word-3.true in
@@ -202,7 +202,7 @@ read_enclosed-returns-clause-value g t c = λ turns lt.
     let is : is_wide g.G.Grammar.language ≡ false = sym c.is_wide.ensures ∙ c.if-is_wide.false in
     let fewer : length c.expect.new.self < turns = omega (arith, c.in_ok-expect.ensures.fewer, lt) in
     let less : length c.read_formula.new.tokens < turns = omega (arith, c.in_ok-first.ensures.fewer, fewer) in
-    rw (narrow_enclosed c.args.depth turns c.args.place c.args.tokens.now g.G.Grammar.language is, c.in_ok-expect.ensures.value, c.in_ok-first.ensures.value turns fewer) (c.read_behind_first.ensures.value turns less)
+    rw (narrow_enclosed c.args.depth turns c.args.place c.args.tokens.now g.G.Grammar.language is, c.in_ok-expect.ensures.value, c.in_ok-first.ensures.value turns fewer) (c.read_after_first.ensures.value turns less)
 
 pub read_conjunction-returns-in_err-of-clause-value : goal.read_conjunction-returns-in_err-of-clause-value
 unfolding conjoined
@@ -271,33 +271,33 @@ read_members-loop-found-preserved g t c = record {
   shorter = omega (arith, c.loop-found.invariant.shorter, c.eat_word.ensures.shorter, c.in_ok-next.ensures.fewer);
 }
 
-pub read_behind-returns-then-not-sees_name-clause-value : goal.read_behind-returns-then-not-sees_name-clause-value
-read_behind-returns-then-not-sees_name-clause-value g t c = λ turns lt.
+pub read_after-returns-then-not-sees_name-clause-value : goal.read_after-returns-then-not-sees_name-clause-value
+read_after-returns-then-not-sees_name-clause-value g t c = λ turns lt.
     let seen : look false is_name c.args.tokens.now ≡ Ok (false, c.args.tokens.now) = c.sees_name.ensures ∙ ap (λ b. Ok (b, c.args.tokens.now)) c.if-not-sees_name.true in
-    rw (plain_behind_at c.args.depth turns c.args.name c.args.place c.args.tokens.now g.G.Grammar.language seen, sym c.is_wide.ensures) (c.read_behind_name.ensures.value turns lt)
+    rw (plain_after_at c.args.depth turns c.args.name c.args.place c.args.tokens.now g.G.Grammar.language seen, sym c.is_wide.ensures) (c.read_after_name.ensures.value turns lt)
 
-pub read_behind-returns-in-Some-OfRange-clause-value : goal.read_behind-returns-in-Some-OfRange-clause-value
-read_behind-returns-in-Some-OfRange-clause-value g t c = λ turns lt.
+pub read_after-returns-in-Some-OfRange-clause-value : goal.read_after-returns-in-Some-OfRange-clause-value
+read_after-returns-in-Some-OfRange-clause-value g t c = λ turns lt.
     let seen : look false is_name c.args.tokens.now ≡ Ok (true, c.args.tokens.now) = c.sees_name.ensures ∙ ap (λ b. Ok (b, c.args.tokens.now)) c.if-not-sees_name.false in
     let word : Some (OfRange c.in-Some-OfRange.word) ≡ word_in g.G.Grammar.language c.args.name = ap Some (sym c.in-Some-OfRange.field-0-is) ∙ c.in-Some-OfRange.ensures in
-    rw (range_behind_at c.args.depth turns c.args.name c.args.place c.args.tokens.now g.G.Grammar.language c.in-Some-OfRange.word seen word) (c.read_ranged.ensures.value turns lt)
+    rw (range_after_at c.args.depth turns c.args.name c.args.place c.args.tokens.now g.G.Grammar.language c.in-Some-OfRange.word seen word) (c.read_ranged.ensures.value turns lt)
 
-pub read_behind-returns-in-Some-OfPair-clause-value : goal.read_behind-returns-in-Some-OfPair-clause-value
-read_behind-returns-in-Some-OfPair-clause-value g t c = λ turns lt.
+pub read_after-returns-in-Some-OfPair-clause-value : goal.read_after-returns-in-Some-OfPair-clause-value
+read_after-returns-in-Some-OfPair-clause-value g t c = λ turns lt.
     let seen : look false is_name c.args.tokens.now ≡ Ok (true, c.args.tokens.now) = c.sees_name.ensures ∙ ap (λ b. Ok (b, c.args.tokens.now)) c.if-not-sees_name.false in
     let word : Some (OfPair c.in-Some-OfPair.word) ≡ word_in g.G.Grammar.language c.args.name = ap Some (sym c.in-Some-OfPair.field-0-is) ∙ c.in-Some-OfPair.ensures in
-    rw (pair_behind_at c.args.depth turns c.args.name c.args.place c.args.tokens.now g.G.Grammar.language c.in-Some-OfPair.word seen word) (c.read_paired.ensures.value turns lt)
+    rw (pair_after_at c.args.depth turns c.args.name c.args.place c.args.tokens.now g.G.Grammar.language c.in-Some-OfPair.word seen word) (c.read_paired.ensures.value turns lt)
 
-pub read_behind-returns-clause-value : goal.read_behind-returns-clause-value
-read_behind-returns-clause-value g t c = λ turns lt.
+pub read_after-returns-clause-value : goal.read_after-returns-clause-value
+read_after-returns-clause-value g t c = λ turns lt.
     let seen : look false is_name c.args.tokens.now ≡ Ok (true, c.args.tokens.now) = c.sees_name.ensures ∙ ap (λ b. Ok (b, c.args.tokens.now)) c.if-not-sees_name.false in
-    none_behind_at c.args.depth turns c.args.name c.args.place c.args.tokens.now g.G.Grammar.language seen c.in-None.ensures
+    none_after_at c.args.depth turns c.args.name c.args.place c.args.tokens.now g.G.Grammar.language seen c.in-None.ensures
 
 pub read_closed-returns-in_err-of-clause-value : goal.read_closed-returns-in_err-of-clause-value
 unfolding closed_by
 read_closed-returns-in_err-of-clause-value g t c = λ turns lt.
     let p = err_from_is_err_and c.from_residual.result c.from_residual.ensures.1 in
-    rw (p.1, p.2) (lifts (part_in g.G.Grammar.language c.args.depth turns c.args.tokens.now) (closed_by (part_in g.G.Grammar.language c.args.depth turns) c.args.behind c.args.tokens.now) c.read_part.new.tokens c.in_err-of.field-0.0
+    rw (p.1, p.2) (lifts (part_in g.G.Grammar.language c.args.depth turns c.args.tokens.now) (closed_by (part_in g.G.Grammar.language c.args.depth turns) c.args.after c.args.tokens.now) c.read_part.new.tokens c.in_err-of.field-0.0
     (λ j e. rw e refl) (c.in_err-of.ensures.value turns lt))
 
 pub read_paired-returns-in_err-left-clause-value : goal.read_paired-returns-in_err-left-clause-value

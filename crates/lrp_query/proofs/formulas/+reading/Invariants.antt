@@ -25,8 +25,8 @@ decreases-read_enclosed g l = 14 * l.depth + 13
 abbrev pub decreases-read_named : goal.decreases-read_named
 decreases-read_named g l = 14 * l.depth + 13
 
-abbrev pub decreases-read_behind : goal.decreases-read_behind
-decreases-read_behind g l = 14 * l.depth + 12
+abbrev pub decreases-read_after : goal.decreases-read_after
+decreases-read_after g l = 14 * l.depth + 12
 
 abbrev pub decreases-read_ranged : goal.decreases-read_ranged
 decreases-read_ranged g l = 14 * l.depth + 11
@@ -52,8 +52,8 @@ decreases-read_chain g l = 14 * l.depth + 7
 abbrev pub decreases-read_either : goal.decreases-read_either
 decreases-read_either g l = 14 * l.depth + 6
 
-abbrev pub decreases-read_behind_first : goal.decreases-read_behind_first
-decreases-read_behind_first g l = 14 * l.depth + 5
+abbrev pub decreases-read_after_first : goal.decreases-read_after_first
+decreases-read_after_first g l = 14 * l.depth + 5
 
 abbrev pub decreases-read_alternatives : goal.decreases-read_alternatives
 decreases-read_alternatives g l = 14 * l.depth + 5

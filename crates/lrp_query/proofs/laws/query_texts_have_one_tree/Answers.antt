@@ -8,8 +8,8 @@ use Rattle.lrp_query.proofs.QueryRules.{one_tree}
 use Rattle.lrp_query.proofs.laws.query_texts_have_one_tree.Goals as goal
 
 one : (l : Language) → (TakesWide l → ⊥) → (tree other : WrittenQuery l) (tokens : Tokens) → FitsQuery tree → Spells (query_text tree) tokens → Spells (query_text other) tokens → tree ≡ other
-one first_order narrow tree other tokens lawful spelled again = one_tree (grammar plain) (reader plain).behind (reader plain).rules tree other tokens lawful spelled again
-one temporal narrow tree other tokens lawful spelled again = one_tree (grammar tense) (reader tense).behind (reader tense).rules tree other tokens lawful spelled again
+one first_order narrow tree other tokens lawful spelled again = one_tree (grammar plain) (reader plain).after (reader plain).rules tree other tokens lawful spelled again
+one temporal narrow tree other tokens lawful spelled again = one_tree (grammar tense) (reader tense).after (reader tense).rules tree other tokens lawful spelled again
 one wide narrow tree other tokens lawful spelled again = absurd (narrow refl)
 
 pub returns : goal.returns

@@ -3,7 +3,7 @@ use Rattle.std.specs.Option.{is_some}
 use Rattle.std.specs.HashMap.{get_by}
 use Rattle.lrp_sorts.specs.Scopes.{kept_at}
 use Rattle.lrp_sorts.proofs.Heads.{one_column_faults, one_column_kept}
-use Rattle.lrp_sorts.proofs.Binding.{there_behind}
+use Rattle.lrp_sorts.proofs.Binding.{there_after}
 use Rattle.lrp_sorts.proofs.head.open.Goals as goal
 
 pub loop-column-preserved : goal.loop-column-preserved
@@ -15,7 +15,7 @@ loop-column-preserved c =
           one_column_faults c.args.catalog.now c.args.columns.now c.loop-column.column-index one c.loop-column.found _ c.binder_fault.result c.contains_key-bound.result c.loop-column-test.true c.column-item.is
           c.sooner_of-found.ensures c.binder_fault.ensures
           (c.contains_key-bound.ensures
-          ∙ there_behind (get_by (λ k. bytes_eq c.as_bytes.result.now k.now) c.loop-column.sorts)
+          ∙ there_after (get_by (λ k. bytes_eq c.as_bytes.result.now k.now) c.loop-column.sorts)
           ∙ ap is_some (ap (λ q. kept_at c.loop-column.sorts q) c.as_bytes.ensures ∙ kept.sorts one.name))
           kept.fault;
       sorts = one_column_kept c.as_bytes-in-loop-column.result _ c.loop-column.sorts c.insert.new.self c.args.columns.now c.loop-column.column-index one c.loop-column-test.true c.column-item.is c.as_bytes-in-loop-column.ensures refl c.in_ok-insert.ensures.updates kept.sorts;

@@ -92,13 +92,13 @@ inspect-returns-in_ok-before-in-Implies-clause-fault t c =
     let right = raw_form_of c.in-Implies.right.value in
     let after = binders c.inspect_whole-in-Implies.new.scope in
     let k = c.in_ok-before-in-Implies in
-    fault_then c.inspect_behind.result _ _
+    fault_then c.inspect_after.result _ _
     (ap (λ x. sooner query_standing x (earliest query_standing (widened after [] (raw_form_of c.deref-in-Implies-2.result.now) (form_faults (raw_form_of c.deref-in-Implies-2.result.now) db after))))
     (k.ensures.fault ∙ ap (λ g. earliest query_standing (widened (binders around) [] (raw_form_of g) (form_faults (raw_form_of g) db (binders around)))) c.deref-in-Implies.ensures)
     ∙ ap (λ g. sooner query_standing (earliest query_standing (widened (binders around) [] left (form_faults left db (binders around)))) (earliest query_standing (widened after [] (raw_form_of g) (form_faults (raw_form_of g) db after)))) c.deref-in-Implies-2.ensures
     ∙ ap (λ a. sooner query_standing (earliest query_standing (widened (binders around) [] left (form_faults left db (binders around)))) (earliest query_standing (widened (binders a) [] right (form_faults right db (binders a))))) k.ensures.scope
     ∙ implies_faults db (binders around) c.args.f.now c.in-Implies.left c.in-Implies.right c.in-Implies.is)
-    c.inspect_behind.ensures.fault
+    c.inspect_after.ensures.fault
 
 pub inspect-returns-in_ok-before-in-Implies-clause-free : goal.inspect-returns-in_ok-before-in-Implies-clause-free
 inspect-returns-in_ok-before-in-Implies-clause-free t c =
@@ -106,7 +106,7 @@ inspect-returns-in_ok-before-in-Implies-clause-free t c =
     let after = c.inspect_whole-in-Implies.new.scope in
     let k = c.in_ok-before-in-Implies in
     let names = free_names (raw_form_of c.deref-in-Implies.result.now) in
-    if_ok_then c.inspect_behind.result _ _ c.inspect_behind.ensures.free (λ made h.
+    if_ok_then c.inspect_after.result _ _ c.inspect_after.ensures.free (λ made h.
     subst (λ a. IsTallied a (free_names (raw_form_of c.args.f.now)) made.free) k.ensures.scope
     (subst (λ ns. IsTallied after ns made.free)
     (ap (λ g. free_names (raw_form_of g) ++ free_names (raw_form_of c.deref-in-Implies-2.result.now)) c.deref-in-Implies.ensures
@@ -155,26 +155,26 @@ inspect_whole-returns-clause-free t c =
     let k = c.in_ok-inside in
     counted_then c.args.scope.now _ _ k.inside.free c.with_width.result.free refl c.with_width.ensures.free k.ensures.free
 
-pub inspect_behind-returns-then-is_narrow_leaf-clause-fault : goal.inspect_behind-returns-then-is_narrow_leaf-clause-fault
-inspect_behind-returns-then-is_narrow_leaf-clause-fault t c =
+pub inspect_after-returns-then-is_narrow_leaf-clause-fault : goal.inspect_after-returns-then-is_narrow_leaf-clause-fault
+inspect_after-returns-then-is_narrow_leaf-clause-fault t c =
     let narrow = c.is_narrow_leaf.ensures c.if-is_narrow_leaf.true in
     if_ok_then c.leaf.result _ _ c.leaf.ensures (λ made h.
     h.fault ∙ ap (sooner query_standing c.args.before.fault) (narrow_faults (binders c.args.scope.now) c.args.catalog.now c.args.f.now narrow.few))
 
-pub inspect_behind-returns-clause-fault : goal.inspect_behind-returns-clause-fault
-inspect_behind-returns-clause-fault t c =
-    fault_then c.both.result _ _ (ap (sooner query_standing c.args.before.fault) c.in_ok-behind.ensures.fault) c.both.ensures.fault
+pub inspect_after-returns-clause-fault : goal.inspect_after-returns-clause-fault
+inspect_after-returns-clause-fault t c =
+    fault_then c.both.result _ _ (ap (sooner query_standing c.args.before.fault) c.in_ok-after.ensures.fault) c.both.ensures.fault
 
-pub inspect_behind-returns-clause-free : goal.inspect_behind-returns-clause-free
-inspect_behind-returns-clause-free t c =
+pub inspect_after-returns-clause-free : goal.inspect_after-returns-clause-free
+inspect_after-returns-clause-free t c =
     let around = c.args.scope.now in
-    let l = c.in_ok-behind in
+    let l = c.in_ok-after in
     let names = free_names (raw_form_of c.args.f.now) in
     if_ok_then c.both.result _ _ c.both.ensures.free (λ made h before k.
     tally_at around c.quantifiers.result (before ++ names) made.free (c.quantifiers.ensures ∙ ap (λ a. length a.quantifiers) l.ensures.scope)
     (h (binders around) before names
     (at_tally around c.quantifiers.result before c.args.before.free (c.quantifiers.ensures ∙ ap (λ a. length a.quantifiers) l.ensures.scope) k)
-    (at_tally around c.quantifiers.result names l.behind.free (c.quantifiers.ensures ∙ ap (λ a. length a.quantifiers) l.ensures.scope) l.ensures.free)))
+    (at_tally around c.quantifiers.result names l.after.free (c.quantifiers.ensures ∙ ap (λ a. length a.quantifiers) l.ensures.scope) l.ensures.free)))
 
 pub inspect_bound-returns-clause-fault : goal.inspect_bound-returns-clause-fault
 inspect_bound-returns-clause-fault t c =

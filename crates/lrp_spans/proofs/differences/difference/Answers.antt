@@ -15,8 +15,8 @@ push_left-requires-clause-span c = c.requires.spans.each _ (Contains-get_or c.ar
 pub push_left-requires-clause-holes : goal.push_left-requires-clause-holes
 push_left-requires-clause-holes c = subst (AreOrdered (2 ^ 62 + 1)) (sym (to_end c.args.holes.now c.passed-next.result)) (suffix_ordered (2 ^ 62 + 1) c.args.holes.now c.passed-next.result c.requires.holes)
 
-pub push_left-requires-clause-behind : goal.push_left-requires-clause-behind
-push_left-requires-clause-behind c = λ h m.
+pub push_left-requires-clause-after : goal.push_left-requires-clause-after
+push_left-requires-clause-after c = λ h m.
     none_before (2 ^ 62 + 1) c.args.holes.now c.passed-next.result _ c.requires.holes
     (c.requires.spans.each _ (Contains-get_or c.args.spans.now c.loop-span.span-index (record { residue = 0; first = None; last = None }) c.loop-span-test.true))
     c.passed-next.ensures.place c.passed-next.ensures.stop h (subst (λ x. Contains x h) (to_end c.args.holes.now c.passed-next.result) m)

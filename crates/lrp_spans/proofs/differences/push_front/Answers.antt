@@ -4,7 +4,7 @@ use Rattle.lrp_spans.proofs.CutLaws.{fronts_none, fronts_one, same_residues}
 use Rattle.lrp_spans.proofs.differences.push_front.Goals as goal
 
 pub front-requires-clause-meets : goal.front-requires-clause-meets
-front-requires-clause-meets c = λ e. c.requires.meets (inr (same_residues c.args.span.now c.args.hole.now c.requires.meets c.requires.behind, e))
+front-requires-clause-meets c = λ e. c.requires.meets (inr (same_residues c.args.span.now c.args.hole.now c.requires.meets c.requires.after, e))
 
 pub returns-in_ok-push : goal.returns-in_ok-push
 returns-in_ok-push c = record {

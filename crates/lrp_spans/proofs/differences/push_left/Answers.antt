@@ -1,23 +1,23 @@
 -- One more hole is cut out of the span.
 use Rattle.std.proofs.Common.{◌+◌, ◌^◌, None, inr, arith}
 use Rattle.lrp_spans.proofs.CutLaws.{same_residues}
-use Rattle.lrp_spans.proofs.CutSteps.{break_cut, end_cut, hole_behind, hole_span, next_cut, start_cut, stop_cut}
+use Rattle.lrp_spans.proofs.CutSteps.{break_cut, end_cut, hole_after, hole_span, next_cut, start_cut, stop_cut}
 use Rattle.lrp_spans.proofs.differences.push_left.Goals.{else-loop-hole-test, then-loop-hole-test+then-is_before}
 use Rattle.lrp_spans.proofs.differences.push_left.Goals as goal
 
 pub loop-hole-init : goal.loop-hole-init
-loop-hole-init c = start_cut (2 ^ 62 + 1) c.args.span.now c.args.holes.now c.args.made.now.items c.requires.span c.requires.behind
+loop-hole-init c = start_cut (2 ^ 62 + 1) c.args.span.now c.args.holes.now c.args.made.now.items c.requires.span c.requires.after
 
-pub push_front-requires-clause-behind : goal.push_front-requires-clause-behind
-push_front-requires-clause-behind c = hole_behind (2 ^ 62 + 1) c.args.span.now c.args.holes.now c.requires.holes c.loop-hole.hole-index _ c.loop-hole-test.true c.loop-hole.invariant.0 c.loop-hole.left c.loop-hole.invariant.2
+pub push_front-requires-clause-after : goal.push_front-requires-clause-after
+push_front-requires-clause-after c = hole_after (2 ^ 62 + 1) c.args.span.now c.args.holes.now c.requires.holes c.loop-hole.hole-index _ c.loop-hole-test.true c.loop-hole.invariant.0 c.loop-hole.left c.loop-hole.invariant.2
 
 pub rest-requires-clause-small : goal.rest-requires-clause-small
 rest-requires-clause-small c = (hole_span (2 ^ 62 + 1) c.args.span.now c.args.holes.now c.requires.holes c.loop-hole.hole-index (record { residue = 0; first = None; last = None }) c.loop-hole-test.true).last
 
 pub rest-requires-clause-meets : goal.rest-requires-clause-meets
 rest-requires-clause-meets c = λ e. (
-    let behind = hole_behind (2 ^ 62 + 1) c.args.span.now c.args.holes.now c.requires.holes c.loop-hole.hole-index (record { residue = 0; first = None; last = None }) c.loop-hole-test.true c.loop-hole.invariant.0 c.loop-hole.left c.loop-hole.invariant.2 in
-    behind (inr (same_residues _ c.loop-hole.left behind (λ a. cc (c.is_before.ensures.1 a, c.if-is_before.false)), e)))
+    let after = hole_after (2 ^ 62 + 1) c.args.span.now c.args.holes.now c.requires.holes c.loop-hole.hole-index (record { residue = 0; first = None; last = None }) c.loop-hole-test.true c.loop-hole.invariant.0 c.loop-hole.left c.loop-hole.invariant.2 in
+    after (inr (same_residues _ c.loop-hole.left after (λ a. cc (c.is_before.ensures.1 a, c.if-is_before.false)), e)))
 
 pub returns-in-None : goal.returns-in-None
 returns-in-None c = stop_cut (2 ^ 62 + 1) c.args.span.now c.args.holes.now c.requires.holes c.loop-hole.hole-index (record { residue = 0; first = None; last = None }) c.loop-hole-test.true c.loop-hole.invariant.0 c.loop-hole.left c.loop-hole.invariant.2

@@ -1,7 +1,7 @@
 use Rattle.std.proofs.Common.{◌++◌, codes, refl, ap, append_assoc}
 use Rattle.std.proofs.lemmas.Result.{err_from_is_err_and}
 use Rattle.lrp_model.specs.PrintedPages.{hex, tuple_text}
-use Rattle.lrp_io.proofs.PieceLemmas.{written_behind, written_err, front_before}
+use Rattle.lrp_io.proofs.PieceLemmas.{written_after, written_err, front_before}
 use Rattle.lrp_print.proofs.Lines.{front_as, written_as}
 use Rattle.lrp_token.specs.Spots.{spot_token, times_in, texts_in}
 use Rattle.lrp_token.proofs.HexLaws.{bytes_by}
@@ -25,7 +25,7 @@ returns-clause-text g c =
     let tuple = tuple_text (times_in c.args.shape c.args.spot.now) (texts_in c.args.shape c.args.domain.now c.args.spot.now) in
     let head = codes "T2/" ++ (hex digest ++ codes "/") in
     written_as _ _ _ _ _ (ap (λ x. codes "T2/" ++ x) (append_assoc (hex digest) (codes "/") tuple))
-    (written_behind _ _ _ head tuple _ c.in_ok-write_head.ensures.text c.write_tuple.ensures.text)
+    (written_after _ _ _ head tuple _ c.in_ok-write_head.ensures.text c.write_tuple.ensures.text)
 
 pub returns-clause-token : goal.returns-clause-token
 returns-clause-token g c h = record { spelled = refl; digest_is = record { size = c.told-digest; bytes = bytes_by c.args.digest.now c.fits-digest }; small = c.requires.small; whole = h }

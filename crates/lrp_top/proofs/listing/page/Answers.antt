@@ -14,9 +14,9 @@ use Rattle.lrp_outputs.specs.Outcomes.{Outcome}
 use Rattle.lrp_top.specs.Resuming.{IsResumed, shape_of}
 use Rattle.lrp_outputs.specs.Outputs.{told}
 use Rattle.lrp_top.specs.Questions.{resumed_as}
-use Rattle.lrp_top.specs.Steps.{Behind, Then}
+use Rattle.lrp_top.specs.Steps.{After, Then}
 use Rattle.lrp_top.proofs.HeadCounts.{few_texts, few_times}
-use Rattle.lrp_top.proofs.ResumeLemmas.{behind_resumed, lent}
+use Rattle.lrp_top.proofs.ResumeLemmas.{after_resumed, lent}
 use Rattle.lrp_top.proofs.listing.page.Goals as goal
 
 pub resumed-requires-clause-times : goal.resumed-requires-clause-times
@@ -25,8 +25,8 @@ resumed-requires-clause-times c = subst (λ head. time_count head ≤ 8) (sym c.
 pub resumed-requires-clause-texts : goal.resumed-requires-clause-texts
 resumed-requires-clause-texts c = subst (λ head. text_count head ≤ 8) (sym c.as_slice-head.ensures) (few_texts c.args.question.database.relations (question_of c.args.question.query.query) c.requires.ready.planned.settled)
 
-pub page_behind-requires-clause-after : goal.page_behind-requires-clause-after
-page_behind-requires-clause-after c =
+pub page_after-requires-clause-after : goal.page_after-requires-clause-after
+page_after-requires-clause-after c =
     let head = c.args.question.query.query.head.columns in
     lent (HasShapeOf (shape_of head)) c.in-Ok.after c.as_ref.result c.as_ref.ensures.value (subst (λ h. IfSome c.in-Ok.after (HasShapeOf (shape_of h))) c.as_slice-head.ensures c.in-Ok.ensures.shape)
 
@@ -43,8 +43,8 @@ returns-in-Ok c =
         first = resumed_as head (Ok c.in-Ok.after);
         is = subst (λ files. IsResumed files head (after_text p.after) (resumed_as head (Ok c.in-Ok.after))) spelled
             (subst (λ (h : List Column). IsResumed c.digest-files.result h (after_text p.after) (resumed_as h (Ok c.in-Ok.after))) c.as_slice-head.ensures c.in-Ok.ensures.resumed);
-        next = subst (λ files. Behind (resumed_as head (Ok c.in-Ok.after)) (Next files) (told c.page_behind.result)) spelled
-            (behind_resumed head c.in-Ok.after c.as_ref.result (Next c.digest-files.result) (told c.page_behind.result) c.as_ref.ensures.value c.page_behind.ensures.page);
+        next = subst (λ files. After (resumed_as head (Ok c.in-Ok.after)) (Next files) (told c.page_after.result)) spelled
+            (after_resumed head c.in-Ok.after c.as_ref.result (Next c.digest-files.result) (told c.page_after.result) c.as_ref.ensures.value c.page_after.ensures.page);
       };
     }
 

@@ -14,7 +14,7 @@ use Rattle.lrp_top.specs.Steps.{Then}
 use Rattle.lrp_top.specs.Telling.{TellsPage}
 use Rattle.lrp_top.specs.declared.questioning.Unasked.{Unasked}
 use Rattle.lrp_top.proofs.HeadCounts.{few_texts, few_times}
-use Rattle.lrp_top.proofs.PagingLemmas.{behind_any, if_err}
+use Rattle.lrp_top.proofs.PagingLemmas.{after_any, if_err}
 use Rattle.lrp_top.proofs.paging.answers_for.Goals as goal
 
 pub resumed-requires-clause-times : goal.resumed-requires-clause-times
@@ -36,7 +36,7 @@ returns-in-Ok-clause-refused c =
       first = resumed_as head (Ok c.in-Ok.after);
       is = subst (λ files. IsResumed files head (after_text p.after) (resumed_as head (Ok c.in-Ok.after))) spelled
           (subst (λ (h : List Column). IsResumed c.digest-files.result h (after_text p.after) (resumed_as h (Ok c.in-Ok.after))) c.as_slice-head.ensures c.in-Ok.ensures.resumed);
-      next = behind_any head c.in-Ok.after (λ tuple. Then (IsCounted question.planning question.database.relations (question_of question.query.query) p.cap) (λ done. IsOutput (TellsPage question.database.relations (question_of question.query.query) p.from p.to tuple p.limit p.civil p.json (files_digest question.database.bytes question.query.bytes)))) (Err unasked.refusal)
+      next = after_any head c.in-Ok.after (λ tuple. Then (IsCounted question.planning question.database.relations (question_of question.query.query) p.cap) (λ done. IsOutput (TellsPage question.database.relations (question_of question.query.query) p.from p.to tuple p.limit p.civil p.json (files_digest question.database.bytes question.query.bytes)))) (Err unasked.refusal)
           (λ tuple. record { first = Err unasked.refusal; is = counted; next = refl });
     }) c.answered.ensures.refused
 

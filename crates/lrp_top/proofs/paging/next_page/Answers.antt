@@ -10,7 +10,7 @@ use Rattle.lrp_top.specs.Questions.{resumed_as}
 use Rattle.lrp_top.specs.Resuming.{IsResumed, shape_of}
 use Rattle.lrp_top.proofs.HeadCounts.{few_texts, few_times}
 use Rattle.lrp_top.proofs.PagingLemmas.{Next, page_due}
-use Rattle.lrp_top.proofs.ResumeLemmas.{behind_resumed, lent}
+use Rattle.lrp_top.proofs.ResumeLemmas.{after_resumed, lent}
 use Rattle.lrp_top.proofs.paging.next_page.Goals as goal
 
 pub resumed-requires-clause-times : goal.resumed-requires-clause-times
@@ -35,7 +35,7 @@ returns-in-Ok-clause-told g c =
       outcome = e.outcome;
       is = page_due page begun.file begun.kept c.requires.read b.kept b.same (resumed_as head (Ok c.in-Ok.after)) e.outcome
           (subst (λ (h : List Column). IsResumed begun.kept.query.files h (after_text page.paging.after) (resumed_as h (Ok c.in-Ok.after))) c.as_slice-head.ensures c.in-Ok.ensures.resumed)
-          (behind_resumed head c.in-Ok.after c.as_ref.result (Next page begun.file begun.kept c.requires.read b.kept b.same begun.kept.query.files) e.outcome c.as_ref.ensures.value e.is);
+          (after_resumed head c.in-Ok.after c.as_ref.result (Next page begun.file begun.kept c.requires.read b.kept b.same begun.kept.query.files) e.outcome c.as_ref.ensures.value e.is);
       ends = e.ends;
     }
 

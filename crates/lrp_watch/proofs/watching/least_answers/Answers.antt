@@ -3,7 +3,7 @@ use Rattle.std.proofs.Common.{refl, sym, subst}
 use Rattle.std.proofs.lemmas.Result.{err_from_is_err_and}
 use Rattle.lrp_model.specs.Formulas.{question_of}
 use Rattle.lrp_keep.specs.Keeps.{CanBeKept, opened, IsPastLimit}
-use Rattle.lrp_watch.specs.Edits.{IsPassedBehind}
+use Rattle.lrp_watch.specs.Edits.{IsPassedAfter}
 use Rattle.lrp_watch.specs.Faults.{IsFaultAt}
 use Rattle.lrp_watch.specs.Watching.{IsPassed}
 use Rattle.lrp_watch.proofs.Openings.{can_be_kept}
@@ -49,5 +49,5 @@ returns-in_err-spots-clause-fault c =
     let query = c.args.query.now in
     let db = c.args.database.now in
     let p = err_from_is_err_and c.from_residual-in_err-spots.result c.from_residual-in_err-spots.ensures.1 in
-    rw (p.1, p.2) (fault_as (IsPassedBehind c.args.edits.now c.in_ok-keep.keep) (IsPassed db (question_of query) c.args.edits.now c.args.cap)
+    rw (p.1, p.2) (fault_as (IsPassedAfter c.args.edits.now c.in_ok-keep.keep) (IsPassed db (question_of query) c.args.edits.now c.args.cap)
     (passed_later query db c.args.edits.now c.args.cap c.in_ok-domain.domain c.in_ok-keep.keep c.in_ok-domain.ensures c.in_ok-keep.ensures.view c.in_ok-keep.ensures.limits) c.in_err-spots.field-0.0 c.in_err-spots.ensures.fault)

@@ -4,7 +4,7 @@ use Rattle.lrp_tense.specs.Expanding.{name_term}
 use Rattle.lrp_wide.specs.Inlining.{column_added, set_term, star_columns, star_terms}
 use Rattle.lrp_wide.specs.Meaning.{is_star}
 use Rattle.lrp_wide.specs.Settings.{setting_of}
-use Rattle.lrp_wide.proofs.InlineTerms.{dropped, starred-as, starred-behind, starred-below, starred-binders, starred-star, starred-terms}
+use Rattle.lrp_wide.proofs.InlineTerms.{dropped, starred-as, starred-after, starred-below, starred-binders, starred-star, starred-terms}
 use Rattle.lrp_wide.proofs.atoms.starred_terms.Goals as goal
 use Rattle.lrp_wide.proofs.atoms.starred_terms.Goals.{then-i-columns+then-is_star+in_ok-name+in_ok-next+in_ok-copy+in_ok-added+in_ok-push+in_ok-push-2, else-i-columns+in_ok-term+in_ok-push-3, else-i-columns-via-then-i-columns+else-is_star, else-i-columns-via-else-i-columns}
 
@@ -39,7 +39,7 @@ loop-i-preserved c =
           (w.all-is ∙ w.in_ok-push-3.ensures.ok ∙ ap (λ x. c.loop-i.all ++ x ∷ []) (w.in_ok-term.ensures ∙ ap (set_term s) (sym c.index-met-i.is))) (ap (λ v. v.items) w.binders-is) in
           elim w.else-i-columns.branch [
             | else-i-columns-via-then-i-columns+else-is_star v ↦ made (starred-below s p k cs ts i c.loop-i.next c.loop-i.all c.loop-i.binders.items t v.if-i-columns.true here (ap is_star c.index-met-i.is ∙ sym v.is_star.ensures ∙ v.if-is_star.false) c.loop-i.invariant)
-            | else-i-columns-via-else-i-columns v ↦ made (starred-behind s p k cs ts i c.loop-i.next c.loop-i.all c.loop-i.binders.items t v.if-i-columns.false here c.loop-i.invariant)
+            | else-i-columns-via-else-i-columns v ↦ made (starred-after s p k cs ts i c.loop-i.next c.loop-i.all c.loop-i.binders.items t v.if-i-columns.false here c.loop-i.invariant)
           ]
     ]
 

@@ -3,7 +3,7 @@ use Rattle.std.proofs.Common.{ap, subst}
 use Rattle.std.specs.Prelude.{flat_map}
 use Rattle.std.specs.List.{AllByRecursion}
 use Rattle.std.proofs.lemmas.Result.{err_from_is_err_and}
-use Rattle.lrp_io.proofs.PieceLemmas.{front_before, written_behind, written_err}
+use Rattle.lrp_io.proofs.PieceLemmas.{front_before, written_after, written_err}
 use Rattle.lrp_print.proofs.Lines.{front_as, ok_as}
 use Rattle.lrp_outputs.specs.Outputs.{ranges_text}
 use Rattle.lrp_outputs.specs.RangeLines.{HasEndsAs, last_line, range_line}
@@ -19,5 +19,5 @@ returns-in_err-write_each-clause-text g c =
 pub returns-clause-text : goal.returns-clause-text
 returns-clause-text g c =
     let s = c.args.self.now in
-    written_behind _ _ _ (flat_map (range_line s.civil s.json) s.found.ranges) (last_line s.json s.found.more) _
+    written_after _ _ _ (flat_map (range_line s.civil s.json) s.found.ranges) (last_line s.json s.found.more) _
     (ok_as _ _ _ _ (ap (flat_map (range_line s.civil s.json)) c.as_slice.ensures) c.in_ok-write_each.ensures.text) c.write_last.ensures.text

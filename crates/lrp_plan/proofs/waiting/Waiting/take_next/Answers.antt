@@ -1,7 +1,7 @@
 use Rattle.std.proofs.Common.{◌≡◌, ◌++◌, [], sym, subst, ◌∙◌, rules}
 use Rattle.lrp_model.specs.Conjunctions.{first_or_0}
-use Rattle.lrp_plan.proofs.WaitingLaws.{none_behind, still_behind, takes_next, takes_front, emptied}
-use Rattle.lrp_plan.specs.Waiting.{FallBehind, goes_first}
+use Rattle.lrp_plan.proofs.WaitingLaws.{none_after, still_after, takes_next, takes_front, emptied}
+use Rattle.lrp_plan.specs.Waiting.{FallAfter, goes_first}
 use Rattle.lrp_plan.proofs.waiting.Waiting.take_next.Goals as goal
 use Rattle.lrp_plan.proofs.waiting.Waiting.take_next.Goals.{then-not-is_same+in_ok-seen+in_ok-look_again, else-not-is_same}
 
@@ -9,13 +9,13 @@ pub returns : goal.returns
 returns c =
     let e : c.if-not-is_same.self-inside.passed.items ++ c.if-not-is_same.self-inside.rest.items ≡ c.args.self.now =
     elim c.if-not-is_same.branch [ then-not-is_same+in_ok-seen+in_ok-look_again w ↦ search rules | else-not-is_same w ↦ search rules ] in
-    let h : FallBehind c.args.turn c.args.variables.now c.if-not-is_same.self-inside.passed.items =
+    let h : FallAfter c.args.turn c.args.variables.now c.if-not-is_same.self-inside.passed.items =
     elim c.if-not-is_same.branch [
-      | then-not-is_same+in_ok-seen+in_ok-look_again w ↦ none_behind c.args.turn c.args.variables.now _ (search rules)
+      | then-not-is_same+in_ok-seen+in_ok-look_again w ↦ none_after c.args.turn c.args.variables.now _ (search rules)
       | else-not-is_same w ↦
           let stay : c.if-not-is_same.self-inside.passed.items ≡ c.self.inside.passed.items = search rules in
           let same = c.is_same.ensures w.if-not-is_same.false in
-          subst (FallBehind c.args.turn c.args.variables.now) (sym stay) (still_behind c.self.inside.turn c.args.turn c.self.inside.seen c.args.variables.now c.self.inside.passed.items same.0 (sym c.as_slice-2.ensures ∙ same.1 ∙ c.as_slice-3.ensures) c.self.invariant)
+          subst (FallAfter c.args.turn c.args.variables.now) (sym stay) (still_after c.self.inside.turn c.args.turn c.self.inside.seen c.args.variables.now c.self.inside.passed.items same.0 (sym c.as_slice-2.ensures ∙ same.1 ∙ c.as_slice-3.ensures) c.self.invariant)
     ] in
     takes_next c.take_first.result c.args.turn c.as_slice-4.result.now c.args.variables.now c.args.self.now c.if-not-is_same.self-inside.passed.items c.if-not-is_same.self-inside.rest.items _ c.as_slice-4.ensures e h c.take_first.ensures.taken
 

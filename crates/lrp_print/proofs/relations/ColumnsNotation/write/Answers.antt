@@ -1,7 +1,7 @@
 use Rattle.std.proofs.Common.{◌++◌, codes}
 use Rattle.std.proofs.lemmas.Result.{err_from_is_err_and}
 use Rattle.lrp_model.specs.Printed.{sort_bytes, column_bytes}
-use Rattle.lrp_io.proofs.PieceLemmas.{written_behind, written_err, front_behind, front_before}
+use Rattle.lrp_io.proofs.PieceLemmas.{written_after, written_err, front_after, front_before}
 use Rattle.lrp_print.proofs.Lines.{ok_as, front_as}
 use Rattle.lrp_print.proofs.relations.ColumnsNotation.write.Goals as goal
 
@@ -13,7 +13,7 @@ returns-in_err-write_bytes-clause-text g c =
 pub returns-in_err-write_bytes-2-clause-text : goal.returns-in_err-write_bytes-2-clause-text
 returns-in_err-write_bytes-2-clause-text g c =
     let p = err_from_is_err_and c.from_residual-in_err-write_bytes-2.result c.from_residual-in_err-write_bytes-2.ensures.1 in
-    written_err _ _ (column_bytes c.args.column.now) _ p.0 p.1 (front_behind _ _ _ (c.args.column.now.name) (codes ": " ++ (sort_bytes c.args.column.now.sort)) (ok_as _ _ _ _ c.as_bytes.ensures c.in_ok-write_bytes.ensures.text) (front_before _ _ (codes ": ") (sort_bytes c.args.column.now.sort) c.in_err-write_bytes-2.ensures.text))
+    written_err _ _ (column_bytes c.args.column.now) _ p.0 p.1 (front_after _ _ _ (c.args.column.now.name) (codes ": " ++ (sort_bytes c.args.column.now.sort)) (ok_as _ _ _ _ c.as_bytes.ensures c.in_ok-write_bytes.ensures.text) (front_before _ _ (codes ": ") (sort_bytes c.args.column.now.sort) c.in_err-write_bytes-2.ensures.text))
 
 pub returns-clause-text : goal.returns-clause-text
-returns-clause-text g c = written_behind _ _ _ (c.args.column.now.name) (codes ": " ++ (sort_bytes c.args.column.now.sort)) _ (ok_as _ _ _ _ c.as_bytes.ensures c.in_ok-write_bytes.ensures.text) (written_behind _ _ _ (codes ": ") (sort_bytes c.args.column.now.sort) _ c.in_ok-write_bytes-2.ensures.text (c.write_sort.ensures.text))
+returns-clause-text g c = written_after _ _ _ (c.args.column.now.name) (codes ": " ++ (sort_bytes c.args.column.now.sort)) _ (ok_as _ _ _ _ c.as_bytes.ensures c.in_ok-write_bytes.ensures.text) (written_after _ _ _ (codes ": ") (sort_bytes c.args.column.now.sort) _ c.in_ok-write_bytes-2.ensures.text (c.write_sort.ensures.text))

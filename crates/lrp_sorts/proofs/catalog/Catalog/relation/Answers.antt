@@ -7,7 +7,7 @@ use Rattle.std.proofs.lemmas.List.{length-map}
 use Rattle.lrp_model.specs.Rows.{relation_named}
 use Rattle.lrp_model.specs.declared.relations.Relation.{Relation}
 use Rattle.lrp_sorts.specs.Scopes.{added_of}
-use Rattle.lrp_sorts.proofs.Firsts.{behind_at, copied_some, found_alone, found_before, found_behind, named_placed, none_there, place_within, placed}
+use Rattle.lrp_sorts.proofs.Firsts.{after_at, copied_some, found_alone, found_before, found_after, named_placed, none_there, place_within, placed}
 use Rattle.lrp_sorts.proofs.catalog.Catalog.relation.Goals as goal
 
 pub returns-then-is_some : goal.returns-then-is_some
@@ -37,7 +37,7 @@ returns-in_err-number c =
     sym (c.self.invariant.first n) ∙ sym (ap (λ q. get_by (λ k. bytes_eq q k.now) c.self.inside.numbers) c.as_bytes.ensures) ∙ sym c.get.ensures.value ∙ ap option_copied c.in_err-number.was in
     ap (option_map (λ r. r.now)) c.from_residual.ensures
     ∙ sym (named_placed (λ r. r.name) added n ∙ ap (placed added) place)
-    ∙ found_behind (λ r. bytes_eq r.name n) c.self.inside.db.now added found c.relation-relation.ensures.named (copied_some c.relation-relation.result ∙ sym c.is_some.ensures ∙ c.if-is_some.false)
+    ∙ found_after (λ r. bytes_eq r.name n) c.self.inside.db.now added found c.relation-relation.ensures.named (copied_some c.relation-relation.result ∙ sym c.is_some.ensures ∙ c.if-is_some.false)
     ∙ ap (λ l. relation_named l n) c.self.view_is
 
 pub index-requires : goal.index-requires
@@ -58,6 +58,6 @@ returns c =
     let i = c.in_ok-number.field-0.now in
     let place : position (bytes_eq n) (map (λ r. r.name) added) ≡ Some i =
     sym (c.self.invariant.first n) ∙ sym (ap (λ q. get_by (λ k. bytes_eq q k.now) c.self.inside.numbers) c.as_bytes.ensures) ∙ sym c.get.ensures.value ∙ ap option_copied c.in_ok-number.was in
-    sym (named_placed (λ r. r.name) added n ∙ ap (placed added) place ∙ behind_at items i c.index.result.now (omega (arith, place_within (λ r. r.name) added n i place, length-map items (λ r. r.now))) c.index.ensures)
-    ∙ found_behind (λ r. bytes_eq r.name n) c.self.inside.db.now added found c.relation-relation.ensures.named (copied_some c.relation-relation.result ∙ sym c.is_some.ensures ∙ c.if-is_some.false)
+    sym (named_placed (λ r. r.name) added n ∙ ap (placed added) place ∙ after_at items i c.index.result.now (omega (arith, place_within (λ r. r.name) added n i place, length-map items (λ r. r.now))) c.index.ensures)
+    ∙ found_after (λ r. bytes_eq r.name n) c.self.inside.db.now added found c.relation-relation.ensures.named (copied_some c.relation-relation.result ∙ sym c.is_some.ensures ∙ c.if-is_some.false)
     ∙ ap (λ l. relation_named l n) c.self.view_is

@@ -10,5 +10,5 @@ abbrev pub invariant-loop-cell : goal.invariant-loop-cell
 invariant-loop-cell l = record {
   found : IsFoundSpot l.self l.found;
   lists : AreFound l.self l.cell-iterator;
-  behind : (xs : List ℤ) (ns : List ℕ) → (h : InStore l.self xs ns) → IsNotAfter l.self l.found xs ns ⊎ Contains (cells_of l.cell-iterator) h.cell;
+  after : (xs : List ℤ) (ns : List ℕ) → (h : InStore l.self xs ns) → IsNotAfter l.self l.found xs ns ⊎ Contains (cells_of l.cell-iterator) h.cell;
 }

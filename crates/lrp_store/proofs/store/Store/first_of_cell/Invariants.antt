@@ -11,5 +11,5 @@ invariant-loop-bounds l = record {
   within : (table : List (Option ℤ)) → Contains l.bounds-iterator table → Contains (tables_at l.self l.cell) table;
   found : IsFoundSpot l.self l.found;
   kept : (xs : List ℤ) (ns : List ℕ) → IsNotAfter l.self l.initial.found xs ns → IsNotAfter l.self l.found xs ns;
-  behind : (table : List (Option ℤ)) (xs : List ℤ) → Contains (tables_at l.self l.cell) table → IsMember (zone_of l.self l.cell table) xs → IsNotAfter l.self l.found xs (take l.self.shape.texts l.cell.texts) ⊎ Contains l.bounds-iterator table;
+  after : (table : List (Option ℤ)) (xs : List ℤ) → Contains (tables_at l.self l.cell) table → IsMember (zone_of l.self l.cell table) xs → IsNotAfter l.self l.found xs (take l.self.shape.texts l.cell.texts) ⊎ Contains l.bounds-iterator table;
 }

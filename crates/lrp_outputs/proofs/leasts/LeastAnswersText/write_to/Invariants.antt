@@ -4,7 +4,7 @@ use Rattle.std.specs.List.{flat_map}
 use Rattle.lrp_io.specs.Bytes.{appended}
 use Rattle.lrp_outputs.specs.First.{first_line}
 use Rattle.lrp_outputs.specs.Spots.{answer_tuple}
-use Rattle.lrp_outputs.proofs.leasts.LeastsText.write_to.Given as goal
+use Rattle.lrp_outputs.proofs.leasts.LeastAnswersText.write_to.Given as goal
 
 abbrev pub invariant-loop-least : goal.invariant-loop-least
 invariant-loop-least g l =

@@ -12,7 +12,7 @@ use Rattle.lrp_tables.specs.Calls.{tests_reach}
 use Rattle.lrp_tables.specs.Columns.{joint, scan_texts, scan_times, texts_of_term, texts_of_test, times_of_term, times_of_test}
 use Rattle.lrp_tables.specs.Tables.{AreNamesAmong}
 use Rattle.lrp_tables.proofs.Joining.{in_joint_right, joint_front, of_joint}
-use Rattle.lrp_parts.specs.Derivations.{IsBehind}
+use Rattle.lrp_parts.specs.Derivations.{FollowsAtom}
 use Rattle.lrp_kept.specs.Disjuncts.{AreJoined, is_test_covered}
 use Rattle.lrp_kept.specs.declared.disjuncts.JoinedAtom.{JoinedAtom}
 use Rattle.lrp_holdings.proofs.Chained.{some_is}
@@ -108,10 +108,10 @@ module _ (tests : List Test) where
   own_tests ts xs (c ∷ all) h zero a e = subst (λ (k : JoinedAtom). k.tests ≡ filter (is_test_covered k.vars.times k.vars.texts) tests) (some_is c a e) h.2
   own_tests ts xs (c ∷ all) h (suc i) a e = own_tests c.vars.times c.vars.texts all h.3 i a e
 
-  pub rises : (ts xs : List Identifier) (all : List JoinedAtom) → AreJoined tests ts xs all → (i j : ℕ) (a b : JoinedAtom) → i ≤ j → slice_get all i ≡ Some a → slice_get all j ≡ Some b → IsBehind a b
+  pub rises : (ts xs : List Identifier) (all : List JoinedAtom) → AreJoined tests ts xs all → (i j : ℕ) (a b : JoinedAtom) → i ≤ j → slice_get all i ≡ Some a → slice_get all j ≡ Some b → FollowsAtom a b
   rises ts xs [] h i j a b le e f = absurd (let l : i < 0 = slice_get_within [] i a e in omega (arith, l))
-  rises ts xs (c ∷ all) h zero zero a b le e f = subst (λ k. IsBehind a k) (sym (some_is c a e) ∙ some_is c b f) (record { times = ([], sym (append-nil a.vars.times)); texts = ([], sym (append-nil a.vars.texts)); tests = λ t k. k })
-  rises ts xs (c ∷ all) h zero (suc j) a b le e f = subst (λ k. IsBehind k b) (some_is c a e) (record {
+  rises ts xs (c ∷ all) h zero zero a b le e f = subst (λ k. FollowsAtom a k) (sym (some_is c a e) ∙ some_is c b f) (record { times = ([], sym (append-nil a.vars.times)); texts = ([], sym (append-nil a.vars.texts)); tests = λ t k. k })
+  rises ts xs (c ∷ all) h zero (suc j) a b le e f = subst (λ k. FollowsAtom k b) (some_is c a e) (record {
     times = (after c.vars.times c.vars.texts all h.3 j b f).times;
     texts = (after c.vars.times c.vars.texts all h.3 j b f).texts;
     tests = λ t k. let r = in_kept (is_test_covered c.vars.times c.vars.texts) tests t (subst (λ us. Contains us t) h.2 k) in (after c.vars.times c.vars.texts all h.3 j b f).kept t r.0 r.1;

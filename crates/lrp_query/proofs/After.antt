@@ -11,7 +11,7 @@ use Rattle.lrp_text.specs.Taking.{is_name, is_name_token, expect, name}
 use Rattle.lrp_query.specs.declared.words.Leading.{Leading}
 use Rattle.lrp_query.specs.declared.words.Leading.TheVariants.{OfRange, OfPair}
 use Rattle.lrp_text.specs.OffsetRule.{offset}
-use Rattle.lrp_query.specs.Rules.{Trees, named_term, comparing, tested, behind_name}
+use Rattle.lrp_query.specs.Rules.{Trees, named_term, comparing, tested, after_name}
 use Rattle.lrp_query.specs.OperatorRules.{OperatorTrees, ranged, paired, operator, with_operators, variable, closed_by, ranged_parts, paired_parts}
 
 -- ---- part by part
@@ -44,28 +44,28 @@ module _ {R P N F : Type 0} (make : OperatorTrees R P N F) (inner : Parser F) wh
 
 module _ {K T F Q R P N : Type 0} (make : Trees K T F Q) (operators : OperatorTrees R P N F) (inner : Parser F) (turns : ℕ) (n : Identifier) (p : Place) (ts : Tokens) where
   -- what stands there without operators, where no other name follows
-  pub plainly_behind : look false is_name ts ≡ Ok (false, ts) → with_operators make operators inner turns n p ts ≡ behind_name false make turns n p ts
+  pub plainly_after : look false is_name ts ≡ Ok (false, ts) → with_operators make operators inner turns n p ts ≡ after_name false make turns n p ts
   unfolding with_operators
-  plainly_behind e = rw e refl
+  plainly_after e = rw e refl
 
   -- and else an operator
-  pub operator_behind : (o : Option (Leading R P)) → look false is_name ts ≡ Ok (true, ts) → o ≡ operators.word_of n → with_operators make operators inner turns n p ts ≡ operator operators inner p o ts
+  pub operator_after : (o : Option (Leading R P)) → look false is_name ts ≡ Ok (true, ts) → o ≡ operators.word_of n → with_operators make operators inner turns n p ts ≡ operator operators inner p o ts
   unfolding with_operators
-  operator_behind o e w = rw e (ap (λ k. operator operators inner p k ts) (sym w))
+  operator_after o e w = rw e (ap (λ k. operator operators inner p k ts) (sym w))
 
   -- of which the parts are read after its first word
-  pub range_behind : (word : R) → look false is_name ts ≡ Ok (true, ts) → Some (OfRange word) ≡ operators.word_of n → with_operators make operators inner turns n p ts ≡ ranged_parts operators inner word p ts
-  range_behind word e w = operator_behind (Some (OfRange word)) e w ∙ sym (ranged_same operators inner word p ts)
+  pub range_after : (word : R) → look false is_name ts ≡ Ok (true, ts) → Some (OfRange word) ≡ operators.word_of n → with_operators make operators inner turns n p ts ≡ ranged_parts operators inner word p ts
+  range_after word e w = operator_after (Some (OfRange word)) e w ∙ sym (ranged_same operators inner word p ts)
 
-  pub pair_behind : (word : P) → look false is_name ts ≡ Ok (true, ts) → Some (OfPair word) ≡ operators.word_of n → with_operators make operators inner turns n p ts ≡ paired_parts operators inner word p ts
-  pair_behind word e w = operator_behind (Some (OfPair word)) e w ∙ sym (paired_same operators inner word p ts)
+  pub pair_after : (word : P) → look false is_name ts ≡ Ok (true, ts) → Some (OfPair word) ≡ operators.word_of n → with_operators make operators inner turns n p ts ≡ paired_parts operators inner word p ts
+  pair_after word e w = operator_after (Some (OfPair word)) e w ∙ sym (paired_same operators inner word p ts)
 
 -- ---- where no name is the first word of an operator
 
 module _ {K T F Q R P N : Type 0} (make : Trees K T F Q) (operators : OperatorTrees R P N F) (inner : Parser F) (turns : ℕ) (n : Identifier) (p : Place) where
   -- no atom, comparison or `in` has a name after its own
-  no_name : (k : Token) (q : Place) (us : Tokens) → is_name_token k ≡ true → behind_name false make turns n p (record { token = k; place = q } ∷ us) ≡ Err (Syntax, record { token = k; place = q } ∷ us)
-  unfolding behind_name named_term offset tested comparing eat accept
+  no_name : (k : Token) (q : Place) (us : Tokens) → is_name_token k ≡ true → after_name false make turns n p (record { token = k; place = q } ∷ us) ≡ Err (Syntax, record { token = k; place = q } ∷ us)
+  unfolding after_name named_term offset tested comparing eat accept
   no_name (name_token m) q us e = refl
   no_name (word_token w) q us e = absurd cc
   no_name (number_token k) q us e = absurd cc
@@ -75,11 +75,11 @@ module _ {K T F Q R P N : Type 0} (make : Trees K T F Q) (operators : OperatorTr
   no_name bad_token q us e = absurd cc
   no_name hole_token q us e = absurd cc
 
-  either_way : (again : Bool) (us : Tokens) → operators.word_of n ≡ None → (again ≡ true → behind_name false make turns n p us ≡ Err (Syntax, us)) → (if again then operator operators inner p (operators.word_of n) else behind_name false make turns n p) us ≡ behind_name false make turns n p us
+  either_way : (again : Bool) (us : Tokens) → operators.word_of n ≡ None → (again ≡ true → after_name false make turns n p us ≡ Err (Syntax, us)) → (if again then operator operators inner p (operators.word_of n) else after_name false make turns n p) us ≡ after_name false make turns n p us
   either_way true us none stops = ap (λ o. operator operators inner p o us) none ∙ sym (stops refl)
   either_way false us none stops = refl
 
-  pub wordless : (ts : Tokens) → operators.word_of n ≡ None → with_operators make operators inner turns n p ts ≡ behind_name false make turns n p ts
+  pub wordless : (ts : Tokens) → operators.word_of n ≡ None → with_operators make operators inner turns n p ts ≡ after_name false make turns n p ts
   unfolding with_operators look
   wordless [] none = refl
   wordless (t ∷ us) none = either_way (is_name t) (t ∷ us) none (no_name t.token t.place us)

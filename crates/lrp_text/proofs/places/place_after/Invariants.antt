@@ -1,6 +1,6 @@
 use Rattle.std.proofs.Common.{◌≡◌, ◌≤◌, ◌+◌, take}
 use Rattle.lrp_model.specs.Lexing.{after, start}
-use Rattle.lrp_text.proofs.places.place_behind.Given as goal
+use Rattle.lrp_text.proofs.places.place_after.Given as goal
 
 -- the place after the bytes so far
 abbrev pub invariant-loop-byte : goal.invariant-loop-byte

@@ -7,7 +7,7 @@ use Rattle.lrp_model.specs.declared.relations.Column.{Column}
 use Rattle.std.specs.Prelude.{List, Option}
 use Rattle.lrp_top.specs.Questions.{question_steps}
 use Rattle.lrp_top.proofs.Listed.{some_shape, told_page}
-use Rattle.lrp_top.proofs.listing.page_behind.Goals as goal
+use Rattle.lrp_top.proofs.listing.page_after.Goals as goal
 
 pub page_of-requires-clause-after : goal.page_of-requires-clause-after
 page_of-requires-clause-after c = some_shape c.in-Ok.answer c.args.question.query.query.head.columns c.args.after c.in-Ok.ensures.answers.head c.requires.after

@@ -9,7 +9,7 @@ use Rattle.lrp_model.specs.declared.tuples.Spot.{Spot}
 use Rattle.lrp_outputs.specs.First.{first_line}
 use Rattle.lrp_outputs.specs.Spots.{answer_tuple}
 use Rattle.lrp_outputs.proofs.LineLemmas.{there}
-use Rattle.lrp_outputs.proofs.leasts.LeastsText.write_to.Goals as goal
+use Rattle.lrp_outputs.proofs.leasts.LeastAnswersText.write_to.Goals as goal
 
 pub returns-in_err-write_first-clause-text : goal.returns-in_err-write_first-clause-text
 returns-in_err-write_first-clause-text g c =

@@ -1,0 +1,10 @@
+use Rattle.std.proofs.Common.{◌≡◌, ◌≤◌, length}
+use Rattle.lrp_model.specs.Lexing.{is_name_byte, after_run}
+use Rattle.lrp_text.proofs.bytes.after_name.Given as goal
+
+-- going on from here gives the same
+abbrev pub invariant-loop-rest : goal.invariant-loop-rest
+invariant-loop-rest l = record { same : after_run is_name_byte l.rest ≡ after_run is_name_byte l.fn.bytes; shorter : length l.rest ≤ length l.fn.bytes }
+
+abbrev pub decreases-loop-rest : goal.decreases-loop-rest
+decreases-loop-rest l = length l.rest
