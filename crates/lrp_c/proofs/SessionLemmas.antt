@@ -7,7 +7,7 @@ use Rattle.lrp_io.specs.declared.shelf.File.{File}
 use Rattle.lrp_outputs.specs.declared.status.Status.{Status}
 use Rattle.lrp_top.specs.Keeping.{IsToldOf, MeansDue}
 use Rattle.lrp_top.specs.Seen.{AreBytesOf, IsOverrun, ShelfSeen, SinkSeen}
-use Rattle.lrp_top.specs.declared.asking.Asked.{Asked}
+use Rattle.lrp_words.specs.declared.purpose.Asked.{Asked}
 use Rattle.lrp_c.specs.Calls.{IsRunOver}
 use Rattle.lrp_c.specs.Sessions.{HasQuery}
 use Rattle.lrp_c.proofs.JoinedFiles.{first_has, second_has}

@@ -1,7 +1,7 @@
 -- What a file of a session holds.
 use Rattle.std.specs.Prelude.{◌≡◌, ℕ, List}
 use Rattle.lrp_top.specs.Keeping.{IsDatabaseKept, IsReadFor}
-use Rattle.lrp_top.specs.declared.asking.Asked.{Asked}
+use Rattle.lrp_words.specs.declared.purpose.Asked.{Asked}
 use Rattle.lrp_top.specs.declared.keeping.KeptDatabase.{KeptDatabase}
 use Rattle.lrp_c.specs.declared.kept_file.Content.{Content}
 use Rattle.lrp_c.specs.declared.kept_file.Content.TheVariants.{Bytes, Database}

@@ -5,7 +5,7 @@ use Rattle.lrp_io.specs.Files.{content_of, holds_file}
 use Rattle.lrp_io.specs.declared.shelf.File.{File}
 use Rattle.lrp_model.specs.Limits.{most_bytes}
 use Rattle.lrp_top.specs.Keeping.{MeansDue}
-use Rattle.lrp_top.specs.declared.asking.Asked.{Asked}
+use Rattle.lrp_words.specs.declared.purpose.Asked.{Asked}
 use Rattle.lrp_outputs.specs.Statuses.{status_number}
 use Rattle.lrp_c.specs.Calls.{AreUnpacked, IsReplied, IsRunOver, IsUnreplied, filled_with}
 use Rattle.lrp_c.specs.Packed.{packed_files, AreFiles}

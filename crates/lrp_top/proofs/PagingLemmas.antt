@@ -20,14 +20,14 @@ use Rattle.lrp_top.specs.Resuming.{IsResumed}
 use Rattle.lrp_top.specs.Seen.{IsOverrun, ShelfSeen, SinkSeen}
 use Rattle.lrp_top.specs.Steps.{After, Then}
 use Rattle.lrp_top.specs.Telling.{TellsPage}
-use Rattle.lrp_top.specs.declared.asking.Asked.{Asked}
+use Rattle.lrp_words.specs.declared.purpose.Asked.{Asked}
 use Rattle.lrp_top.specs.declared.files.DatabaseFile.{DatabaseFile}
 use Rattle.lrp_top.specs.declared.keeping.KeptAnswer.{KeptAnswer}
 use Rattle.lrp_top.specs.declared.keeping.KeptQuery.{KeptQuery}
 use Rattle.lrp_top.specs.declared.language.QueryLanguage.{QueryLanguage}
 use Rattle.lrp_top.specs.declared.paging.PageAsked.{PageAsked}
-use Rattle.lrp_top.specs.declared.purpose.Purpose.{Purpose}
-use Rattle.lrp_top.specs.declared.purpose.Purpose.TheVariants as purpose
+use Rattle.lrp_words.specs.declared.purpose.Purpose.{Purpose}
+use Rattle.lrp_words.specs.declared.purpose.Purpose.TheVariants as purpose
 use Rattle.lrp_top.proofs.KeepingLemmas.{again_said, kept_read}
 use Rattle.lrp_top.proofs.QuestionLemmas.{question_read}
 

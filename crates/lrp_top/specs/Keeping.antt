@@ -27,7 +27,7 @@ use Rattle.lrp_top.specs.Sources.{Source}
 use Rattle.lrp_top.specs.Written.{IsSortedAs, plain_by}
 use Rattle.lrp_top.specs.Languages.{civil_by, language_by}
 use Rattle.lrp_top.specs.declared.language.QueryLanguage.{QueryLanguage}
-use Rattle.lrp_top.specs.declared.asking.Asked.{Asked}
+use Rattle.lrp_words.specs.declared.purpose.Asked.{Asked}
 use Rattle.lrp_top.specs.declared.files.DatabaseFile.{DatabaseFile}
 use Rattle.lrp_top.specs.declared.files.QueryFile.{QueryFile}
 use Rattle.lrp_top.specs.declared.keeping.KeptAnswer.{KeptAnswer}
@@ -35,8 +35,8 @@ use Rattle.lrp_top.specs.declared.keeping.KeptDatabase.{KeptDatabase}
 use Rattle.lrp_top.specs.declared.keeping.KeptQuery.{KeptQuery}
 use Rattle.lrp_top.specs.declared.paging.Begun.{Begun}
 use Rattle.lrp_top.specs.declared.paging.PageAsked.{PageAsked}
-use Rattle.lrp_top.specs.declared.purpose.Purpose.{Purpose}
-use Rattle.lrp_top.specs.declared.purpose.Purpose.TheVariants as purpose
+use Rattle.lrp_words.specs.declared.purpose.Purpose.{Purpose}
+use Rattle.lrp_words.specs.declared.purpose.Purpose.TheVariants as purpose
 use Rattle.lrp_top.specs.declared.question.Question.{Question}
 use Rattle.lrp_top.specs.declared.questioning.Unasked.{Unasked}
 

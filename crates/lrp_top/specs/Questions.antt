@@ -30,8 +30,6 @@ use Rattle.lrp_tense.specs.Reading.{IsTenseUnread}
 use Rattle.lrp_tense.specs.TenseReading.{IsTenseQuery}
 use Rattle.lrp_words.specs.Commands.{after_text, asked_files}
 use Rattle.lrp_words.specs.Ranges.{IsEnd}
-use Rattle.lrp_words.specs.declared.command.Command.{Command}
-use Rattle.lrp_words.specs.declared.command.Command.TheVariants.{Ask, Decide, List as Page, Count, Ranges, Explain, Check, Lint, Watch, Sample}
 use Rattle.lrp_words.specs.declared.command.QuestionFiles.{QuestionFiles}
 use Rattle.lrp_answer_text.specs.Answering.{AreAnswerColumns}
 use Rattle.lrp_top.specs.Due.{IsAnswered, IsDecided, IsExplained, IsListed, IsNumberTold, IsPlannedFor, IsRanged}
@@ -45,7 +43,6 @@ use Rattle.lrp_answers.specs.Pauses.{paused_window}
 use Rattle.lrp_answers.specs.declared.paused.Paused.{Paused}
 use Rattle.lrp_top.specs.Seen.{ShelfSeen}
 use Rattle.lrp_top.specs.Sources.{Source}
-use Rattle.lrp_top.specs.declared.asking.Asked.{Asked}
 use Rattle.lrp_top.specs.declared.files.DatabaseFile.{DatabaseFile}
 use Rattle.lrp_top.specs.declared.files.QueryFile.{QueryFile}
 use Rattle.lrp_outputs.specs.declared.head.HeadNeed.{HeadNeed}
@@ -59,9 +56,9 @@ use Rattle.lrp_wide.specs.Limits.{HasTooMany, IsTooDeep}
 use Rattle.lrp_wide.specs.declared.checking.WideRead.{WideRead}
 use Rattle.lrp_wide.specs.declared.checking.WideRead.TheVariants as wide
 use Rattle.lrp_model.specs.declared.raw.RawQuery.{RawQuery}
-use Rattle.lrp_top.specs.declared.purpose.Paging.{Paging}
-use Rattle.lrp_top.specs.declared.purpose.Purpose.{Purpose}
-use Rattle.lrp_top.specs.declared.purpose.Purpose.TheVariants as purpose
+use Rattle.lrp_words.specs.declared.purpose.Paging.{Paging}
+use Rattle.lrp_words.specs.declared.purpose.Purpose.{Purpose}
+use Rattle.lrp_words.specs.declared.purpose.Purpose.TheVariants as purpose
 use Rattle.lrp_top.specs.declared.question.Question.{Question}
 
 -- what a file says
@@ -214,16 +211,3 @@ IsProperPurpose (purpose.Page paging) = IsEnd paging.civil paging.from × IsEnd 
 IsProperPurpose (purpose.Count counting) = IsEnd counting.civil counting.from × IsEnd counting.civil counting.to
 IsProperPurpose (purpose.Ranges ranging) = IsEnd ranging.civil ranging.from × IsEnd ranging.civil ranging.to
 IsProperPurpose _ = Unit {0}
-
--- the question that a command asks, where it asks one: of which files, and for what
-abbrev pub asked_of : Command → Option Asked
-asked_of (Ask files cap canon name) = Some (record { files = files; purpose = purpose.Answer cap canon name })
-asked_of (Decide files cap dates) = Some (record { files = files; purpose = purpose.Witness cap dates })
-asked_of (Page files from to limit after json cap) = Some (record { files = files; purpose = purpose.Page (record { from = from; to = to; limit = limit; after = after; json = json; cap = cap; civil = files.civil }) })
-asked_of (Count files from to cap) = Some (record { files = files; purpose = purpose.Count (record { from = from; to = to; cap = cap; civil = files.civil }) })
-asked_of (Ranges files from to limit json cap) = Some (record { files = files; purpose = purpose.Ranges (record { from = from; to = to; limit = limit; json = json; cap = cap; civil = files.civil }) })
-asked_of (Explain files) = Some (record { files = files; purpose = purpose.Plan })
-asked_of (Check db civil) = None
-asked_of (Lint files) = None
-asked_of (Watch db query edits cap planning auto) = None
-asked_of (Sample seed size) = None

@@ -12,13 +12,13 @@ ghost use Rattle.lrp_top.specs.Heads.{IsMetBy};
 ghost use Rattle.lrp_top.specs.Questions.{IsReady, database_source, query_source};
 ghost use Rattle.lrp_words.specs.Ranges.{IsEnd};
 
-use crate::purpose::{Counting, Ranging};
 use crate::question::Question;
 use crate::serving::answers;
 use lrp_answers::Answer;
 use lrp_count::{count, first_ranges};
 use lrp_model::Memory;
 use lrp_outputs::{Output, RangeLines, Refusal};
+use lrp_words::{Counting, Ranging};
 use std::alloc::Global;
 
 /// The number of answers of a question in a window, or the first step with too many cells.

@@ -6,16 +6,16 @@ ghost use Rattle.lrp_top.specs.Languages.{usual_by};
 ghost use Rattle.lrp_top.specs.Due.{IsDue, IsDueOf, IsDatabaseRead, IsOutput, IsLengthOrMemory, files_named, files_of};
 ghost use Rattle.lrp_top.specs.Lengths.{TellsLength};
 ghost use Rattle.lrp_outputs.specs.Outputs.{told};
-ghost use Rattle.lrp_top.specs.Questions.{IsProperPurpose, IsAsked, IsServed, asked_of, need_of};
+ghost use Rattle.lrp_top.specs.Questions.{IsProperPurpose, IsAsked, IsServed, need_of};
 ghost use Rattle.lrp_top.specs.Seen.{IsOverrun};
 ghost use Rattle.lrp_top.specs.Steps.{Then};
 ghost use Rattle.lrp_top.specs.Telling.{TellsRelations};
-ghost use Rattle.lrp_words.specs.Commands.{task_of};
+ghost use Rattle.lrp_words.specs.Commands.{HasCivilOfFiles, task_of};
 ghost use Rattle.lrp_words.specs.Ranges.{IsInRange};
 
-use crate::asking::{Asked, asked_by};
 use crate::files::usual_database;
 use crate::linting::lint;
+use crate::needing::head_need;
 use crate::question::question_of;
 use crate::sampling::sample;
 use crate::seeing::Watched;
@@ -24,7 +24,7 @@ use crate::watching::{WatchFiles, Watching, watch};
 use lrp_io::Shelf;
 use lrp_outputs::{Output, Refusal};
 use lrp_rel::databases_read_back;
-use lrp_words::{Command, Usage, read_words};
+use lrp_words::{Asked, Command, Usage, read_words};
 use std::alloc::Global;
 
 /// The output that the words ask for, or the first refusal that applies.
@@ -47,29 +47,7 @@ fn carry_out<F: Shelf>(
     shelf: &mut F,
 ) -> Result<Output, Refusal>
     requires range { IsInRange (task_of command) }
-    ensures due { IsDueOf (task_of command.entry) (⟦<F as Watched>⟧.seen shelf.old shelf.new)
-        (told result) }
-    ensures long { AllByRecursion (λ name. IsOverrun
-        (⟦<F as Watched>⟧.seen shelf.old shelf.new) name → IsLengthOrMemory (told result))
-        (files_of (task_of command.entry)) }
-    ensures unread { files_of (task_of command.entry) ≡ [] → shelf.new ≡ shelf.old }
-    ensures starts { StartsOnly (F.starts shelf.old) (F.starts shelf.new)
-        (files_of (task_of command.entry)) }
-{
-    match asked_by(command) {
-        Some(asked) => answer_to(alloc, &asked, shelf),
-        None => carry_out_other(alloc, command, shelf),
-    }
-}
-
-/// The output of a command that asks no question, or the first refusal that applies.
-fn carry_out_other<F: Shelf>(
-    alloc: Global,
-    command: Command<'_>,
-    shelf: &mut F,
-) -> Result<Output, Refusal>
-    requires other { asked_of command ≡ None }
-    requires range { IsInRange (task_of command) }
+    requires civil { HasCivilOfFiles command }
     ensures due { IsDueOf (task_of command.entry) (⟦<F as Watched>⟧.seen shelf.old shelf.new)
         (told result) }
     ensures long { AllByRecursion (λ name. IsOverrun
@@ -80,6 +58,7 @@ fn carry_out_other<F: Shelf>(
         (files_of (task_of command.entry)) }
 {
     match command {
+        Command::Question { asked } => answer_to(alloc, &asked, shelf),
         Command::Check { db, civil } => check(alloc, db, civil, shelf),
         Command::Lint { files } => lint(alloc, &files, shelf),
         Command::Watch {
@@ -103,7 +82,6 @@ fn carry_out_other<F: Shelf>(
             watch(alloc, &files, how, shelf)
         }
         Command::Sample { seed, size } => sample(alloc, seed, size),
-        _ => unreachable!(),
     }
 }
 
@@ -138,7 +116,7 @@ fn answer_to<F: Shelf>(alloc: Global, asked: &Asked<'_>, shelf: &mut F) -> Resul
     ensures starts { StartsOnly (F.starts shelf.old) (F.starts shelf.new)
         (asked.now.files.database.now ∷ asked.now.files.query.now ∷ []) }
 {
-    let need = asked.purpose.need();
+    let need = head_need(&asked.purpose);
     match question_of(alloc, &asked.files, need, shelf) {
         Ok(question) => serve(alloc, question, &asked.purpose),
         Err(refusal) => Err(refusal),

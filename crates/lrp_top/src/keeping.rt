@@ -3,14 +3,13 @@ ghost use Rattle.std.specs.Prelude.{◌≡◌, ◌≤◌, IfErr, IfOk, IfSome, I
 ghost use Rattle.lrp_model.specs.Limits.{most_bytes};
 ghost use Rattle.lrp_top.specs.Keeping.{AsksAgain, AsksSame, IsDatabaseKept, IsReadFor};
 
-use crate::asking::Asked;
 use crate::files::{DatabaseFile, QueryFile};
 use crate::language::{QueryLanguage, civil_of, language_of};
 use crate::reading::relations_of;
 use lrp_answers::{Answer, Paused};
 use lrp_civil::CivilText;
 use lrp_model::{List, Planning};
-use lrp_words::QuestionFiles;
+use lrp_words::{Asked, QuestionFiles};
 use std::alloc::Global;
 
 /// A query over a database that is kept, how its answers were found, and the digest of both files.

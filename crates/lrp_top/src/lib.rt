@@ -1,7 +1,6 @@
 //! The meaning of the command line: from words and files to a status and a text.
 #![tactic(auto)]
 
-mod asking;
 mod counting;
 mod deciding;
 mod files;
@@ -9,8 +8,8 @@ mod keeping;
 mod language;
 mod linting;
 mod listing;
+mod needing;
 mod paging;
-mod purpose;
 mod question;
 mod questioning;
 mod reading;
@@ -21,10 +20,9 @@ mod seeing;
 mod serving;
 mod watching;
 
-pub use asking::Asked;
 pub use keeping::{KeptDatabase, is_read_for, keep};
 pub use lrp_outputs::{Refusal, Status, WatchRefusal};
 pub use lrp_sample::{Texts, sample_texts};
-pub use lrp_words::{Command, Usage, read_words};
+pub use lrp_words::{Asked, Command, Usage, read_words};
 pub use paging::{Told, ask, question_in};
 pub use running::run;

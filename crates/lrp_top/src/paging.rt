@@ -11,14 +11,12 @@ ghost use Rattle.lrp_top.specs.Keeping.{IsAnswerKept, IsAnswering, IsPageBegun, 
 ghost use Rattle.lrp_top.specs.Questions.{IsProperPurpose, IsReady, database_source, query_source};
 ghost use Rattle.lrp_top.specs.Resuming.{shape_of};
 ghost use Rattle.lrp_top.specs.Telling.{TellsPage};
-ghost use Rattle.lrp_top.specs.declared.purpose.Purpose.TheVariants as purpose;
+ghost use Rattle.lrp_words.specs.declared.purpose.Purpose.TheVariants as purpose;
 
-use crate::asking::{Asked, asked_by};
 use crate::files::DatabaseFile;
 use crate::keeping::{KeptAnswer, KeptDatabase, KeptQuery, kept_for};
 use crate::language::{civil_of, language_of};
 use crate::listing::{PageStart, Paged, page_of};
-use crate::purpose::{Paging, Purpose};
 use crate::question::Question;
 use crate::questioning::{Served, Unasked, answer_over, question_over};
 use crate::resuming::resumed;
@@ -30,7 +28,7 @@ use lrp_io::{Failed, Sink, write_buffered};
 use lrp_model::{List, Memory, Tuple};
 use lrp_outputs::{Page, Refusal, Status};
 use lrp_token::digest;
-use lrp_words::{QuestionFiles, Usage, read_words};
+use lrp_words::{Asked, Command, Paging, Purpose, QuestionFiles, read_words};
 use std::alloc::Global;
 
 /// A status, and what is kept after it.
@@ -61,11 +59,8 @@ pub fn question_in(words: &[String]) -> Option<Asked<'_>>
     ensures due { IfSome result (MeansDue words.now) }
 {
     match read_words(words) {
-        Ok(command) => match asked_by(command) {
-            Some(asked) => for_answers(asked),
-            None => None,
-        },
-        Err(Usage) => None,
+        Ok(Command::Question { asked }) => for_answers(asked),
+        _ => None,
     }
 }
 

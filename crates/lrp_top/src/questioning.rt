@@ -9,17 +9,16 @@ ghost use Rattle.lrp_top.specs.Keeping.{IsDueOver, IsFileRead, IsQuerySaid, IsWh
 ghost use Rattle.lrp_top.specs.Questions.{IsProperPurpose, IsAsked, IsMadeOf, IsReady, IsServed, database_source, need_of, query_source};
 ghost use Rattle.lrp_top.specs.Seen.{AreBytesOf, ShelfSeen};
 
-use crate::asking::Asked;
 use crate::counting::{number, range_lines};
 use crate::files::DatabaseFile;
 use crate::language::language_of;
-use crate::purpose::Purpose;
+use crate::needing::head_need;
 use crate::question::{Question, fit_plan};
 use crate::reading::query_in;
 use crate::serving::{named_answer, witness};
 use lrp_model::List;
 use lrp_outputs::{HeadNeed, Output, Refusal};
-use lrp_words::QuestionFiles;
+use lrp_words::{Asked, Purpose, QuestionFiles};
 use std::alloc::Global;
 
 /// Why a question was refused, and the database that it was over.
@@ -45,7 +44,7 @@ pub fn answer_over(alloc: Global, asked: &Asked<'_>, query: List<u8>, file: Data
     ensures due { IsDueOver asked.now file.bytes query (told result.outcome) }
     ensures file { result.file ≡ file }
 {
-    let need = asked.purpose.need();
+    let need = head_need(&asked.purpose);
     match question_over(alloc, &asked.files, need, query, file) {
         Ok(question) => serve_lent(alloc, question, &asked.purpose),
         Err(unasked) => refused(unasked),

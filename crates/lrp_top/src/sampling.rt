@@ -11,7 +11,6 @@ ghost use Rattle.lrp_top.specs.Samples.{IsSampleOrMemory};
 
 use crate::language::QueryLanguage;
 use crate::listing::{PageStart, gather};
-use crate::purpose::Paging;
 use crate::question::{Question, plan_of};
 use crate::reading::{database_in, query_in};
 use crate::serving::{answers, least_of};
@@ -23,6 +22,7 @@ use lrp_sample::{
     Texts, sample_has_few_answers, sample_has_few_cells, sample_is_within_limits,
     sample_query_is_well_sorted, sample_texts, sample_texts_are_read,
 };
+use lrp_words::Paging;
 use std::alloc::Global;
 use std::marker::Brand;
 use std::sync::ledger::Blank;

@@ -20,7 +20,6 @@ ghost use Rattle.lrp_top.specs.Telling.{TellsWitness};
 
 use crate::counting::{number, range_lines};
 use crate::listing::page;
-use crate::purpose::Purpose;
 use crate::question::Question;
 use lrp_answer_text::answers_are_texts;
 use lrp_answers::Answer;
@@ -32,6 +31,7 @@ use lrp_outputs::{
     spots_stand_for_tuples,
 };
 use lrp_theory::floors_keep_bounds;
+use lrp_words::Purpose;
 use std::alloc::Global;
 
 /// What is told of a question for a purpose, or the first refusal after its plan.

@@ -1,5 +1,5 @@
 -- The command that words spell: the first word is its name, and each further one gives one of its keys a value.
-use Rattle.std.specs.Prelude.{ℕ, ℤ, nat_le, length, List, [], ◌∷◌, Bool, true, false, ◌&&◌, Option, Some, None, if◌then◌else◌, codes}
+use Rattle.std.specs.Prelude.{◌≡◌, ℕ, ℤ, nat_le, length, List, [], ◌∷◌, Bool, true, false, ◌&&◌, Option, Some, None, if◌then◌else◌, codes}
 use Rattle.std.specs.Borrow.{Bor}
 use Rattle.std.specs.Option.{option_and_then}
 use Rattle.std.specs.Str.{bytes_eq}
@@ -15,7 +15,9 @@ use Rattle.lrp_words.specs.declared.keys.Key.TheVariants.{Db, Query, Edits, Cap,
 use Rattle.lrp_words.specs.declared.command.Command.{Command}
 use Rattle.lrp_words.specs.declared.command.LintFiles.{LintFiles}
 use Rattle.lrp_words.specs.declared.command.QuestionFiles.{QuestionFiles}
-use Rattle.lrp_words.specs.declared.command.Command.TheVariants.{Ask, Decide, List as Page, Count, Ranges, Explain, Check, Lint, Watch, Sample}
+use Rattle.lrp_words.specs.declared.command.Command.TheVariants.{Question, Check, Lint, Watch, Sample}
+use Rattle.lrp_words.specs.declared.purpose.Purpose.{Purpose}
+use Rattle.lrp_words.specs.declared.purpose.Purpose.TheVariants.{Plan as Explained, Answer, Witness, Page, Count, Ranges}
 use Rattle.lrp_words.specs.Entries.{value_for, are_given}
 use Rattle.lrp_words.specs.Numbers.{natural, within, integer_up_to}
 use Rattle.lrp_model.specs.Limits.{greatest_number, most_bytes}
@@ -62,18 +64,34 @@ asked_files files = record { database = files.database.now; query = files.query.
 abbrev pub linted_files : LintFiles → FilesLinted
 linted_files files = record { database = files.database.now; query = after_text files.query; tense = files.tense; civil = files.civil }
 
--- what a command of the program asks; `Page` is its command `List`
+-- what a question of files is asked for
+abbrev pub asked_task : FilesAsked → Purpose → Task
+asked_task of Explained = explain of
+asked_task of (Answer cap canon name) = ask of cap canon name.now
+asked_task of (Witness cap dates) = decide of cap dates
+asked_task of (Page p) = list of p.from p.to p.limit (after_text p.after) p.json p.cap
+asked_task of (Count c) = count of c.from c.to c.cap
+asked_task of (Ranges r) = ranges of r.from r.to r.limit r.json r.cap
+
+-- what a command of the program asks
 abbrev pub task_of : Command → Task
-task_of (Ask files cap canon name) = ask (asked_files files) cap canon name.now
-task_of (Decide files cap dates) = decide (asked_files files) cap dates
-task_of (Page files from to limit after json cap) = list (asked_files files) from to limit (after_text after) json cap
-task_of (Count files from to cap) = count (asked_files files) from to cap
-task_of (Ranges files from to limit json cap) = ranges (asked_files files) from to limit json cap
-task_of (Explain files) = explain (asked_files files)
+task_of (Question asked) = asked_task (asked_files asked.files) asked.purpose
 task_of (Check db civil) = check db.now civil
 task_of (Lint files) = lint (linted_files files)
 task_of (Watch db query edits cap planning auto) = watch db.now query.now edits.now cap planning auto
 task_of (Sample seed size) = sample seed size
+
+-- a purpose that shows times shows them as dates where its flag says so
+abbrev pub HasCivil : Bool → Purpose → Type 0
+HasCivil civil (Page p) = p.civil ≡ civil
+HasCivil civil (Count c) = c.civil ≡ civil
+HasCivil civil (Ranges r) = r.civil ≡ civil
+HasCivil civil _ = Unit {0}
+
+-- where the command asks a question, its purpose takes times as its files do
+abbrev pub HasCivilOfFiles : Command → Type 0
+HasCivilOfFiles (Question asked) = HasCivil asked.files.civil asked.purpose
+HasCivilOfFiles _ = Unit {0}
 
 -- the same where there may be no command
 abbrev pub tasks_of : Option Command → Option Task

@@ -1,4 +1,5 @@
 // What words ask for.
+use crate::purpose::Asked;
 use lrp_model::Planning;
 use thiserror::Error;
 
@@ -25,51 +26,14 @@ pub struct LintFiles<'a> {
     pub civil: bool,
 }
 
-/// A command with its values, whose texts are borrowed from the words. Contracts see its task, with texts as bytes.
+/// A command with its values, whose texts are borrowed from the words: a question of files with its purpose, or one that
+/// asks none. Contracts see its task, with texts as bytes.
 ///
-/// `db`, `query` and `edits` are names of files, and not empty. `from` and `to` have a magnitude of at most 2^62, and
-/// are minutes of the years 1 to 9999 where times are civil ones. `after` is any text; its form is judged later. With `canon`
-/// the canonical answer is told, and by `name`, a name of the grammar, the answer's relation is called. With `dates`, which
-/// stands only where times are civil ones, times are shown as dates. With `auto` a query that isn't in kept form is watched
-/// too.
+/// `db`, `query` and `edits` are names of files, and not empty. With `auto` a query that isn't in kept form is watched too.
 #[derive(Clone, Copy)]
 pub enum Command<'a> {
-    Ask {
-        files: QuestionFiles<'a>,
-        cap: u32,
-        canon: bool,
-        name: &'a str,
-    },
-    Decide {
-        files: QuestionFiles<'a>,
-        cap: u32,
-        dates: bool,
-    },
-    List {
-        files: QuestionFiles<'a>,
-        from: i64,
-        to: i64,
-        limit: u32,
-        after: Option<&'a str>,
-        json: bool,
-        cap: u32,
-    },
-    Count {
-        files: QuestionFiles<'a>,
-        from: i64,
-        to: i64,
-        cap: u32,
-    },
-    Ranges {
-        files: QuestionFiles<'a>,
-        from: i64,
-        to: i64,
-        limit: u32,
-        json: bool,
-        cap: u32,
-    },
-    Explain {
-        files: QuestionFiles<'a>,
+    Question {
+        asked: Asked<'a>,
     },
     Check {
         db: &'a str,

@@ -5,7 +5,9 @@ mod command;
 mod entries;
 mod keys;
 mod numbers;
+mod purpose;
 mod reading;
 
 pub use command::{Command, LintFiles, QuestionFiles, Usage};
+pub use purpose::{Asked, Counting, Paging, Purpose, Ranging};
 pub use reading::read_words;

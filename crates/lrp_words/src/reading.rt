@@ -1,7 +1,7 @@
 // Words as a command: its name, and then the values of its keys.
 ghost use Rattle.std.specs.Prelude.{◌≡◌, ◌<◌, ◌≤◌, ◌^◌, [], ◌∷◌, map, string_bytes, option_map, Some, None, IfOk, IfSome, MatchResult, true};
 ghost use Rattle.lrp_model.specs.Names.{IsName};
-ghost use Rattle.lrp_words.specs.Commands.{ask_keys, ask_of, auto_of, canon_of, cap_of, check_keys, check_of, civil_of, command, count_keys, counting_of, dates_of, decide_keys, decide_of, end_of, explain_keys, explain_of, flag_of, file as file_by, asked_files, files_in, files_to_lint, json_of as is_json_by, limit_of, lint_keys, lint_of, linted_files, list_keys, list_of, number_in as number_by, number_or as number_or_by, optional_file as optional_file_by, over, planning_in, ranges_keys, ranges_of, sample_keys, sample_of, task_of, tasks_of, tense_flag, after_text, watch_keys, watch_of, wide_flag, relation_name_of, is_name_of};
+ghost use Rattle.lrp_words.specs.Commands.{HasCivilOfFiles, ask_keys, ask_of, auto_of, canon_of, cap_of, check_keys, check_of, civil_of, command, count_keys, counting_of, dates_of, decide_keys, decide_of, end_of, explain_keys, explain_of, flag_of, file as file_by, asked_files, files_in, files_to_lint, json_of as is_json_by, limit_of, lint_keys, lint_of, linted_files, list_keys, list_of, number_in as number_by, number_or as number_or_by, optional_file as optional_file_by, over, planning_in, ranges_keys, ranges_of, sample_keys, sample_of, task_of, tasks_of, tense_flag, after_text, watch_keys, watch_of, wide_flag, relation_name_of, is_name_of};
 ghost use Rattle.lrp_words.specs.Entries.{value_for as value_by};
 ghost use Rattle.lrp_words.specs.Ranges.{IsInRange, IsEnd};
 
@@ -9,6 +9,7 @@ use crate::command::{Command, LintFiles, QuestionFiles, Usage};
 use crate::entries::{are_given, value};
 use crate::keys::Key;
 use crate::numbers::{integer, within};
+use crate::purpose::{Asked, Counting, Paging, Purpose, Ranging};
 use lrp_calendar::minute_of;
 use lrp_model::Planning;
 use lrp_text::TokenCursor;
@@ -24,6 +25,7 @@ pub fn read_words(words: &[String]) -> Result<Command<'_>, Usage>
     ensures command { MatchResult result (λ found. command (map string_bytes words.now)
         ≡ Some (task_of found)) (λ _. command (map string_bytes words.now) ≡ None) }
     ensures range { IfOk result (λ found. IsInRange (task_of found)) }
+    ensures civil { IfOk result HasCivilOfFiles }
 {
     let [name, words @ ..] = words else {
         return Err(Usage);
@@ -38,6 +40,7 @@ pub fn read_words(words: &[String]) -> Result<Command<'_>, Usage>
 fn named<'a>(name: &str, words: &'a [String]) -> Option<Command<'a>>
     ensures task { tasks_of result ≡ command (name.now ∷ map string_bytes words.now) }
     ensures range { IfSome result (λ found. IsInRange (task_of found)) }
+    ensures civil { IfSome result HasCivilOfFiles }
 {
     match name {
         "ask" => ask(words),
@@ -58,6 +61,7 @@ fn ask(words: &[String]) -> Option<Command<'_>>
     ensures task { tasks_of result ≡ over ask_keys (map string_bytes words.now)
         (ask_of (map string_bytes words.now)) }
     ensures range { IfSome result (λ found. IsInRange (task_of found)) }
+    ensures civil { IfSome result HasCivilOfFiles }
 {
     let keys = [
         Key::Db,
@@ -74,18 +78,19 @@ fn ask(words: &[String]) -> Option<Command<'_>>
         return None;
     }
     let files = files(words)?;
-    Some(Command::Ask {
-        files,
+    let purpose = Purpose::Answer {
         cap: cap(words)?,
         canon: canon(words)?,
         name: relation_name(words)?,
-    })
+    };
+    Some(question(files, purpose))
 }
 
 fn decide(words: &[String]) -> Option<Command<'_>>
     ensures task { tasks_of result ≡ over decide_keys (map string_bytes words.now)
         (decide_of (map string_bytes words.now)) }
     ensures range { IfSome result (λ found. IsInRange (task_of found)) }
+    ensures civil { IfSome result HasCivilOfFiles }
 {
     if !are_given(
         &[
@@ -103,17 +108,18 @@ fn decide(words: &[String]) -> Option<Command<'_>>
         return None;
     }
     let files = files(words)?;
-    Some(Command::Decide {
-        files,
+    let purpose = Purpose::Witness {
         cap: cap(words)?,
         dates: dates(files.civil, words)?,
-    })
+    };
+    Some(question(files, purpose))
 }
 
 fn list(words: &[String]) -> Option<Command<'_>>
     ensures task { tasks_of result ≡ over list_keys (map string_bytes words.now)
         (list_of (map string_bytes words.now)) }
     ensures range { IfSome result (λ found. IsInRange (task_of found)) }
+    ensures civil { IfSome result HasCivilOfFiles }
 {
     let keys = [
         Key::Db,
@@ -133,21 +139,23 @@ fn list(words: &[String]) -> Option<Command<'_>>
         return None;
     }
     let files = files(words)?;
-    Some(Command::List {
-        files,
+    let paging = Paging {
         from: end(Key::From, files.civil, words)?,
         to: end(Key::To, files.civil, words)?,
         limit: limit(words)?,
         after: value(Key::After, words),
         json: is_json(words)?,
         cap: cap(words)?,
-    })
+        civil: files.civil,
+    };
+    Some(question(files, Purpose::Page { paging }))
 }
 
 fn count(words: &[String]) -> Option<Command<'_>>
     ensures task { tasks_of result ≡ over count_keys (map string_bytes words.now)
         (counting_of (map string_bytes words.now)) }
     ensures range { IfSome result (λ found. IsInRange (task_of found)) }
+    ensures civil { IfSome result HasCivilOfFiles }
 {
     let keys = [
         Key::Db,
@@ -164,18 +172,20 @@ fn count(words: &[String]) -> Option<Command<'_>>
         return None;
     }
     let files = files(words)?;
-    Some(Command::Count {
-        files,
+    let counting = Counting {
         from: end(Key::From, files.civil, words)?,
         to: end(Key::To, files.civil, words)?,
         cap: cap(words)?,
-    })
+        civil: files.civil,
+    };
+    Some(question(files, Purpose::Count { counting }))
 }
 
 fn ranges(words: &[String]) -> Option<Command<'_>>
     ensures task { tasks_of result ≡ over ranges_keys (map string_bytes words.now)
         (ranges_of (map string_bytes words.now)) }
     ensures range { IfSome result (λ found. IsInRange (task_of found)) }
+    ensures civil { IfSome result HasCivilOfFiles }
 {
     let keys = [
         Key::Db,
@@ -194,20 +204,22 @@ fn ranges(words: &[String]) -> Option<Command<'_>>
         return None;
     }
     let files = files(words)?;
-    Some(Command::Ranges {
-        files,
+    let ranging = Ranging {
         from: end(Key::From, files.civil, words)?,
         to: end(Key::To, files.civil, words)?,
         limit: limit(words)?,
         json: is_json(words)?,
         cap: cap(words)?,
-    })
+        civil: files.civil,
+    };
+    Some(question(files, Purpose::Ranges { ranging }))
 }
 
 fn explain(words: &[String]) -> Option<Command<'_>>
     ensures task { tasks_of result ≡ over explain_keys (map string_bytes words.now)
         (explain_of (map string_bytes words.now)) }
     ensures range { IfSome result (λ found. IsInRange (task_of found)) }
+    ensures civil { IfSome result HasCivilOfFiles }
 {
     if !are_given(
         &[
@@ -222,15 +234,14 @@ fn explain(words: &[String]) -> Option<Command<'_>>
     ) {
         return None;
     }
-    Some(Command::Explain {
-        files: files(words)?,
-    })
+    Some(question(files(words)?, Purpose::Plan))
 }
 
 fn check(words: &[String]) -> Option<Command<'_>>
     ensures task { tasks_of result ≡ over check_keys (map string_bytes words.now)
         (check_of (map string_bytes words.now)) }
     ensures range { IfSome result (λ found. IsInRange (task_of found)) }
+    ensures civil { IfSome result HasCivilOfFiles }
 {
     if !are_given(&[Key::Db, Key::Civil], words) {
         return None;
@@ -245,6 +256,7 @@ fn lint(words: &[String]) -> Option<Command<'_>>
     ensures task { tasks_of result ≡ over lint_keys (map string_bytes words.now)
         (lint_of (map string_bytes words.now)) }
     ensures range { IfSome result (λ found. IsInRange (task_of found)) }
+    ensures civil { IfSome result HasCivilOfFiles }
 {
     if !are_given(&[Key::Db, Key::Query, Key::Tense, Key::Civil], words) {
         return None;
@@ -258,6 +270,7 @@ fn watch(words: &[String]) -> Option<Command<'_>>
     ensures task { tasks_of result ≡ over watch_keys (map string_bytes words.now)
         (watch_of (map string_bytes words.now)) }
     ensures range { IfSome result (λ found. IsInRange (task_of found)) }
+    ensures civil { IfSome result HasCivilOfFiles }
 {
     let keys = [
         Key::Db,
@@ -284,6 +297,7 @@ fn sample(words: &[String]) -> Option<Command<'_>>
     ensures task { tasks_of result ≡ over sample_keys (map string_bytes words.now)
         (sample_of (map string_bytes words.now)) }
     ensures range { IfSome result (λ found. IsInRange (task_of found)) }
+    ensures civil { IfSome result HasCivilOfFiles }
 {
     if !are_given(&[Key::Seed, Key::Size], words) {
         return None;
@@ -292,6 +306,14 @@ fn sample(words: &[String]) -> Option<Command<'_>>
         seed: number(Key::Seed, words, 0, 1_000_000)?,
         size: number(Key::Size, words, 1, 500)?,
     })
+}
+
+/// The command that asks a question of files for a purpose.
+fn question<'a>(files: QuestionFiles<'a>, purpose: Purpose<'a>) -> Command<'a>
+    ensures { result ≡ Command.Question (record { files = files.entry; purpose = purpose.entry }) }
+{
+    let asked = Asked { files, purpose };
+    Command::Question { asked }
 }
 
 /// What each question of files has.

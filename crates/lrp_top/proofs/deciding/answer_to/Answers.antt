@@ -12,7 +12,7 @@ returns-in-Ok-clause-due g c =
     let need = need_of asked.purpose in
     let question = c.in-Ok.question in
     question_due (asked_files asked.files) need _ question (IsServed asked.files.planning asked.purpose) (told c.serve.result)
-    (needed_same (asked_files asked.files) c.need-need.result need _ IsMadeOf (Ok question) c.need-need.ensures c.in-Ok.ensures.question)
+    (needed_same (asked_files asked.files) c.head_need-need.result need _ IsMadeOf (Ok question) c.head_need-need.ensures c.in-Ok.ensures.question)
     (subst (λ way. IsServed way asked.purpose (database_source question.database) (query_source question.query) question.plan (told c.serve.result)) c.in-Ok.ensures.planning c.serve.ensures.served)
 
 pub returns-in-Err-clause-due : goal.returns-in-Err-clause-due
@@ -20,7 +20,7 @@ returns-in-Err-clause-due g c =
     let asked = c.args.asked.now in
     let need = need_of asked.purpose in
     refusal_due (asked_files asked.files) need _ c.in-Err.refusal (IsServed asked.files.planning asked.purpose)
-    (needed_same (asked_files asked.files) c.need-need.result need _ IsMadeOf (Err c.in-Err.refusal) c.need-need.ensures c.in-Err.ensures.question)
+    (needed_same (asked_files asked.files) c.head_need-need.result need _ IsMadeOf (Err c.in-Err.refusal) c.head_need-need.ensures c.in-Err.ensures.question)
 
 pub returns-in-Ok-clause-long : goal.returns-in-Ok-clause-long
 returns-in-Ok-clause-long g c = λ name over. absurd (c.in-Ok.ensures.long name over)

@@ -8,7 +8,7 @@ use Rattle.lrp_top.specs.Due.{IsPlannedAs}
 use Rattle.lrp_top.specs.Keeping.{IsPageBegun, IsPageDue, IsQuerySaid, language_asked}
 use Rattle.lrp_top.specs.Questions.{IsMadeOf, IsServed, database_source, query_source}
 use Rattle.lrp_top.specs.declared.files.DatabaseFile.{DatabaseFile}
-use Rattle.lrp_top.specs.declared.purpose.Purpose.TheVariants as purpose
+use Rattle.lrp_words.specs.declared.purpose.Purpose.TheVariants as purpose
 use Rattle.lrp_top.proofs.PagingLemmas.{if_err}
 use Rattle.lrp_top.proofs.QuestionLemmas.{question_due, refusal_due}
 use Rattle.lrp_top.proofs.paging.begin.Goals as goal

@@ -14,7 +14,7 @@ returns-in-Ok-clause-due c =
     let question = c.in-Ok.question in
     let outcome = told c.serve_lent.result.outcome in
     λ seen database query. question_due (asked_files asked.files) need seen question (IsServed asked.files.planning asked.purpose) outcome
-    (needed_same (asked_files asked.files) c.need-need.result need seen IsMadeOf (Ok question) c.need-need.ensures (c.in-Ok.ensures.question seen database query))
+    (needed_same (asked_files asked.files) c.head_need-need.result need seen IsMadeOf (Ok question) c.head_need-need.ensures (c.in-Ok.ensures.question seen database query))
     (subst (λ way. IsServed way asked.purpose (database_source question.database) (query_source question.query) question.plan outcome) c.in-Ok.ensures.planning c.serve_lent.ensures.served)
 
 pub returns-in-Err-clause-due : goal.returns-in-Err-clause-due
@@ -23,4 +23,4 @@ returns-in-Err-clause-due c =
     let need = need_of asked.purpose in
     λ seen database query. subst (λ (o : Outcome). IsAsked asked.files need seen (IsServed asked.files.planning asked.purpose) o) (sym c.refused.ensures.outcome)
     (refusal_due (asked_files asked.files) need seen c.in-Err.unasked.refusal (IsServed asked.files.planning asked.purpose)
-    (needed_same (asked_files asked.files) c.need-need.result need seen IsMadeOf (Err c.in-Err.unasked.refusal) c.need-need.ensures (c.in-Err.ensures.question seen database query)))
+    (needed_same (asked_files asked.files) c.head_need-need.result need seen IsMadeOf (Err c.in-Err.unasked.refusal) c.head_need-need.ensures (c.in-Err.ensures.question seen database query)))

@@ -1,9 +1,12 @@
 // What a question is asked for.
-ghost use Rattle.std.specs.Prelude.{◌≡◌};
-ghost use Rattle.lrp_top.specs.Heads.{canon_need};
-ghost use Rattle.lrp_top.specs.Questions.{need_of};
+use crate::command::QuestionFiles;
 
-use lrp_outputs::HeadNeed;
+/// A question of files, and what it is asked for.
+#[derive(Clone, Copy)]
+pub struct Asked<'a> {
+    pub files: QuestionFiles<'a>,
+    pub purpose: Purpose<'a>,
+}
 
 /// What is told of a question.
 #[derive(Clone, Copy)]
@@ -34,27 +37,6 @@ pub enum Purpose<'a> {
     Ranges {
         ranging: Ranging,
     },
-}
-
-impl Purpose<'_> {
-    /// What its head needs, where it needs something.
-    pub fn need(&self) -> Option<HeadNeed>
-        ensures { result ≡ need_of self.now }
-    {
-        match self {
-            Purpose::Answer { canon, .. } => needed_by(*canon),
-            Purpose::Count { .. } => Some(HeadNeed::Count),
-            Purpose::Ranges { .. } => Some(HeadNeed::Ranges),
-            Purpose::Plan | Purpose::Witness { .. } | Purpose::Page { .. } => None,
-        }
-    }
-}
-
-/// What the head needs for all answers, which may be told in canonical form.
-fn needed_by(canon: bool) -> Option<HeadNeed>
-    ensures { result ≡ canon_need canon }
-{
-    if canon { Some(HeadNeed::Canon) } else { None }
 }
 
 /// What a page is asked for: a window, at most how many lines, a token after which it begins, its form, a cap on the
