@@ -1,12 +1,12 @@
 -- The last table has exactly the answers.
-use Rattle.std.proofs.Common.{◌≡◌, ◌↔◌, ◌<◌, ◌-◌, ℕ, List, [], ◌∷◌, length, Some, Contains, unwrap_or, option_map, refl, sym, ap, subst, ◌∙◌, map}
+use Rattle.std.proofs.Common.{◌≡◌, ◌↔◌, ◌<◌, ◌-◌, ℕ, List, [], ◌∷◌, length, Some, Contains, unwrap_or, option_map, sym, ap, subst, ◌∙◌, map}
 use Rattle.std.specs.List.{AllByRecursion, AllZip}
 use Rattle.std.specs.FinMap as finite
 use Rattle.lrp_model.specs.Texts.{Text}
 use Rattle.lrp_model.specs.Rows.{Datum, time, text, times_of, texts_of}
 use Rattle.lrp_model.specs.Formulas.{Question, conjunction, no_forms}
 use Rattle.lrp_model.specs.Domains.{constants, all_texts}
-use Rattle.lrp_model.specs.Satisfaction.{Assignment, Satisfies, structure, IsOfKind, IsOfSort, IsAnswer, HasShape, assignment}
+use Rattle.lrp_model.specs.Satisfaction.{Satisfies, structure, IsOfKind, IsOfSort, IsAnswer, HasShape, assignment}
 use Rattle.lrp_model.specs.Steps.{PlanStep, Steps, step_at, formula_at}
 use Rattle.lrp_model.specs.declared.relations.Sort.{Sort}
 use Rattle.lrp_model.specs.declared.relations.Sort.TheVariants.{Time, Data, Named}

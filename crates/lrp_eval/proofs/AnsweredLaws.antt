@@ -1,5 +1,5 @@
 -- The settled store has the tuples of the last table.
-use Rattle.std.proofs.Common.{◌≡◌, ◌↔◌, ◌≤◌, ◌<◌, ◌+◌, ◌*◌, ◌^◌, ℕ, zero, suc, List, [], ◌∷◌, length, take, Option, Some, None, IsSome, unwrap_or, option_map, Contains, refl, sym, ap, ap₂, subst, ◌∙◌, arith, to_z, of_z, w64}
+use Rattle.std.proofs.Common.{◌≡◌, ◌↔◌, ◌≤◌, ◌<◌, ◌+◌, ◌*◌, ◌^◌, ℕ, zero, suc, List, [], ◌∷◌, length, take, Option, Some, None, IsSome, unwrap_or, Contains, refl, sym, ap, ap₂, subst, ◌∙◌, arith, to_z, of_z, w64}
 use Rattle.std.proofs.Math.Nat.{pow-succ', mul-le-mul_right, mul-le-mul_left}
 use Rattle.std.proofs.lemmas.Int.{ints}
 use Rattle.std.proofs.lemmas.List.{length-take}
@@ -9,14 +9,13 @@ use Rattle.lrp_model.specs.Texts.{Text}
 use Rattle.lrp_model.specs.Rows.{Datum, times_of}
 use Rattle.lrp_model.specs.Formulas.{Question}
 use Rattle.lrp_model.specs.Domains.{constants}
-use Rattle.lrp_model.specs.Satisfaction.{IsAnswer, structure}
+use Rattle.lrp_model.specs.Satisfaction.{IsAnswer}
 use Rattle.lrp_model.specs.Steps.{Steps}
 use Rattle.lrp_model.specs.Plans.{query_reach}
 use Rattle.lrp_model.specs.Sorts.{time_count}
 use Rattle.lrp_model.specs.declared.relations.Column.{Column}
 use Rattle.lrp_model.specs.declared.relations.Relation.{Relation}
 use Rattle.lrp_model.specs.declared.plans.Plan.{Plan}
-use Rattle.lrp_model.specs.declared.plans.StepKind.TheVariants.{Extend}
 use Rattle.lrp_model.specs.declared.tuples.Cell.{Cell}
 use Rattle.lrp_model.proofs.Decided.{contains_first, contains_none}
 use Rattle.lrp_zone.specs.Zones.{ZoneView, IsMember, columns_of, reach_of}
@@ -31,7 +30,6 @@ use Rattle.lrp_cutting.specs.Settling.{IsSettlement, IsSmallZone}
 use Rattle.lrp_cutting.specs.Differences.{greatest_reach}
 use Rattle.lrp_cutting.proofs.LineLaws.{more_small}
 use Rattle.lrp_cutting.proofs.Lists.{from_map, greatest_below, in_map}
-use Rattle.lrp_plan_laws.specs.Rising.{period_at}
 use Rattle.lrp_eval.proofs.PlanEnds.{wide_last}
 use Rattle.lrp_eval.specs.Counts.{HasCells}
 use Rattle.lrp_eval.specs.Planned.{IsPlanOf, HasAnswers}

@@ -1,5 +1,5 @@
 -- Groups of steps in parts, one step after another.
-use Rattle.std.proofs.Common.{◌≡◌, ◌⊎◌, inl, inr, ◌≤◌, ◌<◌, ◌+◌, ◌-◌, ◌^◌, ⊎_elim, ℕ, zero, suc, List, [], ◌∷◌, ◌++◌, length, Some, slice_get, get_or, nat_eq, true, SFits, replicate, take, drop, refl, sym, ap, ap₂, subst, ◌∙◌, arith, Contains, Option, None, Result, Ok, Err, to_z, of_z, w64}
+use Rattle.std.proofs.Common.{◌≡◌, inl, inr, ◌≤◌, ◌<◌, ◌+◌, ◌-◌, ◌^◌, ⊎_elim, ℕ, zero, suc, List, [], ◌∷◌, ◌++◌, length, Some, slice_get, get_or, nat_eq, true, SFits, replicate, take, drop, refl, sym, ap, ap₂, subst, ◌∙◌, arith, Contains, Option, None, Result, Ok, Err, to_z, of_z, w64}
 use Rattle.std.specs.Prelude.{ℤ, pos, nat_abs, ◌≤ℤ◌, IfOk, IfSome}
 use Rattle.std.specs.FinMap as finite
 use Rattle.std.proofs.lemmas.Bool.{eqb-true}
@@ -18,12 +18,10 @@ use Rattle.lrp_model.specs.Kept.{IsKept}
 use Rattle.lrp_model.specs.Plans.{IsStep}
 use Rattle.lrp_model.specs.Steps.{PlanStep, Steps, formula_at, reach_at, step_at}
 use Rattle.lrp_model.specs.declared.relations.Relation.{Relation}
-use Rattle.lrp_model.specs.declared.relations.Sort.{Sort}
 use Rattle.lrp_model.specs.declared.formulas.Term.{Term}
-use Rattle.lrp_model.specs.declared.formulas.Test.{Test}
 use Rattle.lrp_model.specs.declared.plans.Step.{Step}
 use Rattle.lrp_model.specs.declared.plans.StepKind.{StepKind}
-use Rattle.lrp_model.specs.declared.plans.StepKind.TheVariants.{Extend, Leaf, Scan, Sort as SortStep}
+use Rattle.lrp_model.specs.declared.plans.StepKind.TheVariants.{Extend, Scan}
 use Rattle.lrp_model.proofs.Decided.{contains_first, contains_none, cons_cases}
 use Rattle.lrp_cutting.proofs.Lists.{below_or}
 use Rattle.lrp_store.specs.Stores.{HasReach, IsStore}
@@ -31,7 +29,6 @@ use Rattle.lrp_tables.specs.declared.table.Table.{Table}
 use Rattle.lrp_tables.specs.declared.table.StepFault.{StepFault}
 use Rattle.lrp_tables.specs.Caps.{InhabitsMoreThan}
 use Rattle.lrp_tables.specs.Columns.{scan_times, scan_texts}
-use Rattle.lrp_tables.specs.Steps.{CanTest, IsLeafResult}
 use Rattle.lrp_tables.specs.Tables.{HasAssignment, IsScanned, IsTableOf, named_variables}
 use Rattle.lrp_periods.specs.Bounding.{HaveFewCells}
 use Rattle.lrp_periods.specs.Operations.{AreOperand, CanScanInParts, IsWholeResult}
@@ -39,21 +36,18 @@ use Rattle.lrp_periods.specs.Parts.{AreParts, ArePartsOf, HasSome, IsPeriodPart,
 use Rattle.lrp_plan_laws.specs.Made.{IsEarlier, operands}
 use Rattle.lrp_plan_laws.specs.Rising.{period_at}
 use Rattle.lrp_plan_laws.proofs.Elements.{found, within}
-use Rattle.lrp_eval.specs.Freeing.{IsDone}
-use Rattle.lrp_eval.specs.Grouped.{AreFewParts, AreHeld, ArePartsAt, AreStepsInParts, CanBeWhole, HaveFew, IsGroupRun, IsGroupHeld, IsMadeInGroup, IsNextStep, IsOnePart, IsStepInParts, IsTableBefore, IsWholeTable, next_step_number}
+use Rattle.lrp_eval.specs.Grouped.{AreFewParts, ArePartsAt, AreStepsInParts, CanBeWhole, HaveFew, IsNextStep, IsStepInParts, IsWholeTable, next_step_number}
 use Rattle.lrp_eval.specs.Planned.{IsPlanOf}
-use Rattle.lrp_eval.specs.Running.{AreRun, HasConstants, IsNext, IsRunResult, IsSomeSort, IsStepTable, SameVariables, variables_of}
+use Rattle.lrp_eval.specs.Running.{AreRun, HasConstants, IsNext, IsStepTable, SameVariables, variables_of}
 use Rattle.lrp_eval.specs.Together.{ArePassed, AreRunTogether}
-use Rattle.lrp_eval.specs.declared.following.Together.{Together}
 use Rattle.lrp_eval.specs.declared.groups.Group.{Group}
 use Rattle.lrp_eval.proofs.Denotes.{Denotes}
 use Rattle.lrp_eval.proofs.LoopLaws.{at_push, more_count, step_here}
 use Rattle.lrp_eval.proofs.Nexts.{suc_pred}
-use Rattle.lrp_eval.proofs.PartSteps.{IsOfPlan, ascends, at_period, denotes_in, held, own_period, period_nat, step_small}
+use Rattle.lrp_eval.proofs.PartSteps.{IsOfPlan, at_period, denotes_in, held, own_period, period_nat, step_small}
 use Rattle.lrp_eval.proofs.PlanEnds.{no_other_head}
 use Rattle.lrp_eval.proofs.ScanLaws.{can_scan, denotes as scan_denotes}
-use Rattle.lrp_eval.proofs.SelectLaws.{can_test, leaf_ran}
-use Rattle.lrp_eval.proofs.ShownLaws.{all_own, of_denoted, period_is, reach_is, shown_few, shown_table}
+use Rattle.lrp_eval.proofs.ShownLaws.{all_own, of_denoted, reach_is, shown_few, shown_table}
 
 -- what also holds of an Ok
 pub also_ok : {A E : Type 0} (P Q : A → Type 0) (r : Result A E) → ((a : A) → P a → Q a) → IfOk r P → IfOk r Q
@@ -231,32 +225,6 @@ module _ (cap : ℕ) (g : Group) (planned : Steps) (q : Question) (h : IsPlanOf 
 
 -- ---- parts that are made whole
 
--- a table of the parts' assignments is one part of theirs
-pub whole_few : (cap : ℕ) (domain : List Text) (period : ℤ) (old new : List Table) (table : Table) → CanBeWhole domain period old → IsWholeTable cap domain period old table → IsOnePart table new → AreFewParts cap domain period old new
-whole_few cap domain period old new table can whole one =
-    subst (λ ps. AreFewParts cap domain period old ps) (sym one.alone)
-    (record {
-      parts_are = record {
-        some = omega arith;
-        few = omega arith;
-        each = λ part c. subst (λ p. IsPeriodPart domain table.vars.times table.vars.texts period p) (one_is table part c) (record {
-          valid = whole.valid;
-          times_are = refl;
-          texts_are = refl;
-          divides = (let low : pos 1 ≤ℤ period = can.operand.period_is.low in let e : pos table.store.period ≡ period = omega (arith, ints, low, whole.is.period_is) in subst (λ k. Divides (pos table.store.period) k) e (Divides-self (pos table.store.period)));
-          numbered = whole.is.numbered;
-          reach = one.reach;
-        });
-      };
-      times_are = whole.is.times_are;
-      texts_are = whole.is.texts_are;
-      same = λ env. (
-        (λ h. whole.is.sound env (subst (λ p. HasAssignment p domain env) (sym (one_is table h.part h.listed)) h.has)),
-        λ x. record { part = table; listed = contains_first table []; has = whole.is.whole env x },
-      );
-      few = whole.few;
-    })
-
 -- parts of few cells are their own
 pub own_few : (cap : ℕ) (domain : List Text) (period : ℤ) (parts : List Table) → CanBeWhole domain period parts → HaveFew cap domain period parts → AreFewParts cap domain period parts parts
 own_few cap domain period parts can few = record { parts_are = can.operand.parts_are; times_are = refl; texts_are = refl; same = λ env. ((λ h. h), λ h. h); few = few }
@@ -308,7 +276,7 @@ one_whole cap domain period parts table can is same few =
     }
 
 -- a period is its word
-period_word : (period : ℤ) → IsSmallPeriod period → to_z w64 (of_z w64 period) ≡ period
+pub period_word : (period : ℤ) → IsSmallPeriod period → to_z w64 (of_z w64 period) ≡ period
 period_word period small = let low : pos 1 ≤ℤ period = small.low in let high : nat_abs period ≤ 2 ^ 56 = small.high in omega (arith, ints, low, high)
 
 pub whole_asks : (domain : List Text) (period : ℤ) (parts : List Table) → CanBeWhole domain period parts → AreOperand domain (to_z w64 (of_z w64 period)) parts

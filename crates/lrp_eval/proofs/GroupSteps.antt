@@ -1,8 +1,7 @@
 -- The next step of a group, by its kind: what its operation asks, and that it makes the step's parts.
-use Rattle.std.proofs.Common.{◌≡◌, ◌≤◌, ◌<◌, ◌+◌, ◌^◌, ℕ, suc, List, [], ◌∷◌, ◌++◌, length, Some, replicate, sym, subst, ◌∙◌, arith, Contains, Result, Ok, to_z, of_z, w64, refl}
-use Rattle.std.specs.Prelude.{ℤ, pos, nat_abs, ◌≤ℤ◌, IfOk}
-use Rattle.std.proofs.lemmas.Int.{ints}
-use Rattle.lrp_model.specs.Texts.{Identifier, Text, without}
+use Rattle.std.proofs.Common.{◌≡◌, ◌≤◌, ◌<◌, ◌+◌, ℕ, suc, List, [], ◌∷◌, ◌++◌, length, Some, replicate, sym, subst, ◌∙◌, arith, Contains, Result, to_z, of_z, w64, refl}
+use Rattle.std.specs.Prelude.{ℤ, nat_abs}
+use Rattle.lrp_model.specs.Texts.{Ascends, Identifier, Text, without}
 use Rattle.lrp_model.specs.Formulas.{Question}
 use Rattle.lrp_model.specs.Domains.{constants}
 use Rattle.lrp_model.specs.Rows.{relation_named}
@@ -15,23 +14,30 @@ use Rattle.lrp_model.specs.declared.formulas.Test.{Test}
 use Rattle.lrp_model.specs.declared.plans.Step.{Step}
 use Rattle.lrp_model.specs.declared.plans.StepKind.{StepKind}
 use Rattle.lrp_model.specs.declared.plans.StepKind.TheVariants.{Complement, DropData, DropTime, Extend, Join, Leaf, Minus, Scan, Select, Sort as SortStep, Union}
-use Rattle.lrp_store.specs.Stores.{HasReach, IsStore}
+use Rattle.lrp_model.proofs.Decided.{contains_first}
+use Rattle.lrp_store.specs.Stores.{HasReach}
+use Rattle.lrp_store.specs.Tables.{AreNumbered}
+use Rattle.lrp_algebra.proofs.Steps.{farther}
 use Rattle.lrp_tables.specs.declared.table.Table.{Table}
 use Rattle.lrp_tables.specs.declared.table.StepFault.{StepFault}
 use Rattle.lrp_tables.specs.Columns.{joint, scan_times, scan_texts}
 use Rattle.lrp_tables.specs.Steps.{CanTest, IsLeafResult}
-use Rattle.lrp_tables.specs.Tables.{IsScanned}
+use Rattle.lrp_tables.specs.Tables.{HasAssignment, IsScanned}
 use Rattle.lrp_dropping.specs.Without.{IsTimeCompleted}
+use Rattle.lrp_periods.specs.Bounding.{TableHasFewCells}
 use Rattle.lrp_periods.specs.Operations.{AreOperand, CanCombineInParts, CanJoinInParts, CanMinusInParts, CanScanInParts, CanSelectInParts}
 use Rattle.lrp_periods.specs.Parts.{AreParts, ArePartsOf, HasSome, part_texts, part_times}
+use Rattle.lrp_periods.specs.Sieves.{IsSifted}
+use Rattle.lrp_periods.proofs.Summing.{more_of}
+use Rattle.lrp_periods.proofs.TakenApart.{one_part}
 use Rattle.lrp_periods.specs.Sets.{IsComplementOf, IsDifferenceOf, IsJoinOf, IsSelectionOf, IsTextCompleted, IsUnionOf}
 use Rattle.lrp_plan_laws.specs.Made.{IsEarlier, operands}
-use Rattle.lrp_eval.specs.Grouped.{AreFewParts, AreHeld, ArePartsAt, AreStepsInParts, CanBeWhole, CanRunGroup, IsPartAlone, IsGroupRun, IsGroupHeld, IsNextStep, IsStepInParts, IsWholeTable, next_step_number}
+use Rattle.lrp_eval.specs.Grouped.{AreFewParts, AreHeld, ArePartsAt, CanBeWhole, CanRunGroup, HaveFew, IsPartAlone, IsGroupRun, IsGroupHeld, IsNextStep, IsStepInParts, IsWholeTable, next_step_number}
 use Rattle.lrp_eval.specs.Planned.{IsPlanOf}
 use Rattle.lrp_eval.specs.Running.{AreRun, IsNext, IsRunResult, IsSomeSort, IsSortResult, IsStepTable}
 use Rattle.lrp_eval.specs.Together.{ArePassed, AreRunTogether}
 use Rattle.lrp_eval.specs.declared.groups.Group.{Group}
-use Rattle.lrp_eval.proofs.GroupLaws.{after_blanks, blank, can_scan_parts, ended_run, next_held, of_next, ok_value, parts_held, run_held, scan_held}
+use Rattle.lrp_eval.proofs.GroupLaws.{after_blanks, blank, can_scan_parts, ended_run, next_held, of_next, ok_value, one_is, one_whole, parts_held, period_word, run_held, scan_held}
 use Rattle.lrp_eval.proofs.Named.{all_of}
 use Rattle.lrp_eval.proofs.PartLaws.{can_complement_parts, can_drop_data_parts, can_drop_time_parts, can_join_parts, can_minus_parts, can_select_parts, can_unite_parts, complement_held, drop_data_held, drop_time_held, join_held, minus_held, select_held, union_held}
 use Rattle.lrp_eval.proofs.PartSteps.{IsOfPlan, ascends, earlier, of_plan_as, own_period, worded}
@@ -207,3 +213,20 @@ module _ {cap : ℕ} {domain : List Text} {g : Group} {made : List (List Table)}
         (subst (λ d. IsWholeTable cap d step.period parts table) (domain_is planned q h) whole) (subst (λ r. HasReach table.store r) word reach) passed);
     inside = (let b : length g.tables.now + length made < length g.plan.now.steps = within g.plan.now.steps (length g.tables.now + length made) step next.at in omega (arith, b, count));
   }
+
+  -- ---- a complement by a sieve
+
+  -- few cells of a table are those of its one part
+  lone_few : (table : Table) → Ascends domain → AreNumbered domain table.store → TableHasFewCells cap (nat_abs step.period) table → HaveFew cap domain step.period (table ∷ [])
+  lone_few table asc numbered few m = few domain asc numbered
+      (more_of cap domain (nat_abs step.period) table.vars.times table.vars.texts (HasSome domain (table ∷ [])) (HasAssignment table domain) (λ env h. subst (λ p. HasAssignment p domain env) (sym (one_is table h.part h.listed)) h.has) m)
+
+  pub sieve_ends : {l : ℕ} {of : List Table} (at : ArePartsAt g made l of) → step.kind ≡ Complement l → (table : Table) (between : ℕ) → IsSifted domain period of table → TableHasFewCells cap (nat_abs period) table → between ≡ length made → ArePassed g.readers.now (length g.tables.now) (length made) → IsGroupRun cap g (record { between = between; table = table })
+  sieve_ends {l} {of} at e table between is few count passed =
+      let word : period ≡ step.period = period_word step.period next.small in
+      let held : IsGroupHeld cap g (next_step_number g made) (table ∷ []) = complement_makes at e (table ∷ []) (one_part refl is.part) in
+      let whole : CanBeWhole domain step.period (table ∷ []) = held_whole (table ∷ []) held in
+      let numbered : AreNumbered domain table.store = (whole.operand.parts_are.each table (contains_first table [])).numbered in
+      let cells : TableHasFewCells cap (nat_abs step.period) table = subst (λ k. TableHasFewCells cap (nat_abs k) table) word few in
+      ended_makes (table ∷ []) table between held (one_whole cap domain step.period (table ∷ []) table whole refl (is.period_is ∙ word) (lone_few table whole.ascends numbered cells))
+      (nat_abs (to_z w64 (of_z w64 step.reach))) refl (farther table.store 0 (nat_abs (to_z w64 (of_z w64 step.reach))) (omega arith) is.free) count passed

@@ -1,15 +1,13 @@
 -- Steps in parts: each operation on parts makes those of its step.
-use Rattle.std.proofs.Common.{◌≡◌, ◌↔◌, ◌⊎◌, inl, inr, ◌≤◌, ◌+◌, ◌*◌, ◌^◌, ⊎_elim, ℕ, suc, List, [], ◌∷◌, ◌++◌, map, max, sym, ap, subst, ◌∙◌, arith, Contains}
-use Rattle.std.specs.Prelude.{ℤ, pos, nat_abs}
+use Rattle.std.proofs.Common.{◌≡◌, ◌⊎◌, ⊎_elim, ℕ, List, [], ◌++◌, sym, subst, arith, Contains}
+use Rattle.std.specs.Prelude.{ℤ}
 use Rattle.std.specs.List.{AllByRecursion}
-use Rattle.lrp_model.specs.Texts.{Text, Identifier, Ascends, without}
-use Rattle.lrp_model.specs.Formulas.{Question, conjunction, disjunction, negation, exists, test, no_forms, form}
-use Rattle.lrp_model.specs.Variables.{Variable, time_variable, data_variable, variables_of_test, free}
+use Rattle.lrp_model.specs.Texts.{Identifier, without}
+use Rattle.lrp_model.specs.Formulas.{Question}
+use Rattle.lrp_model.specs.Variables.{variables_of_test, free}
 use Rattle.lrp_model.specs.Satisfaction.{Assignment, structure}
 use Rattle.lrp_model.specs.Domains.{constants}
-use Rattle.lrp_model.specs.Reach.{greatest, test_reach}
-use Rattle.lrp_model.specs.Steps.{Steps, formula_at, reach_at, tests_as_forms}
-use Rattle.lrp_model.specs.declared.relations.Sort.TheVariants.{Time}
+use Rattle.lrp_model.specs.Steps.{Steps, formula_at}
 use Rattle.lrp_model.specs.declared.relations.Relation.{Relation}
 use Rattle.lrp_model.specs.declared.formulas.Test.{Test}
 use Rattle.lrp_model.specs.declared.plans.StepKind.TheVariants.{Extend, Join, Select, Union, Minus, Complement, DropTime, DropData}
@@ -20,16 +18,15 @@ use Rattle.lrp_tables.specs.Columns.{joint}
 use Rattle.lrp_tables.specs.Tables.{HasTexts, named_variables}
 use Rattle.lrp_dropping.specs.Without.{IsTimeCompleted}
 use Rattle.lrp_periods.specs.Operations.{AreOperand, CanCombineInParts, CanJoinInParts, CanMinusInParts, CanSelectInParts}
-use Rattle.lrp_periods.specs.Parts.{AreParts, ArePartsOf, HasSome, part_texts, part_times}
+use Rattle.lrp_periods.specs.Parts.{ArePartsOf, HasSome, part_texts, part_times}
 use Rattle.lrp_periods.specs.Sets.{IsComplementOf, IsDifferenceOf, IsJoinOf, IsSelectionOf, IsTextCompleted, IsUnionOf}
-use Rattle.lrp_plan_laws.specs.Made.{AreAmong, HasVariables}
+use Rattle.lrp_plan_laws.specs.Made.{AreAmong}
 use Rattle.lrp_plan_laws.proofs.Members.{in_left, in_one, in_right}
 use Rattle.lrp_eval.specs.Grouped.{IsStepInParts}
-use Rattle.lrp_eval.specs.Running.{SameVariables}
-use Rattle.lrp_eval.proofs.Denotes.{Denotes, complement_keeps, drop_data_keeps, drop_time_keeps, join_keeps, minus_keeps, others, select_keeps, union_keeps}
+use Rattle.lrp_eval.proofs.Denotes.{Denotes, complement_keeps, drop_data_keeps, drop_time_keeps, join_keeps, minus_keeps, select_keeps, union_keeps}
 use Rattle.lrp_eval.proofs.JoinLaws.{all_among, carried_all, tests_among}
 use Rattle.lrp_eval.proofs.Named.{are_texts, joint_variables, text_dropped, texts_are, time_dropped}
-use Rattle.lrp_eval.proofs.PartSteps.{IsOfPlan, ascends, at_formula, decided_in, decided_parts, denotes_in, formula_kind, held, multiples, narrow_kind, own_periods, parts_in, parts_meet, parts_variables, period_nat, point_periods, reach_kind, sound_step, step_small, variables_kind}
+use Rattle.lrp_eval.proofs.PartSteps.{IsOfPlan, ascends, decided_in, decided_parts, denotes_in, formula_kind, held, multiples, narrow_kind, own_periods, parts_in, parts_meet, parts_variables, period_nat, point_periods, reach_kind, sound_step, step_small, variables_kind}
 use Rattle.lrp_eval.proofs.Reading.{carried}
 use Rattle.lrp_eval.proofs.UnionLaws.{decided_one}
 

@@ -1,6 +1,6 @@
 -- A step of a plan whose tables are held in parts: what is known of it, and of the parts that it reads.
-use Rattle.std.proofs.Common.{◌≡◌, ◌≢◌, ◌↔◌, ◌⊎◌, inl, inr, ◌≤◌, ◌<◌, ◌+◌, ◌^◌, ⊎_elim, ℕ, zero, suc, List, [], ◌∷◌, ◌++◌, length, Some, map, sym, ap, ap₂, subst, ◌∙◌, arith, Contains, unwrap_or, option_map, to_z, of_z, w64}
-use Rattle.std.specs.Prelude.{ℤ, pos, nat_abs, ◌≤ℤ◌, flat_map, AllPairs}
+use Rattle.std.proofs.Common.{◌≡◌, ◌↔◌, inl, inr, ◌≤◌, ◌^◌, ⊎_elim, ℕ, List, [], ◌∷◌, ◌++◌, Some, map, sym, ap, ap₂, subst, ◌∙◌, arith, Contains, unwrap_or, option_map, to_z, of_z, w64}
+use Rattle.std.specs.Prelude.{ℤ, pos, nat_abs, ◌≤ℤ◌, flat_map}
 use Rattle.std.specs.List.{AllByRecursion}
 use Rattle.std.proofs.lemmas.Int.{ints}
 use Rattle.lrp_theory.specs.Divides.{Divides, IsMultiple}
@@ -19,7 +19,7 @@ use Rattle.lrp_model.specs.declared.relations.Relation.{Relation}
 use Rattle.lrp_model.specs.declared.plans.Plan.{Plan}
 use Rattle.lrp_model.specs.declared.plans.StepKind.{StepKind}
 use Rattle.lrp_model.specs.declared.plans.StepKind.TheVariants.{Extend}
-use Rattle.lrp_model.proofs.Decided.{Decided, contains_first, contains_later, contains_none, cons_cases, decided_iff}
+use Rattle.lrp_model.proofs.Decided.{Decided, contains_first, contains_later, contains_none, cons_cases}
 use Rattle.lrp_model.proofs.DomainLaws.{in_order_ascends}
 use Rattle.lrp_store.specs.Stores.{IsStore}
 use Rattle.lrp_tables.specs.declared.table.Table.{Table}
@@ -27,12 +27,12 @@ use Rattle.lrp_tables.specs.Calls.{AreVariablesOf, CanMeet}
 use Rattle.lrp_tables.specs.Columns.{joint}
 use Rattle.lrp_tables.specs.Tables.{HasAssignment, named_variables}
 use Rattle.lrp_tables.proofs.TableLaws.{decided_table}
-use Rattle.lrp_periods.specs.Parts.{AreParts, ArePartsOf, HasSome, IsPeriodPart, IsSmallPeriod, part_texts, part_times}
+use Rattle.lrp_periods.specs.Parts.{AreParts, ArePartsOf, HasSome, IsSmallPeriod, part_texts, part_times}
 use Rattle.lrp_plan_laws.specs.Made.{IsEarlier, IsMade, IsStepFormula, HasVariables, operands, head_step}
 use Rattle.lrp_plan_laws.specs.Points.{step_points}
-use Rattle.lrp_plan_laws.specs.Rising.{IsRising, KeepsPeriod, named_periods, period_at}
+use Rattle.lrp_plan_laws.specs.Rising.{IsRising, named_periods, period_at}
 use Rattle.lrp_plan_laws.specs.Scopes.{IsNarrow}
-use Rattle.lrp_plan_laws.specs.Settled.{IsSoundPlan, IsSoundStep}
+use Rattle.lrp_plan_laws.specs.Settled.{IsSoundStep}
 use Rattle.lrp_plan_laws.proofs.Members.{all_by, in_left, in_right}
 use Rattle.lrp_eval.specs.Grouped.{IsStepInParts}
 use Rattle.lrp_eval.specs.Planned.{IsPlanOf}

@@ -1,14 +1,14 @@
 -- The last step of a sound plan, and the step before it.
-use Rattle.std.proofs.Common.{◌≡◌, ◌↔◌, ◌≤◌, ◌<◌, ◌-◌, ℕ, zero, suc, length, Option, Some, None, option_map, unwrap_or, refl, sym, ap, subst, ◌∙◌, arith}
+use Rattle.std.proofs.Common.{◌≡◌, ◌≤◌, ◌<◌, ◌-◌, ℕ, zero, suc, length, Option, Some, None, option_map, unwrap_or, refl, ap, ◌∙◌, arith}
 use Rattle.std.specs.Prelude.{List, MatchOption}
 use Rattle.lrp_model.specs.Formulas.{Question, conjunction, no_forms}
 use Rattle.lrp_model.specs.Core.{guarded, has_named_sort}
-use Rattle.lrp_model.specs.Steps.{PlanStep, Steps, step_at, formula_at, reach_at}
+use Rattle.lrp_model.specs.Steps.{PlanStep, Steps, step_at, formula_at}
 use Rattle.lrp_model.specs.Plans.{query_reach}
 use Rattle.lrp_model.specs.declared.relations.Relation.{Relation}
 use Rattle.lrp_model.specs.declared.plans.StepKind.TheVariants.{Extend}
 use Rattle.lrp_plan_laws.specs.Rising.{period_at}
-use Rattle.lrp_plan_laws.specs.Settled.{IsSoundPlan, IsSoundStep}
+use Rattle.lrp_plan_laws.specs.Settled.{IsSoundPlan}
 
 some_before : (steps : Steps) (n : ℕ) (step : PlanStep) → step_at steps n ≡ Some step → 0 < n
 some_before steps zero step at = cc

@@ -1,5 +1,5 @@
 -- Unions that take the left table's memory.
-use Rattle.std.specs.Prelude.{◌≡◌, ◌≢◌, ◌⊎◌, ◌-◌, ◌<◌, ℕ, ℤ, suc, List, length, slice_get, slice_set, Result}
+use Rattle.std.specs.Prelude.{◌≡◌, ◌≢◌, ◌⊎◌, ◌-◌, ℕ, ℤ, suc, List, length, slice_get, slice_set, Result}
 use Rattle.lrp_model.specs.Texts.{Text}
 use Rattle.lrp_model.specs.Formulas.{Question}
 use Rattle.lrp_model.specs.Steps.{Steps}
@@ -11,7 +11,7 @@ use Rattle.lrp_tables.specs.declared.table.StepFault.{StepFault}
 use Rattle.lrp_tables.specs.declared.table.Table.{Table}
 use Rattle.lrp_eval.specs.Freeing.{IsDone}
 use Rattle.lrp_eval.specs.Planned.{IsPlanOf}
-use Rattle.lrp_eval.specs.Running.{AreRun, IsNext, IsOperand, IsRunResult}
+use Rattle.lrp_eval.specs.Running.{AreRun, IsNext, IsRunResult}
 use Rattle.lrp_eval.specs.declared.growing.Growth.{Growth}
 
 -- the step after so many is a union of two steps, of which no later one reads the left

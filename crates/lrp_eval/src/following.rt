@@ -89,8 +89,12 @@ fn run_projection(
     }
 }
 
-// The three steps from this place on, where they narrow a difference and nothing else reads the first two.
-fn narrowing_at<'a>(steps: &'a [Step], readers: &[usize], at: usize) -> Option<Narrowing<'a>>
+/// The three steps from this place on, where they narrow a difference and nothing else reads the first two.
+pub(crate) fn narrowing_at<'a>(
+    steps: &'a [Step],
+    readers: &[usize],
+    at: usize,
+) -> Option<Narrowing<'a>>
     ensures { IfSome result (λ n. IsNarrowing steps.now readers.now at n) }
 {
     if steps.len() < 3 || steps.len() - 3 < at || !are_passed(readers, at, 2) {

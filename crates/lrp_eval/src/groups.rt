@@ -5,16 +5,17 @@ ghost use Rattle.lrp_eval.specs.Grouped.{AreFewParts, AreStepsGrouped, AreHeld, 
 ghost use Rattle.lrp_eval.specs.Running.{AreRunBySome};
 ghost use Rattle.lrp_eval.specs.Together.{AreInside, ArePassed};
 
-use crate::following::{Together, are_passed};
+use crate::following::{Together, are_passed, narrowing_at};
 use crate::running::operand;
 use crate::sorting::sort_step;
+use crate::worth::{is_complement, most_in_parts};
 use lrp_algebra::leaf;
 use lrp_database::Database;
-use lrp_model::{List, Memory, Plan, Relation, Row, Step, StepKind, Value};
+use lrp_model::{List, Memory, Plan, Step, StepKind};
 use lrp_periods::{
-    PartsFault, cells_at_most, complement_in_parts, drop_data_in_parts, drop_time_in_parts,
-    has_reach, join_in_parts, minus_in_parts, scan_in_parts, select_in_parts, union_in_parts,
-    whole,
+    PartsFault, can_be_sifted, cells_at_most, cells_of_table, complement_in_parts,
+    drop_data_in_parts, drop_time_in_parts, has_reach, join_in_parts, minus_in_parts,
+    scan_in_parts, select_in_parts, sifted, union_in_parts, whole,
 };
 use lrp_tables::{Setting, StepFault, Table};
 
@@ -23,16 +24,15 @@ const SMALL: u64 = 1 << 59;
 
 const SMALL_PERIOD: i64 = 1 << 56;
 
-// All times, of which parts are counted.
-const ALL: u64 = 1 << 60;
-
-/// What a group of steps is run over: a plan with its relations, and the tables of the steps before the group.
+/// What a group of steps is run over: a plan with its relations, the tables of the steps before the group, and how many cells
+/// a step may have as it is made in parts.
 #[derive(Clone, Copy)]
 pub(crate) struct Group<'a> {
     pub(crate) database: &'a Database,
     pub(crate) plan: &'a Plan,
     pub(crate) readers: &'a [usize],
     pub(crate) tables: &'a [Table],
+    pub(crate) most: u32,
 }
 
 /// Runs some of the steps after these tables in parts, where that is worth it. `None` says nothing.
@@ -49,13 +49,17 @@ pub(crate) fn run_in_parts(
         (AreStepsGrouped database.now plan.now setting.now.cap readers.now tables.now)) }
     ensures inside { IfOk result (λ found. IfSome found (AreInside plan.now tables.now)) }
 {
+    let Some(most) = most_in_parts(setting.alloc, database, plan, tables, setting.cap) else {
+        return Ok(None);
+    };
     let group = Group {
         database,
         plan,
         readers,
         tables,
+        most,
     };
-    if !is_worth(&group, setting.cap) {
+    if !has_end(&group) {
         return Ok(None);
     }
     match run_group(setting, &group) {
@@ -65,66 +69,19 @@ pub(crate) fn run_in_parts(
     }
 }
 
-// Whether the next step is a scan of one column whose rows have short periods, and the one after it a complement that is
-// left with little. Where much is left, its cells cost less if they are made at once.
-fn is_worth(group: &Group<'_>, cap: u32) -> bool {
+// Whether the group can end with the first complement that it comes to, and no steps before that narrow a difference.
+fn has_end(group: &Group<'_>) -> bool {
     let at = group.tables.len();
     let steps = group.plan.steps.as_slice();
-    if at >= steps.len() || steps.len() - at < 2 {
-        return false;
-    }
-    let StepKind::Scan { relation, .. } = &steps[at].kind else {
-        return false;
-    };
-    let StepKind::Complement { .. } = &steps[at + 1].kind else {
-        return false;
-    };
-    match group.database.relation(relation) {
-        Some(relation) => leaves_little(relation, steps[at].period.unsigned_abs(), cap),
-        None => false,
-    }
-}
-
-// Whether the rows have no more cells of the period than the cap, an eighth as many or less if each is one of its own period, and
-// as points that are independent of one another leave an eighth of all times, or less. They have no more than the period.
-fn leaves_little(relation: &Relation, period: u64, cap: u32) -> bool {
-    if relation.columns.len() != 1 {
-        return false;
-    }
-    let mut cells: u64 = 0;
-    let mut left = ALL;
-    for row in relation.rows.as_slice() {
-        if row.bounds.len() > 0 {
+    for place in at..steps.len() {
+        if narrowing_at(steps, group.readers, place).is_some() {
             return false;
         }
-        let longest = longest_period(row);
-        cells = cells.saturating_add(period / longest);
-        left -= left / longest;
+        if is_complement(&steps[place]) {
+            return is_end(group, place.saturating_sub(at));
+        }
     }
-    let few = cells / 8;
-    let most = cells.min(period);
-    left <= ALL / 8 && most <= u64::from(cap) && few > 0 && few >= relation.rows.len() as u64
-}
-
-// The longest period of a row's points.
-fn longest_period(row: &Row) -> u64
-    ensures { 0 < result }
-{
-    let mut longest = 1;
-    for value in row.values.as_slice() {
-        longest = longer(longest, value);
-    }
-    longest
-}
-
-// A period, or that of a value where it is longer.
-fn longer(period: u64, value: &Value) -> u64
-    ensures { period ≤ result }
-{
-    match value {
-        Value::Point { at } if at.period.unsigned_abs() > period => at.period.unsigned_abs(),
-        _ => period,
-    }
+    true
 }
 
 // The steps of the group, one after another, up to one that is worth a table of its own.
@@ -136,9 +93,15 @@ fn run_group(setting: &Setting<'_>, group: &Group<'_>) -> Result<Together, Parts
     let count = group.plan.steps.len();
     for place in group.tables.len()..count {
         let step = small_step(group, place)?;
+        let can_end = is_end(group, made.len());
+        if can_end && is_complement(step) {
+            if let Some(together) = ended_by_sieve(setting, group, &made, step)? {
+                return Ok(together);
+            }
+        }
         let parts = step_in_parts(setting, group, &made, step)?;
-        let last = count - place <= 2;
-        if is_end(group, made.len()) && (last || is_cheap(setting, parts.as_slice(), step)) {
+        let last = count - place <= 2 || is_complement(step);
+        if can_end && (last || is_cheap(setting, parts.as_slice(), step)) {
             return ended(setting, group, &made, parts, step);
         }
         made = with_next(setting, group, made, parts, step)?;
@@ -223,6 +186,37 @@ fn ended(
     })
 }
 
+// The table of a complement that ends the group, where a sieve finds it: it has no bounds. `None` says nothing.
+fn ended_by_sieve(
+    setting: &Setting<'_>,
+    group: &Group<'_>,
+    made: &List<List<Table>>,
+    step: &Step,
+) -> Result<Option<Together>, PartsFault>
+    requires group { CanRunGroup setting.now.cap setting.now.domain.now group.now }
+    requires made { AreHeld setting.now.cap group.now made.now }
+    requires step { IsNextStep group.now made.now step.now }
+    requires passed { ArePassed group.now.readers.now (length group.now.tables.now)
+        (length made.now) }
+    ensures { IfOk result (λ found. IfSome found (IsGroupRun setting.now.cap group.now)) }
+{
+    let StepKind::Complement { of } = &step.kind else {
+        return Ok(None);
+    };
+    let parts = parts_of(group, made, *of)?;
+    if !can_be_sifted(parts) {
+        return Ok(None);
+    }
+    let table = sifted(setting, parts, step.period)?;
+    match cells_of_table(&table, step.period as u64, setting.cap) {
+        Some(_) => Ok(Some(Together {
+            between: made.len(),
+            table,
+        })),
+        None => Err(PartsFault::GivenUp),
+    }
+}
+
 // The group with the parts of its next step, which has no more than the cap's number of cells.
 fn with_next(
     setting: &Setting<'_>,
@@ -255,7 +249,7 @@ fn within_cap(
 {
     match bound_of(setting, parts.as_slice(), step) {
         Some(_) => Ok(parts),
-        None => one_part(setting, whole_of(setting, parts, step)?),
+        None => Err(PartsFault::GivenUp),
     }
 }
 
@@ -356,9 +350,14 @@ fn step_in_parts(
     ensures { IfOk result (IsGroupHeld setting.now.cap group.now (next_step_number group.now made.now)) }
 {
     let period = step.period;
+    let few = Setting {
+        alloc: setting.alloc,
+        domain: setting.domain,
+        cap: group.most,
+    };
     match &step.kind {
         StepKind::Scan { relation, terms } => match group.database.relation(relation) {
-            Some(relation) => scan_in_parts(setting, relation, terms, period),
+            Some(relation) => scan_in_parts(&few, relation, terms, period),
             None => Err(PartsFault::GivenUp),
         },
         StepKind::Leaf { test } => alone(setting, leaf(setting, test)),
@@ -368,33 +367,33 @@ fn step_in_parts(
                 parts_of(group, made, *left)?,
                 parts_of(group, made, *right)?,
             );
-            join_in_parts(setting, left, right, tests, period)
+            join_in_parts(&few, left, right, tests, period)
         }
         StepKind::Select { of, test } => {
-            select_in_parts(setting, parts_of(group, made, *of)?, test, period)
+            select_in_parts(&few, parts_of(group, made, *of)?, test, period)
         }
         StepKind::Union { left, right } => {
             let (left, right) = (
                 parts_of(group, made, *left)?,
                 parts_of(group, made, *right)?,
             );
-            union_in_parts(setting, left, right, period)
+            union_in_parts(&few, left, right, period)
         }
         StepKind::Minus { left, right } => {
             let (left, right) = (
                 parts_of(group, made, *left)?,
                 parts_of(group, made, *right)?,
             );
-            minus_in_parts(setting, left, right, period)
+            minus_in_parts(&few, left, right, period)
         }
         StepKind::Complement { of } => {
             complement_in_parts(setting, parts_of(group, made, *of)?, period)
         }
         StepKind::DropTime { of, name } => {
-            drop_time_in_parts(setting, parts_of(group, made, *of)?, name, period)
+            drop_time_in_parts(&few, parts_of(group, made, *of)?, name, period)
         }
         StepKind::DropData { of, name } => {
-            drop_data_in_parts(setting, parts_of(group, made, *of)?, name, period)
+            drop_data_in_parts(&few, parts_of(group, made, *of)?, name, period)
         }
         StepKind::Extend { .. } => Err(PartsFault::GivenUp),
     }

@@ -15,6 +15,7 @@ mod running;
 mod settling;
 mod sorting;
 mod together;
+mod worth;
 
 pub use answering::answer;
 pub use evaluation::{EvalFault, run_steps};

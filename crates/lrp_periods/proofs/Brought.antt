@@ -1,13 +1,13 @@
 -- Parts are brought to one period, one after another.
-use Rattle.std.proofs.Common.{◌≡◌, ◌⊎◌, inl, inr, ⊎_elim, ℕ, ◌+◌, ◌*◌, ◌-◌, ◌^◌, ◌<◌, ◌≤◌, List, [], ◌∷◌, ◌++◌, length, take, drop, Contains, get_or, refl, sym, ap, subst, ◌∙◌, arith}
-use Rattle.std.specs.Prelude.{ℤ, pos, nat_abs, ◌≤ℤ◌, Result, Ok, Err}
+use Rattle.std.proofs.Common.{◌≡◌, ◌⊎◌, inl, inr, ⊎_elim, ℕ, ◌+◌, ◌*◌, ◌^◌, ◌<◌, ◌≤◌, List, [], ◌∷◌, ◌++◌, length, take, drop, Contains, get_or, refl, sym, ap, subst, ◌∙◌, arith}
+use Rattle.std.specs.Prelude.{ℤ, pos, nat_abs, Ok, Err}
 use Rattle.std.proofs.lemmas.Int.{ints}
 use Rattle.std.proofs.lemmas.List.{take_all, take-append-drop}
 use Rattle.std.proofs.lemmas.List.Elements.{Contains-append_left}
 use Rattle.lrp_theory.specs.Divides.{Divides}
 use Rattle.lrp_theory.proofs.Members.{front_more}
 use Rattle.lrp_theory.proofs.Modulo.{Divides-self}
-use Rattle.lrp_model.specs.Texts.{Identifier, Text}
+use Rattle.lrp_model.specs.Texts.{Text}
 use Rattle.lrp_model.specs.Satisfaction.{Assignment}
 use Rattle.lrp_store.specs.Stores.{HasReach, IsStore}
 use Rattle.lrp_tables.specs.declared.table.StepFault.TheVariants.{TooManyCells}
@@ -20,7 +20,7 @@ use Rattle.lrp_tables.proofs.TableLaws.{table_texts}
 use Rattle.lrp_algebra.proofs.Steps.{farther}
 use Rattle.lrp_periods.specs.Combining.{IsNothingOver}
 use Rattle.lrp_periods.specs.Operations.{AreOperand, IsWholeResult}
-use Rattle.lrp_periods.specs.Parts.{AreParts, HasSome, IsPeriodPart, part_times, part_texts}
+use Rattle.lrp_periods.specs.Parts.{HasSome, IsPeriodPart, part_times, part_texts}
 use Rattle.lrp_periods.proofs.Gathering.{Set, some_last, some_left, some_none, some_split}
 use Rattle.lrp_periods.proofs.PartLaws.{joint_texts, joint_times, meet_alike}
 use Rattle.lrp_periods.proofs.PeriodLaws.{natural}

@@ -10,7 +10,7 @@ pub mod ScanParts
 pub mod SideBySide
 pub mod Sieving
 pub mod Covers
-pub mod Sifted
+pub mod Sieved
 pub mod Summing
 pub mod LineLaws
 pub mod TakenApart

@@ -1,31 +1,27 @@
 -- Operations on the parts of one table, part by part.
-use Rattle.std.proofs.Common.{◌≡◌, ◌⊎◌, inl, inr, ⊎_elim, ℕ, ◌+◌, ◌*◌, ◌-◌, ◌^◌, ◌<◌, ◌≤◌, List, [], ◌∷◌, length, Contains, refl, sym, ap, subst, ◌∙◌, arith, to_z, of_z, w64}
-use Rattle.std.specs.Prelude.{ℤ, pos, nat_abs, ◌≤ℤ◌, IfOk, Result, Ok, Err}
+use Rattle.std.proofs.Common.{◌≡◌, ◌^◌, ◌≤◌, List, [], Contains, sym, ap, subst, ◌∙◌, arith}
+use Rattle.std.specs.Prelude.{ℤ, pos, nat_abs, IfOk, Result}
 use Rattle.std.proofs.lemmas.Int.{ints}
 use Rattle.lrp_theory.specs.Divides.{Divides}
-use Rattle.lrp_theory.proofs.Multiples.{Divides-trans}
 use Rattle.lrp_model.specs.Texts.{Identifier, Text, without}
-use Rattle.lrp_model.specs.Rows.{text, time}
-use Rattle.lrp_model.specs.Satisfaction.{Assignment, with_value}
 use Rattle.lrp_model.specs.declared.formulas.Test.{Test}
-use Rattle.lrp_model.specs.declared.relations.Column.{Column}
 use Rattle.lrp_store.specs.Stores.{HasReach, IsStore}
 use Rattle.lrp_tables.specs.declared.table.Table.{Table}
 use Rattle.lrp_tables.specs.Calls.{test_period}
-use Rattle.lrp_tables.specs.Columns.{head_times, head_texts, texts_of_test, times_of_test}
+use Rattle.lrp_tables.specs.Columns.{texts_of_test, times_of_test}
 use Rattle.lrp_tables.specs.Steps.{CanSelect}
-use Rattle.lrp_tables.specs.Tables.{AreNamesAmong, HasAssignment, IsExtended, IsSelected, IsTableOf}
+use Rattle.lrp_tables.specs.Tables.{AreNamesAmong, HasAssignment, IsSelected, IsTableOf}
 use Rattle.lrp_algebra.specs.Tables.{IsTextDropped, IsTimeDropped}
 use Rattle.lrp_algebra.proofs.Steps.{farther}
 use Rattle.lrp_dropping.specs.Without.{IsTimeCompleted}
-use Rattle.lrp_periods.specs.Combining.{AreAllParts, CanSelectPart, IsMadeOfSome, IsSomePart}
+use Rattle.lrp_periods.specs.Combining.{CanSelectPart, IsMadeOfSome}
 use Rattle.lrp_periods.specs.Operations.{AreOperand, CanSelectInParts}
-use Rattle.lrp_periods.specs.Parts.{ArePartsAdded, AreParts, ArePartsOf, HasSome, IsPeriodPart, IsPartOfSet, IsSmallPeriod, part_times, part_texts}
-use Rattle.lrp_periods.specs.Periods.{IsCommonPeriod, IsOwnPeriod}
-use Rattle.lrp_periods.specs.Sets.{IsExtensionOf, IsSelectionOf, IsTextCompleted}
+use Rattle.lrp_periods.specs.Parts.{ArePartsAdded, HasSome, IsPartOfSet, part_times, part_texts}
+use Rattle.lrp_periods.specs.Periods.{IsCommonPeriod}
+use Rattle.lrp_periods.specs.Sets.{IsSelectionOf, IsTextCompleted}
 use Rattle.lrp_periods.specs.declared.parts.PartsFault.{PartsFault}
 use Rattle.lrp_periods.proofs.Gathering.{Set, added_as}
-use Rattle.lrp_periods.proofs.PartLaws.{checked_part, if_part, own_part, part_as, part_of_table, part_own}
+use Rattle.lrp_periods.proofs.PartLaws.{checked_part, if_part, own_part}
 use Rattle.lrp_periods.proofs.PeriodLaws.{own_high, own_within}
 
 -- ---- time variables

@@ -1,31 +1,27 @@
 -- Tables over the same variables, and their unions.
-use Rattle.std.proofs.Common.{◌≡◌, ◌≢◌, ◌⊎◌, inl, inr, ⊎_elim, ℕ, ◌+◌, ◌*◌, ◌-◌, ◌^◌, ◌<◌, ◌≤◌, List, [], ◌∷◌, ◌++◌, length, length-append, Contains, get_or, Option, Some, refl, sym, ap, ap₂, subst, ◌∙◌, arith, to_z, of_z, w64}
-use Rattle.std.specs.Prelude.{ℤ, pos, nat_abs, ◌≤ℤ◌, AllPairs, slice_get, slice_set, IfOk, Result, Ok, Err}
+use Rattle.std.proofs.Common.{◌≡◌, ◌⊎◌, inl, inr, ⊎_elim, ℕ, ◌+◌, ◌-◌, ◌^◌, ◌<◌, ◌≤◌, List, [], ◌∷◌, ◌++◌, length, length-append, Contains, get_or, Option, Some, refl, sym, ap, subst, ◌∙◌, arith, to_z, of_z, w64}
+use Rattle.std.specs.Prelude.{ℤ, pos, nat_abs, ◌≤ℤ◌, slice_get, slice_set, IfOk, Result, Ok, Err}
 use Rattle.std.proofs.lemmas.Int.{ints}
 use Rattle.std.proofs.lemmas.List.{get_or-set_same, get_or-set_other, length-set}
 use Rattle.std.proofs.lemmas.List.Elements.{Contains-append_cases}
 use Rattle.std.proofs.lemmas.Option.{get_or_from_slice_get, slice_get-get_or}
 use Rattle.lrp_theory.specs.Divides.{Divides}
-use Rattle.lrp_theory.proofs.Members.{below_or, in_none, in_one, one_in}
+use Rattle.lrp_theory.proofs.Members.{below_or, in_one}
 use Rattle.lrp_theory.proofs.Modulo.{Divides-self}
-use Rattle.lrp_theory.proofs.Multiples.{Divides-trans}
 use Rattle.lrp_model.specs.Texts.{Identifier, Text}
 use Rattle.lrp_model.specs.Satisfaction.{Assignment}
 use Rattle.lrp_store.specs.Stores.{HasReach, IsStore}
-use Rattle.lrp_store.specs.Tables.{AreNumbered, InTable}
 use Rattle.lrp_tables.specs.declared.table.Table.{Table}
 use Rattle.lrp_tables.specs.Calls.{CanMeet}
 use Rattle.lrp_tables.specs.Columns.{joint}
-use Rattle.lrp_tables.specs.Steps.{BothReach, CanCombine, CanUnite, IsUnionResult}
+use Rattle.lrp_tables.specs.Steps.{CanUnite}
 use Rattle.lrp_tables.specs.Tables.{HasAssignment, HasTexts, IsTableOf, IsUnited}
 use Rattle.lrp_tables.proofs.Joining.{at_place, joint_within}
 use Rattle.lrp_tables.proofs.TableLaws.{table_texts}
 use Rattle.lrp_algebra.proofs.Steps.{farther}
-use Rattle.lrp_algebra.proofs.TimeDropped.{copy_valid, same_spare, spare_reach, spare_same}
 use Rattle.lrp_algebra.proofs.United.{apart_names}
 use Rattle.lrp_periods.specs.Combining.{AreAllParts, CanAddPart, IsPlaceWith, IsSomePart}
-use Rattle.lrp_periods.specs.Operations.{CanBePart}
-use Rattle.lrp_periods.specs.Parts.{ArePartsAdded, AreParts, ArePartsOf, HasSome, IsPeriodPart, IsPartOfSet, IsSmallPeriod, part_times, part_texts}
+use Rattle.lrp_periods.specs.Parts.{ArePartsAdded, IsPeriodPart, IsPartOfSet, IsSmallPeriod}
 use Rattle.lrp_periods.specs.declared.parts.PartsFault.{PartsFault}
 use Rattle.lrp_periods.specs.Periods.{IsOwnPeriod}
 use Rattle.lrp_periods.proofs.Gathering.{Set, some_left, some_last, some_split}

@@ -1,5 +1,5 @@
 -- Periods that divide a small one.
-use Rattle.std.proofs.Common.{◌≡◌, inl, inr, ◌⊎◌, ℕ, ◌<◌, ◌≤◌, ◌^◌, ◌+◌, ◌*◌, ◌-◌, List, [], ◌∷◌, length, take, Contains, get_or, sym, ap, subst, refl, arith, to_z, of_z, w64}
+use Rattle.std.proofs.Common.{◌≡◌, inl, inr, ◌⊎◌, ℕ, ◌<◌, ◌≤◌, ◌^◌, ◌+◌, List, [], ◌∷◌, length, take, Contains, get_or, sym, subst, arith, to_z, of_z, w64}
 use Rattle.std.specs.Prelude.{ℤ, pos, nat_abs, ◌≤ℤ◌, ◌<ℤ◌}
 use Rattle.std.specs.List.{AllByRecursion}
 use Rattle.std.proofs.lemmas.Int.{ints}
@@ -8,7 +8,7 @@ use Rattle.std.proofs.lemmas.List.Elements.{Contains-append_cases}
 use Rattle.lrp_theory.proofs.Members.{front_more, in_none, in_one}
 use Rattle.lrp_plan_laws.proofs.Members.{all_by}
 use Rattle.lrp_theory.specs.Divides.{Divides, IsLcm}
-use Rattle.lrp_theory.proofs.Modulo.{multiple_below, Divides-self, Divides-is}
+use Rattle.lrp_theory.proofs.Modulo.{multiple_below, Divides-self}
 use Rattle.lrp_theory.proofs.Multiples.{Divides-trans, lcm_divides}
 use Rattle.lrp_model.specs.declared.formulas.Test.{Test}
 use Rattle.lrp_tables.specs.Calls.{test_period}

@@ -1,6 +1,6 @@
 -- Scans of rows in groups by their periods.
-use Rattle.std.proofs.Common.{◌≡◌, ◌⊎◌, inl, inr, ⊎_elim, ℕ, ◌+◌, ◌*◌, ◌^◌, ◌<◌, ◌≤◌, List, [], ◌∷◌, ◌++◌, length, take, map, flat_map, max, Contains, get_or, refl, sym, ap, subst, ◌∙◌, arith, to_z, of_z, w64}
-use Rattle.std.specs.Prelude.{ℤ, pos, nat_abs, ◌≤ℤ◌, IfOk, Result, Ok, Err}
+use Rattle.std.proofs.Common.{◌≡◌, ◌⊎◌, inl, inr, ⊎_elim, ℕ, ◌+◌, ◌^◌, ◌<◌, ◌≤◌, List, [], ◌∷◌, ◌++◌, length, take, map, flat_map, max, Contains, get_or, refl, sym, subst, ◌∙◌, arith, to_z, of_z, w64}
+use Rattle.std.specs.Prelude.{ℤ, pos, nat_abs, IfOk, Result, Ok, Err}
 use Rattle.std.specs.List.{AllByRecursion, AllZip}
 use Rattle.std.proofs.lemmas.Int.{ints}
 use Rattle.lrp_theory.specs.Divides.{Divides}
@@ -12,7 +12,7 @@ use Rattle.lrp_theory.proofs.Multiples.{Divides-trans}
 use Rattle.lrp_model.specs.declared.relations.RowPoint.{RowPoint}
 use Rattle.lrp_model.specs.Reach.{greatest, scan_reach}
 use Rattle.lrp_model.specs.Sorts.{FitsColumn, text_count, time_count}
-use Rattle.lrp_model.specs.Texts.{Identifier, Text}
+use Rattle.lrp_model.specs.Texts.{Text}
 use Rattle.lrp_model.specs.Satisfaction.{Assignment}
 use Rattle.lrp_model.specs.declared.formulas.Term.{Term}
 use Rattle.lrp_model.specs.declared.relations.Column.{Column}
@@ -25,12 +25,11 @@ use Rattle.lrp_tables.specs.declared.table.Table.{Table}
 use Rattle.lrp_tables.specs.Calls.{CanBeRow, CanStand}
 use Rattle.lrp_tables.specs.Columns.{scan_times, scan_texts}
 use Rattle.lrp_tables.specs.Steps.{CanScan}
-use Rattle.lrp_tables.specs.Tables.{HasAssignment, IsScanned, IsTableOf}
+use Rattle.lrp_tables.specs.Tables.{IsScanned, IsTableOf}
 use Rattle.lrp_algebra.specs.Rows.{DividesPeriod}
 use Rattle.lrp_plan_laws.proofs.Members.{all_by, all_of}
 use Rattle.lrp_periods.specs.Combining.{AreAllParts}
-use Rattle.lrp_periods.specs.Operations.{CanScanInParts}
-use Rattle.lrp_periods.specs.Parts.{ArePartsAdded, AreParts, ArePartsOf, HasSome, IsPeriodPart, IsPartOfSet, IsSmallPeriod, part_times, part_texts}
+use Rattle.lrp_periods.specs.Parts.{ArePartsAdded, ArePartsOf, HasSome, IsPartOfSet, IsSmallPeriod}
 use Rattle.lrp_periods.specs.Periods.{RowHasPeriods, IsCommonPeriod, IsOwnPeriod, IsRowPeriod, IsValuePeriod}
 use Rattle.lrp_periods.specs.Scanning.{CanScanRows, CanScanSource, IsScannedIn, IsSplitBy}
 use Rattle.lrp_periods.specs.declared.scans.Source.{Source}

@@ -1,6 +1,6 @@
 -- Unions of parts, and parts brought to one period.
-use Rattle.std.proofs.Common.{◌≡◌, ◌⊎◌, inl, inr, ⊎_elim, ℕ, ◌+◌, ◌*◌, ◌-◌, ◌^◌, ◌<◌, ◌≤◌, List, [], ◌∷◌, ◌++◌, length, take, Contains, get_or, None, refl, sym, ap, subst, ◌∙◌, arith, to_z, of_z, w64}
-use Rattle.std.specs.Prelude.{ℤ, pos, nat_abs, ◌≤ℤ◌, IfOk, Result, Ok, Err, IsSome, unwrap_or}
+use Rattle.std.proofs.Common.{◌≡◌, ◌⊎◌, inl, inr, ⊎_elim, ℕ, ◌+◌, ◌-◌, ◌^◌, ◌<◌, ◌≤◌, List, [], ◌∷◌, length, take, Contains, get_or, sym, ap, subst, ◌∙◌, arith}
+use Rattle.std.specs.Prelude.{ℤ, pos, nat_abs, IfOk, Result, Ok, Err, IsSome}
 use Rattle.std.specs.FinMap as finite
 use Rattle.std.specs.FinMap.{get-empty}
 use Rattle.std.proofs.lemmas.Int.{ints}
@@ -13,29 +13,22 @@ use Rattle.lrp_theory.proofs.Modulo.{Divides-self}
 use Rattle.lrp_model.specs.Texts.{Identifier, Text}
 use Rattle.lrp_model.specs.Satisfaction.{Assignment}
 use Rattle.lrp_slots.specs.Lists.{cell_cmp}
-use Rattle.lrp_store.specs.Stores.{HasReach, IsStore, tables_at}
+use Rattle.lrp_store.specs.Stores.{HasReach, IsStore}
 use Rattle.lrp_store.specs.Tables.{AreNumbered}
 use Rattle.lrp_store.proofs.Aligning.{nothing_held}
 use Rattle.lrp_store.proofs.Rooms.{empty_reach}
-use Rattle.lrp_tables.specs.declared.table.StepFault.{StepFault}
-use Rattle.lrp_tables.specs.declared.table.StepFault.TheVariants.{TooManyCells}
 use Rattle.lrp_tables.specs.declared.table.Table.{Table}
-use Rattle.lrp_tables.specs.Calls.{CanMeet}
-use Rattle.lrp_tables.specs.Caps.{InhabitsMoreThan}
 use Rattle.lrp_tables.specs.Columns.{joint}
-use Rattle.lrp_tables.specs.Steps.{BothReach, CanUnite, IsUnionResult}
+use Rattle.lrp_tables.specs.Steps.{CanUnite}
 use Rattle.lrp_tables.specs.Tables.{HasAssignment, HasTexts, IsTableOf, IsUnited}
-use Rattle.lrp_tables.proofs.TableLaws.{table_texts}
 use Rattle.lrp_algebra.proofs.Steps.{farther}
-use Rattle.lrp_periods.specs.Combining.{AreAllParts, CanStandBeside, IsMadeOfSome, IsNothingOver, IsSomePart}
-use Rattle.lrp_periods.specs.Operations.{AreOperand, CanCombineInParts, IsWholeResult}
-use Rattle.lrp_periods.specs.Parts.{ArePartsAdded, AreParts, ArePartsOf, HasSome, IsPeriodPart, IsPartOfSet, IsSmallPeriod, part_times, part_texts}
-use Rattle.lrp_periods.specs.Periods.{IsOwnPeriod}
+use Rattle.lrp_periods.specs.Combining.{CanStandBeside, IsMadeOfSome, IsNothingOver}
+use Rattle.lrp_periods.specs.Operations.{CanCombineInParts}
+use Rattle.lrp_periods.specs.Parts.{ArePartsAdded, HasSome, IsPartOfSet, part_times, part_texts}
 use Rattle.lrp_periods.specs.Sets.{IsExtensionOf, IsUnionOf}
 use Rattle.lrp_periods.specs.declared.parts.PartsFault.{PartsFault}
-use Rattle.lrp_periods.proofs.Gathering.{Set, added_as, added_more, added_part, some_last, some_left, some_none, some_split}
-use Rattle.lrp_periods.proofs.PartLaws.{checked_part, if_part, joint_texts, joint_times, meet_alike, own_part, part_as, part_low, part_own}
-use Rattle.lrp_periods.proofs.Summing.{more_of, nothing_inhabits}
+use Rattle.lrp_periods.proofs.Gathering.{Set, added_as, added_more, added_part}
+use Rattle.lrp_periods.proofs.PartLaws.{checked_part, if_part, own_part, part_low}
 
 -- ---- a table that has nothing
 

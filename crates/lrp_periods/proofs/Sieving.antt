@@ -1,25 +1,21 @@
 -- The numbers of one time column that parts cover.
-use Rattle.std.proofs.Common.{◌≡◌, ◌⊎◌, inl, inr, ⊎_elim, ℕ, zero, suc, ◌+◌, ◌<◌, ◌≤◌, ◌^◌, List, [], ◌∷◌, ◌++◌, length, map, take, replicate, Option, Some, None, Bool, true, false, Contains, get_or, refl, sym, ap, subst, ◌∙◌, arith, length-append, ◌%◌}
+use Rattle.std.proofs.Common.{◌≡◌, ◌⊎◌, inl, inr, ⊎_elim, ℕ, zero, suc, ◌+◌, ◌<◌, ◌≤◌, List, [], ◌∷◌, ◌++◌, length, take, replicate, Option, Some, None, Bool, true, false, Contains, get_or, refl, sym, ap, subst, ◌∙◌, arith, length-append, ◌%◌}
 use Rattle.std.specs.Prelude.{ℤ, pos, nat_abs, ◌-ℤ◌, ◌≤ℤ◌, ◌<ℤ◌, slice_get, slice_index_or}
-use Rattle.std.specs.FinMap as finite
 use Rattle.std.specs.Int.{int_rem_euclid}
 use Rattle.std.proofs.lemmas.Int.{ints}
 use Rattle.std.proofs.lemmas.List.{take_all}
-use Rattle.std.proofs.lemmas.List.Elements.{Contains-append_cases, Contains-append_left, Contains-append_right}
+use Rattle.std.proofs.lemmas.List.Elements.{Contains-append_cases}
 use Rattle.lrp_theory.specs.Divides.{Divides}
 use Rattle.lrp_theory.specs.Entries.{node}
-use Rattle.lrp_theory.proofs.Members.{front_more, in_none, in_one, one_in}
+use Rattle.lrp_theory.proofs.Members.{front_more, in_none, in_one}
 use Rattle.lrp_theory.proofs.Modulo.{Divides--, Divides-is, Divides-zero, rem_between, rem_divides, small_multiple}
 use Rattle.lrp_theory.proofs.Multiples.{Divides-trans}
-use Rattle.lrp_model.specs.Texts.{Ascends, Identifier, Text}
-use Rattle.lrp_model.specs.Satisfaction.{Assignment}
-use Rattle.lrp_model.specs.declared.tuples.Cell.{Cell}
 use Rattle.lrp_model.specs.declared.tuples.Shape.{Shape}
-use Rattle.lrp_zone.specs.Zones.{IsInCell, IsMember, IsResidue, ZoneView, greatest_of}
+use Rattle.lrp_zone.specs.Zones.{IsMember, IsResidue, greatest_of}
 use Rattle.lrp_store.specs.Growing.{IsAdded, IsTupleOf}
-use Rattle.lrp_store.specs.Stores.{BeginsWhole, InStore, IsCellOf, IsPadded, IsStore, LiesInCell, StoreView, tables_at, zone_of}
+use Rattle.lrp_store.specs.Stores.{BeginsWhole, InStore, IsCellOf, LiesInCell, StoreView, tables_at, zone_of}
 use Rattle.lrp_store.proofs.Counted.{lies_in, one_cell}
-use Rattle.lrp_store.proofs.Grown.{Set, grown_same}
+use Rattle.lrp_store.proofs.Grown.{grown_same}
 use Rattle.lrp_store.proofs.Held.{cell_held, node_take}
 use Rattle.lrp_tables.proofs.FreeZones.{free_zone}
 use Rattle.lrp_tables.proofs.Gathering.{IsGathering, added_as, gathered, gathering_more, gathering_none}

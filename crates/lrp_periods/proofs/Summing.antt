@@ -1,9 +1,9 @@
 -- Parts inhabit no more cells together than each of them by itself.
-use Rattle.std.proofs.Common.{◌≡◌, ◌⊎◌, inl, inr, ⊎_elim, ℕ, zero, suc, ◌+◌, ◌<◌, ◌≤◌, List, [], ◌∷◌, ◌++◌, length, take, drop, Contains, get_or, refl, sym, ap, subst, ◌∙◌, arith}
-use Rattle.std.specs.Prelude.{ℤ, pos, AllPairs}
+use Rattle.std.proofs.Common.{◌≡◌, ◌⊎◌, inl, inr, ⊎_elim, ℕ, zero, suc, ◌+◌, ◌<◌, ◌≤◌, List, [], ◌∷◌, length, take, drop, Contains, get_or, refl, sym, subst, arith}
+use Rattle.std.specs.Prelude.{pos, AllPairs}
 use Rattle.std.specs.List.{AllByRecursion}
 use Rattle.std.proofs.lemmas.List.{length-take-le, take-append-drop, take_all}
-use Rattle.lrp_theory.proofs.Members.{below_or, front_more, head_in, in_cons, in_none, in_one, later, pairs_append, pairs_none, pairs_one}
+use Rattle.lrp_theory.proofs.Members.{below_or, front_more, head_in, in_cons, in_one, later, pairs_append, pairs_none, pairs_one}
 use Rattle.lrp_model.specs.Cells.{Differ, Many}
 use Rattle.lrp_model.specs.Texts.{Ascends, Identifier, Text}
 use Rattle.lrp_model.specs.Satisfaction.{Assignment}

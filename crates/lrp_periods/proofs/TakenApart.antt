@@ -1,31 +1,23 @@
 -- Complements and differences of parts.
-use Rattle.std.proofs.Common.{◌≡◌, ◌⊎◌, inl, inr, ⊎_elim, ℕ, ◌+◌, ◌*◌, ◌-◌, ◌^◌, ◌<◌, ◌≤◌, List, [], ◌∷◌, ◌++◌, length, take, Contains, get_or, refl, sym, ap, subst, ◌∙◌, arith, to_z, of_z, w64}
-use Rattle.std.specs.Prelude.{ℤ, pos, nat_abs, ◌≤ℤ◌, IfOk, Result, Ok, Err}
-use Rattle.std.specs.List.{AllByRecursion}
-use Rattle.std.proofs.lemmas.Int.{ints}
+use Rattle.std.proofs.Common.{◌≡◌, ⊎_elim, ℕ, ◌+◌, ◌^◌, ◌<◌, ◌≤◌, List, [], ◌∷◌, ◌++◌, length, take, Contains, get_or, sym, subst, arith}
+use Rattle.std.specs.Prelude.{ℤ, pos, nat_abs, IfOk, Result, Ok}
 use Rattle.std.proofs.lemmas.List.{take_all}
-use Rattle.std.proofs.lemmas.List.Elements.{Contains-append_cases, Contains-append_left, Contains-append_right}
-use Rattle.lrp_theory.specs.Divides.{Divides}
-use Rattle.lrp_theory.proofs.Members.{front_more, in_none, in_one, one_in, head_in}
-use Rattle.lrp_theory.proofs.Multiples.{Divides-trans}
-use Rattle.lrp_model.specs.Texts.{Ascends, Identifier, Text}
+use Rattle.lrp_theory.proofs.Members.{front_more, in_one, one_in}
+use Rattle.lrp_model.specs.Texts.{Identifier, Text}
 use Rattle.lrp_model.specs.Satisfaction.{Assignment}
-use Rattle.lrp_model.specs.declared.formulas.Test.{Test}
 use Rattle.lrp_store.specs.Stores.{HasReach, IsStore}
 use Rattle.lrp_tables.specs.declared.table.Table.{Table}
-use Rattle.lrp_tables.specs.Calls.{AreVariablesOf, CanBeCarried, tests_reach}
-use Rattle.lrp_tables.specs.Columns.{joint}
-use Rattle.lrp_tables.specs.Steps.{CanComplement, CanJoin, CanMinus, IsMinusResult}
-use Rattle.lrp_tables.specs.Tables.{HasAssignment, HasTexts, IsComplement, IsJoined, IsMinus, IsTableOf}
+use Rattle.lrp_tables.specs.Steps.{CanComplement, CanMinus, IsMinusResult}
+use Rattle.lrp_tables.specs.Tables.{HasAssignment, HasTexts, IsComplement, IsTableOf}
 use Rattle.lrp_algebra.proofs.Steps.{farther}
-use Rattle.lrp_periods.specs.Combining.{AreAllParts, CanTakeAll, CanTakeAway, IsMadeOfSome, IsSomePart}
+use Rattle.lrp_periods.specs.Combining.{CanTakeAll, CanTakeAway, IsMadeOfSome}
 use Rattle.lrp_periods.specs.Operations.{AreOperand, CanBePart, CanMinusInParts}
-use Rattle.lrp_periods.specs.Parts.{ArePartsAdded, AreParts, ArePartsOf, HasSome, IsPeriodPart, IsPartOfSet, IsSmallPeriod, part_times, part_texts}
-use Rattle.lrp_periods.specs.Periods.{IsCommonPeriod, IsOwnPeriod}
+use Rattle.lrp_periods.specs.Parts.{ArePartsAdded, ArePartsOf, HasSome, IsPeriodPart, IsPartOfSet, part_times, part_texts}
+use Rattle.lrp_periods.specs.Periods.{IsCommonPeriod}
 use Rattle.lrp_periods.specs.Sets.{IsComplementOf, IsDifferenceOf}
 use Rattle.lrp_periods.specs.declared.parts.PartsFault.{PartsFault}
-use Rattle.lrp_periods.proofs.Gathering.{Set, added_as, some_last, some_left, some_none, some_split}
-use Rattle.lrp_periods.proofs.PartLaws.{checked_part, if_part, joint_texts, joint_times, meet_alike, own_part, part_as, part_low, part_of_table, part_own}
+use Rattle.lrp_periods.proofs.Gathering.{Set, added_as, some_last, some_left, some_split}
+use Rattle.lrp_periods.proofs.PartLaws.{checked_part, if_part, own_part, part_as, part_low, part_own}
 use Rattle.lrp_periods.proofs.PeriodLaws.{own_high}
 
 -- ---- complements
@@ -63,38 +55,6 @@ module _ {domain : List Text} {period : ℤ} {of : List Table} (can : AreOperand
       let e : take 1 of ≡ part ∷ [] = front_more of 0 part low at in
       subst (λ ps. IsPartOfSet domain (part_times of) (part_texts of) period (IsComplementOf domain (part_texts of) (HasSome domain ps)) made) (sym e)
       (part_as (λ env h. record { known = h.known; none = λ s. h.none (subst (λ t. HasAssignment t domain env) (sym (in_one part s.part s.listed)) s.has) }) (λ env h. record { known = h.known; none = λ x. h.none (record { part = part; listed = one_in part; has = x }) }) is)
-
-  -- the next part can be taken from what the first ones lack
-  pub can_take_lacked : {part made : Table} {set : Set} → Ascends domain → Contains of part → IsPartOfSet domain (part_times of) (part_texts of) period set made → CanTakeAway domain period made part
-  can_take_lacked {part} {made} ascends k is =
-      let own = can.parts_are.each part k in record {
-        period_is = can.period_is;
-        ascends = ascends;
-        left_is = own_part is.part;
-        right_is = own_part own;
-        columns = record {
-          times = λ v c. subst (λ ns. Contains ns v) (own.times_are ∙ sym is.part.times_are) c;
-          texts = λ v c. subst (λ ns. Contains ns v) (own.texts_are ∙ sym is.part.texts_are) c;
-        };
-      }
-
-  pub lacks_more : (n : ℕ) (part : Table) {made new : Table} → n < length of → part ≡ get_or of n part → LacksFirst n made
-      → IsPartOfSet domain made.vars.times made.vars.texts period (IsDifferenceOf (HasAssignment made domain) (HasAssignment part domain)) new → LacksFirst (n + 1) new
-  lacks_more n part {made} {new} low at first less =
-      subst (λ ps. IsPartOfSet domain (part_times of) (part_texts of) period (IsComplementOf domain (part_texts of) (HasSome domain ps)) new) (sym (front_more of n part low at))
-      (part_as to from (subst (λ ns. IsPartOfSet domain (part_times of) ns period (IsDifferenceOf (HasAssignment made domain) (HasAssignment part domain)) new) first.part.texts_are (subst (λ ns. IsPartOfSet domain ns made.vars.texts period (IsDifferenceOf (HasAssignment made domain) (HasAssignment part domain)) new) first.part.times_are less)))
-    where
-      to : (env : Assignment) → IsDifferenceOf (HasAssignment made domain) (HasAssignment part domain) env → IsComplementOf domain (part_texts of) (HasSome domain (take n of ++ part ∷ [])) env
-      to env h = record {
-        known = (first.sound env h.has).known;
-        none = λ s. ⊎_elim (λ a. (first.sound env h.has).none a) (λ b. h.none b) (some_split domain (take n of) part env s);
-      }
-
-      from : (env : Assignment) → IsComplementOf domain (part_texts of) (HasSome domain (take n of ++ part ∷ [])) env → IsDifferenceOf (HasAssignment made domain) (HasAssignment part domain) env
-      from env h = record {
-        has = first.whole env (record { known = h.known; none = λ s. h.none (some_left domain (take n of) (part ∷ []) env s) });
-        none = λ x. h.none (some_last domain (take n of) part env x);
-      }
 
   pub lacks_all : (n : ℕ) {made : Table} → length of ≤ n → LacksFirst n made → IsPartOfSet domain (part_times of) (part_texts of) period (IsComplementOf domain (part_texts of) (HasSome domain of)) made
   lacks_all n {made} high is = subst (λ ps. IsPartOfSet domain (part_times of) (part_texts of) period (IsComplementOf domain (part_texts of) (HasSome domain ps)) made) (take_all n of high) is

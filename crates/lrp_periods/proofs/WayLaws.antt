@@ -1,5 +1,5 @@
 -- A store's tuples inhabit no more cells of a multiple of its period than its own cells, times the ways to choose the residues of the columns anew.
-use Rattle.std.proofs.Common.{◌≡◌, ◌≢◌, ℕ, zero, suc, ◌+◌, ◌*◌, ◌/◌, ◌^◌, ◌<◌, ◌≤◌, ◌⊎◌, inl, inr, List, [], ◌∷◌, length, refl, sym, ap, subst, ◌∙◌, arith, Contains, get_or, add-one}
+use Rattle.std.proofs.Common.{◌≡◌, ◌≢◌, ℕ, zero, suc, ◌+◌, ◌*◌, ◌/◌, ◌^◌, ◌<◌, ◌≤◌, ◌⊎◌, inl, inr, List, length, refl, sym, ap, subst, ◌∙◌, arith, Contains, get_or, add-one}
 use Rattle.std.proofs.Math.Nat.{pow-zero, pow-succ', mul-le-mul_right, mul-pos, div-lt_iff_lt-mul, lt-div-mul-add, div-mul-le_self, mul-div_cancel}
 use Rattle.std.specs.Prelude.{ℤ, ◌*ℤ◌, pos, negsuc, nat_abs, AllPairs, neg_ℤ, ◌-ℤ◌, ◌≤ℤ◌, ◌<ℤ◌}
 use Rattle.std.specs.FinMap as finite

@@ -1,20 +1,21 @@
 -- A zone inhabits no more cells of a multiple of its period than its columns have choices of residues, one after another.
-use Rattle.std.proofs.Common.{◌≡◌, ◌≢◌, ◌⊎◌, inl, inr, ⊎_elim, ℕ, zero, suc, ◌+◌, ◌*◌, ◌/◌, ◌<◌, ◌≤◌, List, [], ◌∷◌, ◌++◌, length, take, refl, sym, ap, subst, ◌∙◌, arith, Contains, get_or, Option, Some, None, ◌^◌, to_z, of_z, w64}
-use Rattle.std.specs.Prelude.{ℤ, pos, nat_abs, neg_ℤ, IfSome, ◌-ℤ◌, ◌+ℤ◌, ◌≤ℤ◌, ◌<ℤ◌}
+use Rattle.std.proofs.Common.{◌≡◌, ◌≢◌, ◌⊎◌, inl, inr, ⊎_elim, ℕ, zero, suc, ◌+◌, ◌*◌, ◌/◌, ◌<◌, ◌≤◌, List, [], ◌∷◌, length, take, refl, sym, ap, subst, ◌∙◌, arith, Contains, get_or, Option, Some, None, ◌^◌, SFits, to_z, of_z, w64}
+use Rattle.std.specs.Prelude.{ℤ, pos, negsuc, nat_abs, FitsSigned, neg_ℤ, IfSome, ◌-ℤ◌, ◌+ℤ◌, ◌≤ℤ◌, ◌<ℤ◌}
 use Rattle.std.specs.Int.{int_rem_euclid, w128}
-use Rattle.std.proofs.Math.Nat.{div-lt_iff_lt-mul, lt-div-mul-add, mul-pos}
-use Rattle.std.proofs.lemmas.Int.{ints}
+use Rattle.std.specs.Option.{SomeIff}
+use Rattle.std.proofs.Math.Nat.{lt-div-mul-add, mul-pos}
+use Rattle.std.proofs.lemmas.Int.{ints, to_z-of_z}
 use Rattle.std.proofs.lemmas.List.{get_or-take, length-take-le}
 use Rattle.lrp_theory.specs.Bounds.{Within}
 use Rattle.lrp_theory.specs.Divides.{Divides}
-use Rattle.lrp_theory.specs.Entries.{AtMost, entry, node}
+use Rattle.lrp_theory.specs.Entries.{entry, node}
 use Rattle.lrp_theory.proofs.Members.{head_in, in_cons, in_none, later}
 use Rattle.lrp_theory.proofs.Modulo.{Divides-+, Divides--, Divides-is, Divides-zero, rem_divides, rem_high, rem_low, small_multiple}
 use Rattle.lrp_theory.proofs.Multiples.{Divides-multiple, Divides-trans}
 use Rattle.lrp_model.specs.Cells.{Many}
 use Rattle.lrp_model.specs.declared.tuples.Cell.{Cell}
 use Rattle.lrp_model.specs.declared.tuples.Shape.{Shape}
-use Rattle.lrp_zone.specs.Zones.{ZoneView, IsMember, IsResidue, IsTight, IsZone, columns_of}
+use Rattle.lrp_zone.specs.Zones.{ZoneView, IsMember, IsResidue, IsZone, columns_of}
 use Rattle.lrp_store.specs.Growing.{InhabitsMany}
 use Rattle.lrp_store.specs.Stores.{InStore, IsInhabitedCell, IsStore, StoreView}
 use Rattle.lrp_tables.specs.Pieces.{ArePieces, InPiece, FitsCell, InPieces, IsPieceOf}
@@ -26,7 +27,7 @@ use Rattle.lrp_tables.specs.Caps.{InhabitsMoreThan}
 use Rattle.lrp_tables.specs.Tables.{HasAssignment}
 use Rattle.lrp_tables.specs.declared.table.Table.{Table}
 use Rattle.lrp_periods.specs.Bounding.{TableHasFewCells}
-use Rattle.lrp_periods.specs.Windows.{AreWays, IsWaysLeft, IsWindowBetween}
+use Rattle.lrp_periods.specs.Windows.{AreWays, IsMostOver, IsWaysLeft, IsWindowBetween}
 use Rattle.lrp_periods.proofs.Summing.{many_either, many_none}
 use Rattle.lrp_periods.proofs.WayLaws.{below, digit_low, digit_same, few_named, few_numbers, first_same, second_same}
 
@@ -61,9 +62,8 @@ module _ (z : ZoneView) (is : IsZone z) (ways : ℕ) where
     value_residue : (column own : ℕ) (left : IsWaysLeft z ways column own) (xs : List ℤ) → IsMember z xs → column ≤ columns_of z → IsResidue (own * z.period) (value column own left xs)
     value_residue column own (inl e) xs m c = subst (λ n. IsResidue (n * z.period) (int_rem_euclid (node xs column) (pos (ways * z.period)))) (sym e) (record { low = rem_low (ways * z.period) (node xs column) whole_low; high = rem_high (ways * z.period) (node xs column) whole_low })
     value_residue column own (inr w) xs m c =
-        let i : w.0 ≤ columns_of z = (let l : w.0 < column = w.1 in omega (arith, l, c)) in
-        let a : (node xs column -ℤ node xs w.0) ≤ℤ w.2.above = met_at _ w.2.above _ w.2.above_is (m.meets column w.0 c i) in
-        let b : (node xs w.0 -ℤ node xs column) ≤ℤ w.2.below = met_at _ w.2.below _ w.2.below_is (m.meets w.0 column i c) in
+        let a : (node xs column -ℤ node xs w.0) ≤ℤ w.2.above = w.2.most xs m in
+        let b : (node xs w.0 -ℤ node xs column) ≤ℤ w.2.below = w.2.least xs m in
         let e : (w.2.above +ℤ w.2.below) <ℤ pos (own * z.period) = w.2.enough in
         record { low = from_zero (node xs column) (node xs w.0) w.2.below b; high = to_end (node xs column) (node xs w.0) w.2.above w.2.below (pos (own * z.period)) a e }
       where
@@ -280,29 +280,48 @@ left_more z ways least new column other found low is cases left = ⊎_elim
     of_some (Some n) e w = subst (IsWindowBetween z column other) (let x : n ≡ new = cc in x) w
     of_some None e w = cc
 
-pub window_is : (z : ZoneView) (column other : ℕ) (above below width : ℤ) (period : ℕ) → entry z.bounds column other ≡ Some above → entry z.bounds other column ≡ Some below → (r : Option ℕ) → IfSome r (λ count. width <ℤ pos (count * period)) → width ≡ (above +ℤ below) → period ≡ z.period → IfSome r (IsWindowBetween z column other)
-window_is z column other above below width period a b (Some count) h w e = record { above = above; below = below; above_is = a; below_is = b; enough = subst (λ x. x <ℤ pos (count * z.period)) w (subst (λ k. width <ℤ pos (count * k)) e h) }
+pub window_is : (z : ZoneView) (column other : ℕ) (above below width : ℤ) (period : ℕ) → IsMostOver z column other above → IsMostOver z other column below → (r : Option ℕ) → IfSome r (λ count. width <ℤ pos (count * period)) → width ≡ (above +ℤ below) → period ≡ z.period → IfSome r (IsWindowBetween z column other)
+window_is z column other above below width period a b (Some count) h w e = record { above = above; below = below; most = a; least = b; enough = subst (λ x. x <ℤ pos (count * z.period)) w (subst (λ k. width <ℤ pos (count * k)) e h) }
 window_is z column other above below width period a b None h w e = tt
 
--- bounds of a zone are small
-bound_small : (z : ZoneView) → IsZone z → (i j : ℕ) (a : ℤ) → i ≤ columns_of z → j ≤ columns_of z → entry z.bounds i j ≡ Some a → AtMost (2 ^ 62) (Some a)
-bound_small z is i j a k l e = (subst (IsTight (pos z.period) (node z.residues i -ℤ node z.residues j)) e (is.shape.tight i j k l)).1
+-- ---- how far a column may be over another one
 
--- and their sum is what is computed
-pub width_is : (z : ZoneView) → IsZone z → (i j : ℕ) (a b r : ℤ) → i ≤ columns_of z → j ≤ columns_of z → entry z.bounds i j ≡ Some a → entry z.bounds j i ≡ Some b → r ≡ (to_z w64 (of_z w64 a) +ℤ to_z w64 (of_z w64 b)) → to_z w128 (of_z w128 r) ≡ (a +ℤ b)
-width_is z is i j a b r k l e f g =
-    let x = bound_small z is i j a k l e in
-    let y = bound_small z is j i b l k f in
-    sum_word a b r x.0 x.1 y.0 y.1 (g ∙ ap (λ u. u +ℤ to_z w64 (of_z w64 b)) (word a x.0 x.1) ∙ ap (λ u. a +ℤ u) (word b y.0 y.1))
+-- a stored bound says so
+pub stored_over : (z : ZoneView) (i j : ℕ) (e : Option ℤ) → i ≤ columns_of z → j ≤ columns_of z → entry z.bounds i j ≡ e → IfSome e (IsMostOver z i j)
+stored_over z i j None l r is = tt
+stored_over z i j (Some a) l r is = λ xs m. met_at _ a _ is (m.meets i j l r)
+
+-- and the sum of two beside a third column
+pub over_through : (z : ZoneView) (i k j : ℕ) (a b c : ℤ) → IsMostOver z i k a → IsMostOver z k j b → c ≡ (a +ℤ b) → IsMostOver z i j c
+over_through z i k j a b c f g e xs m = along (node xs i) (node xs k) (node xs j) a b c (f xs m) (g xs m) e
   where
-    word : (a : ℤ) → neg_ℤ (pos (2 ^ 62)) ≤ℤ a → a ≤ℤ pos (2 ^ 62) → to_z w64 (of_z w64 a) ≡ a
-    word a l h = omega (arith, ints)
+    along : (x y w a b c : ℤ) → (x -ℤ y) ≤ℤ a → (y -ℤ w) ≤ℤ b → c ≡ (a +ℤ b) → (x -ℤ w) ≤ℤ c
+    along x y w a b c f g e = omega (arith, ints)
 
-    wide : (u : ℤ) → neg_ℤ (pos (2 ^ 63)) ≤ℤ u → u ≤ℤ pos (2 ^ 63) → to_z w128 (of_z w128 u) ≡ u
-    wide u l h = omega (arith, ints)
+-- if it is a word
+pub over_sum : (z : ZoneView) (i k j : ℕ) (a b : ℤ) (r : Option ℤ) → SFits w64 a → SFits w64 b → IsMostOver z i k a → IsMostOver z k j b → SomeIff r (FitsSigned w64 (to_z w64 (of_z w64 a) +ℤ to_z w64 (of_z w64 b))) (to_z w64 (of_z w64 a) +ℤ to_z w64 (of_z w64 b)) → IfSome r (IsMostOver z i j)
+over_sum z i k j a b (Some c) x y f g s = over_through z i k j a b c f g (s.1 ∙ ap (λ u. u +ℤ to_z w64 (of_z w64 b)) (to_z-of_z w64 a x) ∙ ap (λ u. a +ℤ u) (to_z-of_z w64 b y))
+over_sum z i k j a b None x y f g s = tt
 
-    sum_word : (a b r : ℤ) → neg_ℤ (pos (2 ^ 62)) ≤ℤ a → a ≤ℤ pos (2 ^ 62) → neg_ℤ (pos (2 ^ 62)) ≤ℤ b → b ≤ℤ pos (2 ^ 62) → r ≡ (a +ℤ b) → to_z w128 (of_z w128 r) ≡ (a +ℤ b)
-    sum_word a b r al ah bl bh e = subst (λ u. to_z w128 (of_z w128 u) ≡ (a +ℤ b)) (sym e) (wide (a +ℤ b) (omega (arith, ints)) (omega (arith, ints)))
+-- of two bounds the one that is taken
+pub over_either : (z : ZoneView) (i j : ℕ) (r a b : Option ℤ) → (r ≡ a) ⊎ (r ≡ b) → IfSome a (IsMostOver z i j) → IfSome b (IsMostOver z i j) → IfSome r (IsMostOver z i j)
+over_either z i j r a b (inl e) f g = subst (λ o. IfSome o (IsMostOver z i j)) (sym e) f
+over_either z i j r a b (inr e) f g = subst (λ o. IfSome o (IsMostOver z i j)) (sym e) g
+
+-- the width of two words
+pub width_is : (a b r : ℤ) → SFits w64 a → SFits w64 b → r ≡ (to_z w64 (of_z w64 a) +ℤ to_z w64 (of_z w64 b)) → to_z w128 (of_z w128 r) ≡ (a +ℤ b)
+width_is a b r x y e = subst (λ u. to_z w128 (of_z w128 u) ≡ (a +ℤ b)) (sym (e ∙ ap (λ u. u +ℤ to_z w64 (of_z w64 b)) (to_z-of_z w64 a x) ∙ ap (λ u. a +ℤ u) (to_z-of_z w64 b y))) (wide a b (word_low a x) (word_high a x) (word_low b y) (word_high b y))
+  where
+    word_low : (a : ℤ) → SFits w64 a → neg_ℤ (pos (2 ^ 63)) ≤ℤ a
+    word_low (pos n) x = omega (arith, ints)
+    word_low (negsuc n) x = let l : n < 2 ^ 63 = x.sfits in omega (arith, ints)
+
+    word_high : (a : ℤ) → SFits w64 a → a ≤ℤ pos (2 ^ 63)
+    word_high (pos n) x = let l : n < 2 ^ 63 = x.sfits in omega (arith, ints)
+    word_high (negsuc n) x = omega (arith, ints)
+
+    wide : (a b : ℤ) → neg_ℤ (pos (2 ^ 63)) ≤ℤ a → a ≤ℤ pos (2 ^ 63) → neg_ℤ (pos (2 ^ 63)) ≤ℤ b → b ≤ℤ pos (2 ^ 63) → to_z w128 (of_z w128 (a +ℤ b)) ≡ (a +ℤ b)
+    wide a b al ah bl bh = omega (arith, ints)
 
 -- a period is its word
 pub period_is : (z : ZoneView) → IsZone z → (r : ℤ) → r ≡ pos z.period → nat_abs (to_z w64 (of_z w64 r)) ≡ z.period

@@ -1,13 +1,11 @@
 -- What is asked in a small period holds in its word.
-use Rattle.std.proofs.Common.{◌≡◌, ◌<◌, ◌≤◌, ℕ, List, length, get_or, sym, subst, to_z, of_z, w64}
+use Rattle.std.proofs.Common.{◌≡◌, ◌<◌, ◌≤◌, ℕ, List, length, get_or, subst, to_z, of_z, w64}
 use Rattle.std.specs.Prelude.{ℤ}
 use Rattle.lrp_model.specs.Texts.{Text}
 use Rattle.lrp_model.specs.declared.formulas.Test.{Test}
-use Rattle.lrp_model.specs.declared.relations.Column.{Column}
 use Rattle.lrp_tables.specs.declared.table.Table.{Table}
 use Rattle.lrp_periods.specs.Combining.{CanTakeAll}
 use Rattle.lrp_periods.specs.Operations.{AreOperand, CanCombineInParts, CanMinusInParts, CanSelectInParts}
-use Rattle.lrp_periods.specs.Parts.{IsSmallPeriod}
 use Rattle.lrp_periods.proofs.PeriodLaws.{in_word}
 
 pub operand_word : {domain : List Text} {period : ℤ} {parts : List Table} → AreOperand domain period parts → AreOperand domain (to_z w64 (of_z w64 period)) parts

@@ -1,19 +1,17 @@
 -- How many cells tables inhabit at a period, and how far their bounds reach.
-use Rattle.std.specs.Prelude.{ℕ, ℤ, pos, ◌≤◌, List, Option, Contains}
+use Rattle.std.specs.Prelude.{ℕ, pos, ◌≤◌, List, Contains}
 use Rattle.lrp_model.specs.Texts.{Ascends, Text}
-use Rattle.lrp_model.specs.declared.tuples.Cell.{Cell}
 use Rattle.lrp_theory.specs.Entries.{AtMost, entry}
 use Rattle.lrp_zone.specs.Zones.{ZoneView, columns_of, reach_of}
-use Rattle.lrp_store.specs.Stores.{StoreView, tables_at, zone_of}
 use Rattle.lrp_store.specs.Tables.{AreNumbered}
 use Rattle.lrp_tables.specs.declared.table.Table.{Table}
 use Rattle.lrp_tables.specs.Caps.{InhabitsMoreThan}
 use Rattle.lrp_tables.specs.Tables.{HasAssignment}
 use Rattle.lrp_periods.specs.Parts.{AreParts, HasSome, part_times, part_texts}
 
--- each zone of the cell has at most this reach
-abbrev pub HasReachIn : StoreView → Cell → ℕ → Type 0
-HasReachIn s cell reach = (table : List (Option ℤ)) → Contains (tables_at s cell) table → reach_of (zone_of s cell table) ≤ reach
+-- each of the zones has at most this reach
+abbrev pub AreZonesWithin : ℕ → List ZoneView → Type 0
+AreZonesWithin reach zones = (z : ZoneView) → Contains zones z → reach_of z ≤ reach
 
 -- each bound of the column beside another one has at most this magnitude
 abbrev pub IsRowWithin : ZoneView → ℕ → ℕ → Type 0

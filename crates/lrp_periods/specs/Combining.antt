@@ -1,5 +1,5 @@
 -- What is asked of parts that are put together one by one.
-use Rattle.std.specs.Prelude.{◌≡◌, ◌⊎◌, ◌+◌, ◌≤◌, ◌^◌, ℕ, ℤ, nat_abs, List, Contains, length, pos, ◌<◌, Some, slice_get}
+use Rattle.std.specs.Prelude.{◌≡◌, ◌+◌, ◌≤◌, ◌^◌, ℕ, ℤ, nat_abs, List, Contains, length, pos, ◌<◌, Some, slice_get}
 use Rattle.std.specs.FinMap as finite
 use Rattle.std.specs.List.{AllByRecursion}
 use Rattle.lrp_theory.specs.Divides.{Divides}
@@ -10,7 +10,6 @@ use Rattle.lrp_model.specs.declared.formulas.Test.{Test}
 use Rattle.lrp_tables.specs.declared.table.Table.{Table}
 use Rattle.lrp_tables.specs.Calls.{AreVariablesOf, CanBeCarried, CanMeet, test_period, tests_reach}
 use Rattle.lrp_tables.specs.Columns.{joint}
-use Rattle.lrp_tables.specs.Tables.{HasAssignment}
 use Rattle.lrp_periods.specs.Parts.{AreParts, IsPeriodPart, IsSmallPeriod, part_times, part_texts}
 use Rattle.lrp_periods.specs.Periods.{IsOwnPeriod}
 use Rattle.lrp_periods.specs.declared.joins.Rights.{Rights}

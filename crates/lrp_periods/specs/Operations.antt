@@ -1,9 +1,8 @@
 -- What the operations on tables in parts ask of what they are given.
-use Rattle.std.specs.Prelude.{◌≡◌, ◌+◌, ◌≤◌, ◌^◌, ◌≤ℤ◌, ℕ, ℤ, pos, nat_abs, List, length, Contains, Result, Err, IfOk, OnOk}
+use Rattle.std.specs.Prelude.{◌≡◌, ◌+◌, ◌≤◌, ◌^◌, ℕ, ℤ, nat_abs, List, Contains, Result, Err, IfOk, OnOk}
 use Rattle.std.specs.List.{AllByRecursion}
 use Rattle.lrp_model.specs.Reach.{test_reach}
-use Rattle.lrp_model.specs.Texts.{Ascends, Identifier, Text}
-use Rattle.lrp_model.specs.Satisfaction.{Assignment}
+use Rattle.lrp_model.specs.Texts.{Ascends, Text}
 use Rattle.lrp_model.specs.declared.formulas.Term.{Term}
 use Rattle.lrp_model.specs.declared.formulas.Test.{Test}
 use Rattle.lrp_model.specs.declared.relations.Relation.{Relation}

@@ -1,7 +1,7 @@
 -- Tables in parts: several tables over the same variables, each in cells of a period of its own.
-use Rattle.std.specs.Prelude.{◌≡◌, ◌⊎◌, ◌<◌, ◌≤◌, ◌^◌, ◌≤ℤ◌, ℕ, ℤ, pos, nat_abs, List, [], ◌∷◌, length, Contains}
+use Rattle.std.specs.Prelude.{◌≡◌, ◌⊎◌, ◌<◌, ◌≤◌, ◌^◌, ◌≤ℤ◌, ℤ, pos, nat_abs, List, [], ◌∷◌, length, Contains}
 use Rattle.lrp_theory.specs.Divides.{Divides}
-use Rattle.lrp_model.specs.Texts.{Ascends, Identifier, Text}
+use Rattle.lrp_model.specs.Texts.{Identifier, Text}
 use Rattle.lrp_model.specs.Satisfaction.{Assignment}
 use Rattle.lrp_store.specs.Stores.{HasReach, IsStore}
 use Rattle.lrp_store.specs.Tables.{AreNumbered}

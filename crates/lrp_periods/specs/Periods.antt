@@ -1,5 +1,5 @@
 -- Periods of parts, which divide the period of the whole.
-use Rattle.std.specs.Prelude.{◌≤◌, ◌^◌, ◌≤ℤ◌, ℤ, pos, nat_abs, List, Contains}
+use Rattle.std.specs.Prelude.{◌≤ℤ◌, ℤ, pos}
 use Rattle.std.specs.List.{AllByRecursion}
 use Rattle.lrp_theory.specs.Divides.{Divides}
 use Rattle.lrp_model.specs.declared.formulas.Test.{Test}

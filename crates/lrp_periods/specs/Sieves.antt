@@ -2,8 +2,11 @@
 use Rattle.std.specs.Prelude.{◌≡◌, ◌<◌, ℕ, ℤ, pos, ◌-ℤ◌, List, [], ◌∷◌, Option, Some, Bool, true, length, replicate, slice_get, Contains}
 use Rattle.lrp_theory.specs.Divides.{Divides}
 use Rattle.lrp_model.specs.declared.tuples.Cell.{Cell}
-use Rattle.lrp_store.specs.Stores.{BeginsWhole, InStore, IsStore, StoreView, tables_at}
+use Rattle.lrp_model.specs.Texts.{Text}
+use Rattle.lrp_store.specs.Stores.{BeginsWhole, HasReach, InStore, IsStore, StoreView, tables_at}
 use Rattle.lrp_tables.specs.declared.table.Table.{Table}
+use Rattle.lrp_periods.specs.Parts.{HasSome, IsPartOfSet, part_times, part_texts}
+use Rattle.lrp_periods.specs.Sets.{IsComplementOf}
 use Rattle.lrp_periods.specs.declared.sieves.Cover.{Cover}
 
 -- the cell of a residue of one time column
@@ -19,6 +22,18 @@ pub record IsLineStore (s : StoreView) : Type 0 where
   pub valid : IsStore s
   pub times : s.shape.times ≡ 1
   pub texts : s.shape.texts ≡ 0
+
+-- parts over one time column and no other, with whole cells
+pub record CanBeSifted (parts : List Table) : Type 0 where
+  pub times : length (part_times parts) ≡ 1
+  pub texts : part_texts parts ≡ []
+  pub whole : (part : Table) → Contains parts part → HasWholeCells part.store
+
+-- a part of this period that has just the assignments that none of the parts has, and no bounds
+pub record IsSifted (domain : List Text) (period : ℤ) (parts : List Table) (made : Table) : Type 0 where
+  pub part : IsPartOfSet domain (part_times parts) (part_texts parts) period (IsComplementOf domain (part_texts parts) (HasSome domain parts)) made
+  pub period_is : pos made.store.period ≡ period
+  pub free : HasReach made.store 0
 
 -- the number has a residue that is marked
 pub record IsCoveredNumber (cover : Cover) (x : ℤ) : Type 0 where

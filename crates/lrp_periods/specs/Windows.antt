@@ -1,14 +1,18 @@
 -- How many residues the columns of a zone have, one after another.
-use Rattle.std.specs.Prelude.{◌≡◌, ◌⊎◌, ℕ, zero, suc, ℤ, pos, ◌*◌, ◌<◌, ◌+ℤ◌, ◌<ℤ◌, Some}
-use Rattle.lrp_theory.specs.Entries.{entry}
-use Rattle.lrp_zone.specs.Zones.{ZoneView}
+use Rattle.std.specs.Prelude.{◌≡◌, ◌⊎◌, ℕ, zero, suc, ℤ, pos, List, ◌*◌, ◌<◌, ◌+ℤ◌, ◌-ℤ◌, ◌≤ℤ◌, ◌<ℤ◌}
+use Rattle.lrp_theory.specs.Entries.{node}
+use Rattle.lrp_zone.specs.Zones.{ZoneView, IsMember}
 
--- the column is bounded from both sides beside another one, in fewer than so many periods
+-- the column of each tuple is at most so far over another one
+abbrev pub IsMostOver : ZoneView → ℕ → ℕ → ℤ → Type 0
+IsMostOver z column other most = (xs : List ℤ) → IsMember z xs → (node xs column -ℤ node xs other) ≤ℤ most
+
+-- beside another one the column has values of a window that is shorter than so many periods
 pub record IsWindowBetween (z : ZoneView) (column other count : ℕ) : Type 0 where
   pub above : ℤ
   pub below : ℤ
-  pub above_is : entry z.bounds column other ≡ Some above
-  pub below_is : entry z.bounds other column ≡ Some below
+  pub most : IsMostOver z column other above
+  pub least : IsMostOver z other column below
   pub enough : (above +ℤ below) <ℤ pos (count * z.period)
 
 -- the column has all ways, or the values of a window beside zero or a column before it

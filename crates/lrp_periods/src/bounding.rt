@@ -5,12 +5,11 @@ ghost use Rattle.lrp_theory.specs.Entries.{AtMost};
 ghost use Rattle.lrp_zone.specs.Zones.{IsZone, columns_of, reach_of};
 ghost use Rattle.lrp_store.specs.Stores.{HasReach, IsStore};
 ghost use Rattle.lrp_tables.specs.declared.table.Table.{Table as TableOf};
-ghost use Rattle.lrp_periods.specs.Windows.{AreWays, IsWaysLeft, IsWindowBetween};
-ghost use Rattle.lrp_periods.specs.Bounding.{HasReachIn, HaveFewCells, IsRowWithin, TableHasFewCells};
+ghost use Rattle.lrp_periods.specs.Windows.{AreWays, IsMostOver, IsWaysLeft, IsWindowBetween};
+ghost use Rattle.lrp_periods.specs.Bounding.{AreZonesWithin, HaveFewCells, IsRowWithin, TableHasFewCells};
 ghost use Rattle.lrp_periods.specs.Parts.{part_texts, part_times};
 
-use lrp_model::Cell;
-use lrp_store::Store;
+use lrp_store::{Store, Zones};
 use lrp_tables::{Pieces, Table};
 use lrp_zone::Zone;
 
@@ -178,9 +177,46 @@ fn window(zone: &Zone, column: usize, other: usize) -> Option<u64>
     ensures { IfSome result (IsWindowBetween zone.now column other) }
 {
     zone.columns();
-    let above = zone.bound(column, other)?;
-    let below = zone.bound(other, column)?;
+    let above = most_over(zone, column, other)?;
+    let below = most_over(zone, other, column)?;
     steps_within(width_of(above, below), zone.period() as u64)
+}
+
+// How far a column may be over another one: as far as the stored bound says, or less by those of both beside a third.
+fn most_over(zone: &Zone, column: usize, other: usize) -> Option<i64>
+    requires column { column ≤ columns_of zone.now }
+    requires other { other ≤ columns_of zone.now }
+    ensures { IfSome result (IsMostOver zone.now column other) }
+{
+    let columns = zone.columns();
+    let mut least = zone.bound(column, other);
+    for middle in 0..columns + 1 {
+        least = nearer(least, through(zone, column, middle, other));
+    }
+    least
+}
+
+// How far a column may be over another one by the stored bounds of both beside a third.
+fn through(zone: &Zone, column: usize, middle: usize, other: usize) -> Option<i64>
+    requires column { column ≤ columns_of zone.now }
+    requires middle { middle ≤ columns_of zone.now }
+    requires other { other ≤ columns_of zone.now }
+    ensures { IfSome result (IsMostOver zone.now column other) }
+{
+    let first = zone.bound(column, middle)?;
+    let second = zone.bound(middle, other)?;
+    first.checked_add(second)
+}
+
+// The lesser of the bounds, or the one that there is.
+fn nearer(bound: Option<i64>, other: Option<i64>) -> Option<i64>
+    ensures { (result ≡ bound) ⊎ (result ≡ other) }
+{
+    match (bound, other) {
+        (Some(a), Some(b)) if b < a => other,
+        (Some(_), _) => bound,
+        (None, _) => other,
+    }
 }
 
 // How far two bounds leave a difference open.
@@ -233,19 +269,19 @@ pub fn product_within(count: u32, ways: u64, cap: u32) -> Option<u32>
 pub fn has_reach(store: &Store, reach: u64) -> bool
     ensures { IsTrue result → HasReach store.now reach }
 {
-    for cell in store.cells() {
-        if !has_reach_in(store, &cell, reach) {
+    for (_cell, zones) in store.entries() {
+        if !are_within(zones, reach) {
             return false;
         }
     }
     true
 }
 
-// Whether none of a cell's is.
-fn has_reach_in(store: &Store, cell: &Cell, reach: u64) -> bool
-    ensures { IsTrue result → HasReachIn store.now cell.now reach }
+// Whether none of the zones' is.
+fn are_within(zones: Zones<'_>, reach: u64) -> bool
+    ensures { IsTrue result → AreZonesWithin reach zones.entry }
 {
-    for zone in store.zones_of(cell) {
+    for zone in zones {
         if !is_within(&zone, reach) {
             return false;
         }

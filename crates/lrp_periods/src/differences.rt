@@ -54,8 +54,8 @@ fn left_of(
     Ok(made)
 }
 
-/// What one right part leaves.
-pub(crate) fn take_away(
+// What one right part leaves.
+fn take_away(
     setting: &Setting<'_>,
     left: &Table,
     right: &Table,

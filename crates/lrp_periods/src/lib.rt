@@ -22,5 +22,6 @@ pub use joins::join_in_parts;
 pub use parts::PartsFault;
 pub use scans::scan_in_parts;
 pub use selections::select_in_parts;
+pub use sieves::{can_be_sifted, sifted};
 pub use unions::union_in_parts;
 pub use wholes::whole;

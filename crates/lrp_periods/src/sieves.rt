@@ -4,11 +4,10 @@ ghost use Rattle.lrp_theory.specs.Divides.{Divides};
 ghost use Rattle.lrp_store.specs.Growing.{IsAdded};
 ghost use Rattle.lrp_tables.specs.declared.table.Table.{Table as TableOf};
 ghost use Rattle.lrp_periods.specs.Operations.{AreOperand};
-ghost use Rattle.lrp_periods.specs.Parts.{HasSome, IsPartOfSet, part_times, part_texts};
-ghost use Rattle.lrp_periods.specs.Sets.{IsComplementOf};
 ghost use Rattle.lrp_periods.specs.declared.sieves.Cover.{Cover as CoverOf};
-ghost use Rattle.lrp_periods.specs.Sieves.{AreCoversOf, CanSift, HasWholeCells, IsCoveredNumber, IsCoverOf, IsLeftOpen, IsLineStore, IsOpen, IsShut, line_cell};
+ghost use Rattle.lrp_periods.specs.Sieves.{AreCoversOf, CanBeSifted, CanSift, HasWholeCells, IsCoveredNumber, IsCoverOf, IsLeftOpen, IsLineStore, IsOpen, IsShut, IsSifted, line_cell};
 
+use crate::bounding::is_line;
 use crate::parts::PartsFault;
 use lrp_algebra::store_over;
 use lrp_model::{Cell, Copies, List, Memory};
@@ -22,8 +21,15 @@ pub(crate) struct Cover {
     pub(crate) residues: List<bool>,
 }
 
-/// Whether each cell of the parts has all its numbers.
-pub(crate) fn are_whole(parts: &[Table]) -> bool
+/// Whether the parts have one time column and no other, and all numbers of each cell.
+pub fn can_be_sifted(parts: &[Table]) -> bool
+    ensures { IsTrue result → CanBeSifted parts.now }
+{
+    is_line(parts) && are_whole(parts)
+}
+
+// Whether each cell of the parts has all its numbers.
+fn are_whole(parts: &[Table]) -> bool
     ensures { IsTrue result → (part : TableOf) → Contains parts.now part → HasWholeCells part.store }
 {
     for part in parts {
@@ -46,20 +52,11 @@ fn is_whole(store: &Store) -> bool
     true
 }
 
-/// What none of the parts has, where they have one time column and no other, and whole cells.
-pub(crate) fn sifted(
-    setting: &Setting<'_>,
-    parts: &[Table],
-    period: i64,
-) -> Result<Table, PartsFault>
+/// What none of the parts has, in cells of the period without bounds, where the parts can be sifted.
+pub fn sifted(setting: &Setting<'_>, parts: &[Table], period: i64) -> Result<Table, PartsFault>
     requires operand { AreOperand setting.now.domain.now period parts.now }
-    requires times { length (part_times parts.now) ≡ 1 }
-    requires texts { part_texts parts.now ≡ [] }
-    requires whole { (part : TableOf) → Contains parts.now part → HasWholeCells part.store }
-    ensures { IfOk result (IsPartOfSet setting.now.domain.now (part_times parts.now)
-        (part_texts parts.now) period
-        (IsComplementOf setting.now.domain.now (part_texts parts.now)
-        (HasSome setting.now.domain.now parts.now))) }
+    requires line { CanBeSifted parts.now }
+    ensures { IfOk result (IsSifted setting.now.domain.now period parts.now) }
 {
     setting.domain.len();
     let covers = covers_of(setting.alloc, parts)?;

@@ -1,5 +1,5 @@
 -- One more table, and those that are done are given up.
-use Rattle.std.proofs.Common.{Err, List, [], ◌∷◌, ◌++◌, suc, length, refl, sym, ap, subst, ◌∙◌}
+use Rattle.std.proofs.Common.{Err, [], ◌∷◌, ◌++◌, suc, length, refl, sym, ap, subst, ◌∙◌}
 use Rattle.lrp_model.specs.Caps.{ManyAt, IsFirstMany}
 use Rattle.lrp_eval.proofs.FreeingLaws.{left_twice}
 use Rattle.lrp_eval.proofs.GrowingLaws.{freed_more}

@@ -1,6 +1,5 @@
 -- What holds in each database and query holds in this one.
 use Rattle.lrp_eval.proofs.Reading.{some_ok}
-use Rattle.lrp_eval.proofs.GroupSteps.{leaf_makes, join_makes, minus_makes, complement_makes, drop_time_makes}
 use Rattle.lrp_eval.proofs.evaluation.run_several.Goals as goal
 
 pub returns-in-Ok-Some-clause-table : goal.returns-in-Ok-Some-clause-table

@@ -1,5 +1,5 @@
 -- The parts that the group made, or the table before it.
-use Rattle.std.proofs.Common.{◌≡◌, ◌-◌, ◌<◌, inl, inr, List, Some, length, slice_get, sym, subst, arith}
+use Rattle.std.proofs.Common.{◌≡◌, ◌-◌, inl, inr, List, Some, length, slice_get, sym, subst, arith}
 use Rattle.lrp_tables.specs.declared.table.Table.{Table}
 use Rattle.lrp_eval.proofs.GroupLaws.{slice_one}
 use Rattle.lrp_eval.proofs.groups.parts_of.Goals as goal

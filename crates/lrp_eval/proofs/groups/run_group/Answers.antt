@@ -1,5 +1,5 @@
 -- One step of the group more, or the last one.
-use Rattle.std.proofs.Common.{◌≡◌, ◌+◌, List, [], length, sym, ap, subst, arith}
+use Rattle.std.proofs.Common.{◌≡◌, List, [], length, sym, ap, subst, arith}
 use Rattle.lrp_tables.specs.declared.table.Table.{Table}
 use Rattle.lrp_eval.specs.Grouped.{AreStepsInParts, CanBeWhole, IsSmallStep}
 use Rattle.lrp_eval.proofs.GroupLaws.{none_held}

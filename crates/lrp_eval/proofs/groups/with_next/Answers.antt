@@ -3,7 +3,6 @@ use Rattle.std.proofs.Common.{List, sym, subst}
 use Rattle.lrp_tables.specs.declared.table.Table.{Table}
 use Rattle.lrp_eval.specs.Grouped.{AreHeld}
 use Rattle.lrp_eval.proofs.GroupSteps.{held_whole, next_makes}
-use Rattle.lrp_eval.proofs.LoopLaws.{more_count}
 use Rattle.lrp_eval.proofs.groups.with_next.Goals as goal
 
 pub within_cap-requires : goal.within_cap-requires

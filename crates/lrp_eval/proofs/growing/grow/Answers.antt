@@ -1,7 +1,4 @@
 -- The left table is taken out, and the right one is as it was.
-use Rattle.std.proofs.Common.{sym, subst}
-use Rattle.lrp_eval.specs.Growing.{IsReplacedAt}
-use Rattle.lrp_eval.specs.Running.{IsOperand}
 use Rattle.lrp_eval.proofs.GrowingLaws.{as_many, right_operand}
 use Rattle.lrp_eval.proofs.Nexts.{within}
 use Rattle.lrp_eval.proofs.Reading.{earlier, worded}

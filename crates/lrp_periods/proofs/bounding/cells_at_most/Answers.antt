@@ -1,5 +1,4 @@
 -- Each of the numbers is one.
-use Rattle.lrp_periods.specs.Bounding.{HaveFewCells}
 use Rattle.lrp_periods.proofs.LineLaws.{either_some, some_capped}
 use Rattle.lrp_periods.proofs.bounding.cells_at_most.Goals as goal
 

@@ -1,7 +1,6 @@
 -- The cells of one zone more are counted.
 use Rattle.std.proofs.Common.{arith, refl, sym, subst}
 use Rattle.lrp_tables.specs.Pieces.{ArePieces}
-use Rattle.lrp_periods.proofs.WayLaws.{few_named}
 use Rattle.lrp_periods.proofs.WindowLaws.{counting_done, counting_more, counting_none, few_at}
 use Rattle.lrp_periods.proofs.bounding.cells_by_zones.Goals as goal
 

@@ -1,6 +1,5 @@
 -- The residues of one column more are counted.
-use Rattle.std.proofs.Common.{arith, refl, subst}
-use Rattle.lrp_periods.specs.Windows.{AreWays}
+use Rattle.std.proofs.Common.{arith, refl}
 use Rattle.lrp_periods.proofs.WindowLaws.{ways_more, ways_none}
 use Rattle.lrp_periods.proofs.bounding.cells_of_zone.Goals as goal
 

@@ -1,13 +1,14 @@
 -- One cell more has small bounds.
-use Rattle.lrp_periods.proofs.ReachLaws.{within_all, within_more, within_none}
 use Rattle.std.proofs.Common.{◌∙◌}
+use Rattle.lrp_store.specs.Reading.{entries_of}
+use Rattle.lrp_periods.proofs.ReachLaws.{IsEntryWithin, all_within, seen_all, seen_more, seen_none}
 use Rattle.lrp_periods.proofs.bounding.has_reach.Goals as goal
 
 pub loop-cell-init : goal.loop-cell-init
-loop-cell-init c = within_none c.args.store.now c.args.reach c.into_iter-cell-iterator.result (c.into_iter-cell-iterator.ensures.into_iter_gives ∙ c.cells-cell-items.ensures)
+loop-cell-init c = seen_none (IsEntryWithin c.args.reach) (entries_of c.args.store.now) c.into_iter-cell-iterator.result (c.into_iter-cell-iterator.ensures.into_iter_gives ∙ c.entries-cell-items.ensures.value)
 
 pub loop-cell-preserved : goal.loop-cell-preserved
-loop-cell-preserved c = within_more c.args.store.now c.args.reach c.loop-cell.cell-iterator c.next.new.self c.in-Some.cell c.in-Some.ensures.steps c.loop-cell.invariant (c.has_reach_in.ensures c.if-not-has_reach_in.false)
+loop-cell-preserved c = seen_more (IsEntryWithin c.args.reach) (entries_of c.args.store.now) c.loop-cell._cell-iterator c.next.new.self (c.in-Some._cell, c.in-Some.zones) c.in-Some.ensures.steps c.loop-cell.invariant (c.are_within.ensures c.if-not-are_within.false)
 
 pub returns : goal.returns
-returns c = λ e. within_all c.args.store.now c.args.reach c.loop-cell.cell-iterator c.in-None.ensures.steps.0 c.loop-cell.invariant
+returns c = λ e. all_within c.args.store.now c.args.reach (seen_all (IsEntryWithin c.args.reach) (entries_of c.args.store.now) c.loop-cell._cell-iterator c.in-None.ensures.steps.0 c.loop-cell.invariant)

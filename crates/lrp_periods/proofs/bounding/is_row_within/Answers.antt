@@ -3,7 +3,7 @@ use Rattle.std.proofs.Common.{◌≡◌, inl, inr, sym, subst, arith}
 use Rattle.std.specs.Prelude.{◌+◌, ◌≤◌}
 use Rattle.lrp_theory.specs.Entries.{AtMost, entry}
 use Rattle.lrp_zone.specs.Zones.{columns_of}
-use Rattle.lrp_cutting.proofs.Lists.{below_or}
+use Rattle.lrp_theory.proofs.Members.{below_or}
 use Rattle.lrp_periods.proofs.bounding.is_row_within.Goals as goal
 
 pub loop-other-preserved : goal.loop-other-preserved

@@ -3,7 +3,7 @@ use Rattle.std.proofs.Common.{◌≡◌, inl, inr, sym, subst, arith}
 use Rattle.std.specs.Prelude.{◌+◌, ◌≤◌}
 use Rattle.lrp_zone.specs.Zones.{columns_of}
 use Rattle.lrp_zone.proofs.Reaches.{small_reach}
-use Rattle.lrp_cutting.proofs.Lists.{below_or}
+use Rattle.lrp_theory.proofs.Members.{below_or}
 use Rattle.lrp_periods.specs.Bounding.{IsRowWithin}
 use Rattle.lrp_periods.proofs.bounding.is_within.Goals as goal
 

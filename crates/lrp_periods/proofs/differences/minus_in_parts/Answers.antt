@@ -1,7 +1,6 @@
 -- What is left of one left part after another is added.
 use Rattle.std.proofs.Common.{arith, to_z, of_z, w64}
 use Rattle.std.specs.Prelude.{◌≤◌, length}
-use Rattle.lrp_tables.specs.Tables.{HasAssignment}
 use Rattle.lrp_cutting.proofs.Lists.{read}
 use Rattle.lrp_periods.proofs.Words.{minus_word}
 use Rattle.lrp_periods.proofs.Gathering.{can_put, finished_word, made_all, put_more, put_none}

@@ -1,5 +1,5 @@
 -- The period of one value more.
-use Rattle.std.proofs.Common.{refl, arith, to_z, of_z, w64}
+use Rattle.std.proofs.Common.{refl, arith, to_z, w64}
 use Rattle.lrp_cutting.proofs.Lists.{read}
 use Rattle.lrp_plan_laws.proofs.Members.{all_of}
 use Rattle.lrp_algebra.specs.Rows.{DividesPeriod}

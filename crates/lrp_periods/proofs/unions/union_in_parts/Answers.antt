@@ -3,7 +3,7 @@ use Rattle.std.proofs.Common.{arith, to_z, of_z, w64}
 use Rattle.std.specs.Prelude.{◌≤◌, length}
 use Rattle.lrp_cutting.proofs.Lists.{read}
 use Rattle.lrp_periods.proofs.Words.{combine_word}
-use Rattle.lrp_periods.proofs.Gathering.{added_more, can_put, finished_word, made_all, put_more, put_none}
+use Rattle.lrp_periods.proofs.Gathering.{can_put, finished_word, made_all, put_more, put_none}
 use Rattle.lrp_periods.proofs.SideBySide.{all_united, both_all, both_begun, both_more, can_stand_beside, wide_each, wide_part}
 use Rattle.lrp_periods.proofs.unions.union_in_parts.Goals as goal
 

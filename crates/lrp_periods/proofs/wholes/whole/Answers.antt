@@ -1,6 +1,6 @@
 -- One part after another is brought to the period.
 use Rattle.std.proofs.Common.{arith, refl, subst, to_z, of_z, w64}
-use Rattle.std.specs.Prelude.{◌≤◌, length, nat_abs, Err, Ok}
+use Rattle.std.specs.Prelude.{◌≤◌, length, nat_abs, Ok}
 use Rattle.lrp_cutting.proofs.Lists.{read}
 use Rattle.lrp_tables.specs.Steps.{IsUnionResult}
 use Rattle.lrp_periods.proofs.Brought.{can_unite_more, whole_done, whole_many, whole_more, whole_none}

@@ -15,11 +15,12 @@ use Rattle.lrp_tables.specs.Tables.{HasAssignment, HasTexts, IsTableOf}
 use Rattle.lrp_tables.proofs.CellsNamed.{AreTuplesOf}
 use Rattle.lrp_algebra.proofs.Steps.{empty_store, farther, positive, step_reach, step_table}
 use Rattle.lrp_periods.specs.Operations.{AreOperand}
-use Rattle.lrp_periods.specs.Parts.{HasSome, IsPartOfSet, part_texts, part_times}
+use Rattle.lrp_periods.specs.Parts.{HasSome, part_texts, part_times}
 use Rattle.lrp_periods.specs.Sets.{IsComplementOf}
-use Rattle.lrp_periods.specs.Sieves.{AreCoversOf, CanSift, IsLeftOpen, IsLineStore}
+use Rattle.lrp_periods.specs.Sieves.{AreCoversOf, CanSift, IsLeftOpen, IsLineStore, IsSifted}
 use Rattle.lrp_periods.specs.declared.sieves.Cover.{Cover}
 use Rattle.lrp_periods.proofs.PartLaws.{part_of_table}
+use Rattle.lrp_periods.proofs.PeriodLaws.{natural}
 
 single : {X : Type 0} (xs : List X) → length xs ≡ 1 → (x : X) × (xs ≡ x ∷ [])
 single [] e = absurd (omega (arith, e))
@@ -105,18 +106,21 @@ module _ {domain : List Text} {period : ℤ} {parts : List Table} (can : AreOper
       pub sifted_table : (made : Table) → made.vars.times ≡ part_times parts → made.vars.texts ≡ part_texts parts → made.store ≡ out → IsTableOf domain (part_times parts) (part_texts parts) k (IsComplementOf domain (part_texts parts) (HasSome domain parts)) made
       sifted_table = step_table domain ascends (part_times parts) (part_texts parts) times_differ texts_differ few_times few_texts k low (IsLeftOpen covers) set are_tuples cap start out fresh 0 added
 
-      pub sifted_reach : HasReach out (2 ^ 59)
-      sifted_reach = farther out 0 (2 ^ 59) (omega arith) (step_reach domain ascends (part_times parts) (part_texts parts) times_differ texts_differ few_times few_texts k low (IsLeftOpen covers) set are_tuples cap start out fresh 0 added)
+      sifted_free : HasReach out 0
+      sifted_free = step_reach domain ascends (part_times parts) (part_texts parts) times_differ texts_differ few_times few_texts k low (IsLeftOpen covers) set are_tuples cap start out fresh 0 added
 
     -- and its part
     module _ (ascends : Ascends domain) (cap : ℕ) (start out : StoreView) (fresh : start ≡ empty_store (part_times parts) (part_texts parts) (nat_abs period)) (added : IsAdded (IsLeftOpen covers) cap 0 start out) where
-      pub sifted_part : (made : Table) → made.vars.times ≡ part_times parts → made.vars.texts ≡ part_texts parts → made.store ≡ out → IsPartOfSet domain (part_times parts) (part_texts parts) period (IsComplementOf domain (part_texts parts) (HasSome domain parts)) made
-      sifted_part made et ex es =
+      pub sifted_is : (made : Table) → made.vars.times ≡ part_times parts → made.vars.texts ≡ part_texts parts → made.store ≡ out → IsSifted domain period parts made
+      sifted_is made et ex es =
           let low : 0 < nat_abs period = positive period can.period_is.low in
-          part_of_table (sifted_table ascends (nat_abs period) cap low start out fresh added made et ex es)
-          (subst IsStore (sym es) added.grown.valid)
-          (subst (λ s. HasReach s (2 ^ 59)) (sym es) (sifted_reach ascends (nat_abs period) cap low start out fresh added))
-          can.period_is.low (Divides-self period)
+          let free : HasReach made.store 0 = subst (λ s. HasReach s 0) (sym es) (sifted_free ascends (nat_abs period) cap low start out fresh added) in
+          let is : IsTableOf domain (part_times parts) (part_texts parts) (nat_abs period) (IsComplementOf domain (part_texts parts) (HasSome domain parts)) made = sifted_table ascends (nat_abs period) cap low start out fresh added made et ex es in
+          record {
+            part = part_of_table is (subst IsStore (sym es) added.grown.valid) (farther made.store 0 (2 ^ 59) (omega arith) free) can.period_is.low (Divides-self period);
+            period_is = ap (λ n. pos n) is.period_is ∙ natural period can.period_is.low;
+            free = free;
+          }
 
   -- ---- the sieve of a period
 
