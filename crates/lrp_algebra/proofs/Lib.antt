@@ -19,6 +19,7 @@ pub mod Parts
 pub mod ReadRows
 pub mod Indexed
 pub mod Inserts
+pub mod InstantsMet
 pub mod Joined
 pub mod Scanned
 pub mod Selected

@@ -34,17 +34,18 @@ use Rattle.lrp_systems.specs.Parts.{PartView, Fits, part_reach, system_reach}
 use Rattle.lrp_tables.specs.Calls.{test_period}
 use Rattle.lrp_zone.specs.Zones.{ZoneView, IsMember as InZone, reach_of}
 use Rattle.lrp_zone.specs.Given.{bound_at, IsGivenZone as IsZoneOf, HasNone, AreGiven, MeetsGiven}
+use Rattle.lrp_algebra.specs.declared.asked.AskedText.{AskedText}
 use Rattle.lrp_algebra.specs.declared.comparisons.ShiftedColumn.{ShiftedColumn}
 use Rattle.lrp_algebra.specs.declared.pattern.Pattern.{Pattern}
 use Rattle.lrp_algebra.specs.Comparisons.{side_value}
 use Rattle.lrp_algebra.specs.Conditions.{condition_reach, IsWithTest, HasNoTest, IsWithZone}
 use Rattle.lrp_algebra.specs.Patterns.{parts_of}
-use Rattle.lrp_algebra.specs.Rows.{IsOfValue, DividesPeriod, HasSmallPeriod, term_times, offsets_reach, bounds_reach, IsShifted, MeetsEach, IsZoneOfBounds, HasNoBounded, IsWithBounds, HasNoBounds, IsWithValue, HasNoValue, IsWithValues, HasNoValues, IsNeverOf, AreNeverOf, IsOfRow, HasNoRow}
+use Rattle.lrp_algebra.specs.Rows.{IsAskedText, IsOfValue, DividesPeriod, HasSmallPeriod, term_times, offsets_reach, bounds_reach, IsShifted, MeetsEach, IsZoneOfBounds, HasNoBounded, IsWithBounds, HasNoBounds, IsWithValue, HasNoValue, IsWithValues, HasNoValues, IsNeverOf, AreNeverOf, IsOfRow, HasNoRow}
 use Rattle.lrp_algebra.proofs.Compared.{one_divides}
 use Rattle.lrp_algebra.proofs.Conditioned.{zone_to, zone_from, all_places, all_values}
 use Rattle.lrp_algebra.proofs.Found.{all_one, reach_more}
 use Rattle.lrp_algebra.proofs.Steps.{free, free_reach, free_suits}
-use Rattle.std.proofs.lemmas.List.Elements.{All-append, Contains-append_left, Contains-append_right}
+use Rattle.std.proofs.lemmas.List.Elements.{All-append, All-get_or, Contains-append_left, Contains-append_right}
 
 -- ---- the value of a term
 
@@ -210,6 +211,11 @@ never_by values terms i value term ev et never = record {
   none = λ env h. never.none env (value_at env values terms i value term (slice_get_within values i value ev) (slice_get_within terms i term et)
       (sym (get_or_from_slice_get values i value value ev)) (sym (get_or_from_slice_get terms i term term et)) h);
 }
+
+-- another text stands where one of the texts that are asked for would
+pub never_asked : (values : List Value) (asked : List AskedText) (i : ℕ) (one : AskedText) (value : Value) → i < length asked → one ≡ get_or asked i one → slice_get values one.place ≡ Some value → IsNeverOf value (data_term (data_const one.text.now)) → (terms : List Term) → All (IsAskedText terms) asked → AreNeverOf values terms
+never_asked values asked i one value low is ev never terms all =
+    never_by values terms one.place value (data_term (data_const one.text.now)) ev (subst (IsAskedText terms) (sym is) (All-get_or (IsAskedText terms) asked i one low all)).is never
 
 -- ---- the sides of bounds
 

@@ -14,3 +14,4 @@ pub mod Fillings
 pub mod Indexes
 pub mod Tuples
 pub mod Near
+pub mod Instants

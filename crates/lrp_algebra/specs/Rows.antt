@@ -1,5 +1,5 @@
 -- What the rows of a relation ask of the values of an atom's terms.
-use Rattle.std.specs.Prelude.{◌≡◌, ℕ, ℤ, ◌+◌, ◌*◌, ◌<◌, ◌≤◌, ◌^◌, ◌≤ℤ◌, ◌-ℤ◌, pos, nat_abs, List, All, map, flat_map, length}
+use Rattle.std.specs.Prelude.{◌≡◌, ℕ, ℤ, ◌+◌, ◌*◌, ◌<◌, ◌≤◌, ◌^◌, ◌≤ℤ◌, ◌-ℤ◌, pos, nat_abs, List, Some, All, map, flat_map, length, slice_get}
 use Rattle.std.specs.List.{AllByRecursion}
 use Rattle.lrp_theory.specs.Divides.{Divides, IsPointMember}
 use Rattle.lrp_theory.specs.Entries.{node}
@@ -7,7 +7,9 @@ use Rattle.lrp_model.specs.Reach.{greatest, term_magnitudes}
 use Rattle.lrp_model.specs.Rows.{Datum, time, text, times_of, IsOf, IsInRow, MeetsBound}
 use Rattle.lrp_model.specs.Satisfaction.{Assignment, term_value}
 use Rattle.lrp_model.specs.Texts.{Text, Identifier}
+use Rattle.lrp_model.specs.declared.formulas.DataTerm.TheVariants.{Const as data_const}
 use Rattle.lrp_model.specs.declared.formulas.Term.{Term}
+use Rattle.lrp_model.specs.declared.formulas.Term.TheVariants.{Data as data_term}
 use Rattle.lrp_model.specs.declared.relations.Bound.{Bound}
 use Rattle.lrp_model.specs.declared.relations.Row.{Row}
 use Rattle.lrp_model.specs.declared.relations.Value.{Value}
@@ -17,6 +19,7 @@ use Rattle.lrp_systems.specs.Parts.{Fits, system_reach}
 use Rattle.lrp_zone.specs.Zones.{ZoneView, columns_of, reach_of}
 use Rattle.lrp_zone.specs.Zones.{IsMember as InZone}
 use Rattle.lrp_algebra.specs.Patterns.{parts_of, MatchesPattern}
+use Rattle.lrp_algebra.specs.declared.asked.AskedText.{AskedText}
 use Rattle.lrp_algebra.specs.declared.pattern.Pattern.{Pattern}
 
 -- the datum is of the value: a member of the point, or the constant
@@ -115,6 +118,10 @@ pub record IsNeverOf (value : Value) (term : Term) : Type 0 where
 -- whatever is assigned, what the terms stand for is not of the values
 pub record AreNeverOf (values : List Value) (terms : List Term) : Type 0 where
   pub none : (env : Assignment) → IsOf values (map (term_value env) terms) → ⊥
+
+-- the term at the place is the text
+pub record IsAskedText (terms : List Term) (asked : AskedText) : Type 0 where
+  pub is : slice_get terms asked.place ≡ Some (data_term (data_const asked.text.now))
 
 -- ---- rows
 

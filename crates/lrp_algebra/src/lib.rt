@@ -2,6 +2,7 @@
 #![tactic(auto)]
 
 mod alike;
+mod asked;
 mod columns;
 mod comparisons;
 mod conditions;
@@ -12,6 +13,7 @@ mod finding;
 mod gathering;
 mod groups;
 mod index;
+mod instants;
 mod joins;
 mod layout;
 mod lent;

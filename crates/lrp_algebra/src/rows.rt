@@ -65,8 +65,8 @@ fn may_be(value: &Value, term: &Term) -> bool
     }
 }
 
-// The same, of any row.
-fn pattern_of_row(
+/// The same, of any row.
+pub(crate) fn pattern_of_row(
     alloc: Global,
     row: &Row,
     terms: &List<Term>,

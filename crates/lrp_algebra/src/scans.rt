@@ -1,10 +1,11 @@
 // Scans: the assignments for which a relation holds the values of an atom's terms.
 ghost use Rattle.lrp_tables.specs.Steps.{CanScan, IsScanResult};
 
+use crate::asked::{asked_texts, has_another};
 use crate::columns::{scan_vars, store_over};
 use crate::filling::add_pattern;
 use crate::layout::Wanted;
-use crate::rows::row_pattern;
+use crate::rows::pattern_of_row;
 use lrp_model::{List, Relation, Term};
 use lrp_store::StoreFault;
 use lrp_tables::{Setting, StepFault, Table};
@@ -25,9 +26,13 @@ pub fn scan(
     let (alloc, domain) = (setting.alloc, setting.domain);
     let size = domain.len();
     let vars = scan_vars(alloc, terms)?;
+    let asked = asked_texts(alloc, terms)?;
     let mut out = store_over(alloc, &vars, period);
     for row in relation.rows.as_slice() {
-        let Some(pattern) = row_pattern(alloc, row, terms, &vars, domain)? else {
+        if has_another(&row.values, asked.as_slice()) {
+            continue;
+        }
+        let Some(pattern) = pattern_of_row(alloc, row, terms, &vars, domain)? else {
             continue;
         };
         let wanted = Wanted {

@@ -1,7 +1,10 @@
 -- Row after row is added.
-use Rattle.std.proofs.Common.{Err, refl, ap, ◌∙◌}
+use Rattle.std.proofs.Common.{Err, refl, sym, ap, subst, ◌∙◌}
+use Rattle.std.specs.Prelude.{All}
+use Rattle.lrp_algebra.specs.Rows.{IsAskedText}
 use Rattle.lrp_algebra.proofs.Scanned.{few_times, few_texts, times_among, texts_among, names_differ, scanning_none, row_reads, row_fits, row_passed, row_added, row_refused, scanning_more, scan_many, scan_table, scan_few, scan_high, made_times, made_texts}
 use Rattle.lrp_algebra.proofs.Conditioned.{matched_none, matched_some}
+use Rattle.lrp_algebra.proofs.ReadRows.{row_never}
 use Rattle.lrp_algebra.proofs.Steps.{farther}
 use Rattle.lrp_algebra.proofs.scans.scan.Goals as goal
 
@@ -17,24 +20,24 @@ pub loop-row-init : goal.loop-row-init
 loop-row-init c =
     scanning_none c.args.setting.now.domain.now c.len-size.ensures.ascending c.args.relation.now c.args.terms.now c.args.period c.requires.low c.requires.high c.requires c.requires.reach c.in_ok-vars.vars.times c.in_ok-vars.vars.texts c.in_ok-vars.ensures.times c.in_ok-vars.ensures.texts c.args.setting.now.cap c.store_over-out.result c.store_over-out.ensures.made c.store_over-out.ensures.valid
 
-pub row_pattern-requires-clause-few_times : goal.row_pattern-requires-clause-few_times
-row_pattern-requires-clause-few_times c =
+pub pattern_of_row-requires-clause-few_times : goal.pattern_of_row-requires-clause-few_times
+pattern_of_row-requires-clause-few_times c =
     few_times c.args.setting.now.domain.now c.len-size.ensures.ascending c.args.relation.now c.args.terms.now c.args.period c.requires.low c.requires.high c.requires c.requires.reach c.in_ok-vars.vars.times c.in_ok-vars.vars.texts c.in_ok-vars.ensures.times c.in_ok-vars.ensures.texts c.args.setting.now.cap c.store_over-out.result c.store_over-out.ensures.made
 
-pub row_pattern-requires-clause-few_texts : goal.row_pattern-requires-clause-few_texts
-row_pattern-requires-clause-few_texts c =
+pub pattern_of_row-requires-clause-few_texts : goal.pattern_of_row-requires-clause-few_texts
+pattern_of_row-requires-clause-few_texts c =
     few_texts c.args.setting.now.domain.now c.len-size.ensures.ascending c.args.relation.now c.args.terms.now c.args.period c.requires.low c.requires.high c.requires c.requires.reach c.in_ok-vars.vars.times c.in_ok-vars.vars.texts c.in_ok-vars.ensures.times c.in_ok-vars.ensures.texts c.args.setting.now.cap c.store_over-out.result c.store_over-out.ensures.made
 
-pub row_pattern-requires-clause-times : goal.row_pattern-requires-clause-times
-row_pattern-requires-clause-times c =
+pub pattern_of_row-requires-clause-times : goal.pattern_of_row-requires-clause-times
+pattern_of_row-requires-clause-times c =
     times_among c.args.setting.now.domain.now c.len-size.ensures.ascending c.args.relation.now c.args.terms.now c.args.period c.requires.low c.requires.high c.requires c.requires.reach c.in_ok-vars.vars.times c.in_ok-vars.vars.texts c.in_ok-vars.ensures.times c.in_ok-vars.ensures.texts c.args.setting.now.cap c.store_over-out.result c.store_over-out.ensures.made
 
-pub row_pattern-requires-clause-texts : goal.row_pattern-requires-clause-texts
-row_pattern-requires-clause-texts c =
+pub pattern_of_row-requires-clause-texts : goal.pattern_of_row-requires-clause-texts
+pattern_of_row-requires-clause-texts c =
     texts_among c.args.setting.now.domain.now c.len-size.ensures.ascending c.args.relation.now c.args.terms.now c.args.period c.requires.low c.requires.high c.requires c.requires.reach c.in_ok-vars.vars.times c.in_ok-vars.vars.texts c.in_ok-vars.ensures.times c.in_ok-vars.ensures.texts c.args.setting.now.cap c.store_over-out.result c.store_over-out.ensures.made
 
-pub row_pattern-requires-clause-row : goal.row_pattern-requires-clause-row
-row_pattern-requires-clause-row c =
+pub pattern_of_row-requires-clause-row : goal.pattern_of_row-requires-clause-row
+pattern_of_row-requires-clause-row c =
     row_reads c.args.setting.now.domain.now c.len-size.ensures.ascending c.args.relation.now c.args.terms.now c.args.period c.requires.low c.requires.high c.requires c.requires.reach c.in_ok-vars.vars.times c.in_ok-vars.vars.texts c.in_ok-vars.ensures.times c.in_ok-vars.ensures.texts c.args.setting.now.cap c.store_over-out.result c.store_over-out.ensures.made _ c.as_slice-row-items.ensures c.loop-row.row-index c.row-item.result c.loop-row-test.true c.row-item.is
 
 pub add_pattern-requires : goal.add_pattern-requires
@@ -50,6 +53,10 @@ loop-row-preserved c =
 pub loop-row-preserved-in_default : goal.loop-row-preserved-in_default
 loop-row-preserved-in_default c =
     scanning_more c.args.setting.now.domain.now c.len-size.ensures.ascending c.args.relation.now c.args.terms.now c.args.period c.requires.low c.requires.high c.requires c.requires.reach c.in_ok-vars.vars.times c.in_ok-vars.vars.texts c.in_ok-vars.ensures.times c.in_ok-vars.ensures.texts c.args.setting.now.cap c.store_over-out.result c.store_over-out.ensures.made _ c.as_slice-row-items.ensures c.loop-row.row-index c.row-item.result c.loop-row-test.true c.row-item.is c.loop-row.out c.loop-row.invariant c.loop-row.out (row_passed c.args.setting.now.domain.now c.len-size.ensures.ascending c.args.relation.now c.args.terms.now c.args.period c.requires.low c.requires.high c.requires c.requires.reach c.in_ok-vars.vars.times c.in_ok-vars.vars.texts c.in_ok-vars.ensures.times c.in_ok-vars.ensures.texts c.args.setting.now.cap c.store_over-out.result c.store_over-out.ensures.made _ c.as_slice-row-items.ensures c.loop-row.row-index c.row-item.result c.loop-row-test.true c.row-item.is c.loop-row.out c.loop-row.invariant (matched_none _ _ _ c.in_default.is c.in_ok-pattern.ensures))
+
+pub loop-row-preserved-then-has_another : goal.loop-row-preserved-then-has_another
+loop-row-preserved-then-has_another c =
+    scanning_more c.args.setting.now.domain.now c.len-size.ensures.ascending c.args.relation.now c.args.terms.now c.args.period c.requires.low c.requires.high c.requires c.requires.reach c.in_ok-vars.vars.times c.in_ok-vars.vars.texts c.in_ok-vars.ensures.times c.in_ok-vars.ensures.texts c.args.setting.now.cap c.store_over-out.result c.store_over-out.ensures.made _ c.as_slice-row-items.ensures c.loop-row.row-index c.row-item.result c.loop-row-test.true c.row-item.is c.loop-row.out c.loop-row.invariant c.loop-row.out (row_passed c.args.setting.now.domain.now c.len-size.ensures.ascending c.args.relation.now c.args.terms.now c.args.period c.requires.low c.requires.high c.requires c.requires.reach c.in_ok-vars.vars.times c.in_ok-vars.vars.texts c.in_ok-vars.ensures.times c.in_ok-vars.ensures.texts c.args.setting.now.cap c.store_over-out.result c.store_over-out.ensures.made _ c.as_slice-row-items.ensures c.loop-row.row-index c.row-item.result c.loop-row-test.true c.row-item.is c.loop-row.out c.loop-row.invariant (row_never c.args.setting.now.domain.now c.in_ok-vars.vars.times c.in_ok-vars.vars.texts c.args.terms.now c.row-item.result (c.has_another.ensures c.if-has_another.true c.args.terms.now (subst (All (IsAskedText c.args.terms.now)) (sym c.as_slice.ensures.value) c.in_ok-asked.ensures))))
 
 pub returns-in-Err-TooManyCells : goal.returns-in-Err-TooManyCells
 returns-in-Err-TooManyCells c =
