@@ -1,11 +1,11 @@
 -- Residues of all integers in a span, and what is in two spans.
-use Rattle.std.proofs.Common.{◌≡◌, ◌≢◌, ◌⊎◌, ℕ, ◌<◌, ◌≤◌, ◌+◌, ◌*◌, ◌/◌, ◌%◌, List, length, get_or, refl, ap, sym, subst, ◌∙◌, inl, inr, arith, Some, None, replicate}
+use Rattle.std.proofs.Common.{◌≡◌, ◌≢◌, ◌⊎◌, ℕ, ◌<◌, ◌*◌, ◌/◌, ◌%◌, List, length, get_or, refl, ap, sym, subst, ◌∙◌, inl, inr, arith, Some, None, replicate}
 use Rattle.std.specs.Int.{int_rem_euclid}
 use Rattle.std.specs.Prelude.{ℤ, pos, ◌+ℤ◌, ◌-ℤ◌, ◌≤ℤ◌, ◌<ℤ◌, slice_get, slice_set}
 use Rattle.std.proofs.lemmas.Int.{ints}
 use Rattle.std.proofs.lemmas.List.{get_or-set_other, get_or-set_same, length-replicate, length-set}
 use Rattle.std.proofs.lemmas.Option.{slice_get-get_or, slice_get_within}
-use Rattle.lrp_theory.specs.Divides.{Divides, IsPointMember}
+use Rattle.lrp_theory.specs.Divides.{Divides}
 use Rattle.lrp_theory.proofs.Modulo.{Divides-+, Divides--, Divides-is, rem_between, rem_divides, small_multiple}
 use Rattle.lrp_theory.proofs.Multiples.{Divides-trans}
 use Rattle.lrp_point.specs.Points.{IsIn, PointView}

@@ -1,21 +1,14 @@
 -- Values of terms, as far as spans tell them.
-use Rattle.std.specs.Prelude.{◌≡◌, ◌+ℤ◌, ◌≤ℤ◌, ℕ, ℤ, List, Some, slice_get}
+use Rattle.std.specs.Prelude.{◌≡◌, ◌+ℤ◌, ℕ, ℤ, List, Some, slice_get}
 use Rattle.lrp_model.specs.Satisfaction.{Assignment, Compares}
 use Rattle.lrp_model.specs.Texts.{Identifier}
-use Rattle.lrp_kept.specs.Spans.{IsAtLeast, IsAtMost}
 use Rattle.lrp_kept.specs.declared.passing.PlacedTerm.{PlacedTerm}
 use Rattle.lrp_kept.specs.declared.passing.PlacedTerm.TheVariants.{At, Int}
 use Rattle.lrp_kept.specs.declared.passing.PlacedTest.{PlacedTest}
-use Rattle.lrp_kept.specs.declared.passing.Range.{Range}
 
 -- the integers are the values of the variables, by their places
 abbrev pub AreTimesIn : Assignment → List Identifier → (ℕ → ℤ) → Type 0
 AreTimesIn env times xs = (i : ℕ) (v : Identifier) → slice_get times i ≡ Some v → xs i ≡ env.times v
-
--- the integer is in the range
-pub record IsWithinRange (r : Range) (x : ℤ) : Type 0 where
-  pub least : IsAtLeast r.least x
-  pub most : IsAtMost r.most x
 
 -- the value of a term whose variable stands at a place
 abbrev pub placed_value : PlacedTerm → (ℕ → ℤ) → ℤ

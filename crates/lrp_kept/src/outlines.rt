@@ -73,16 +73,23 @@ impl Outline {
         }
     }
 
-    /// Whether no tuple is in both.
-    pub fn is_apart(&self, other: &Outline) -> bool
+    /// Whether no tuple is in both, as far as the places of these variables tell it.
+    pub fn is_apart(&self, other: &Outline, vars: &Vars) -> bool
         requires own { IsFull self.now }
         requires other { IsFull other.now }
         ensures { result ≡ true → (xs : ℕ → ℤ) (ns : List ℕ) → IsInOutline self.now xs ns
             → IsInOutline other.now xs ns → ⊥ }
     {
-        differ_somewhere(&self.texts, &other.texts)
-            || are_apart_somewhere(&self.times, &other.times)
+        differ_somewhere(&self.texts, &other.texts, places_of(vars.texts.len()))
+            || are_apart_somewhere(&self.times, &other.times, places_of(vars.times.len()))
     }
+}
+
+// The places that so many variables have in an outline.
+fn places_of(count: usize) -> usize
+    ensures { result ≤ 8 }
+{
+    if count < 8 { count } else { 8 }
 }
 
 // The first so many texts that are known.

@@ -1,52 +1,16 @@
 // Tests that nothing passes of which the times are in spans.
-ghost use Rattle.std.specs.Prelude.{◌≡◌, true, IfSome, ℕ, ℤ, List as ListOf, ◌+ℤ◌, ◌≤ℤ◌, ◌<ℤ◌};
+ghost use Rattle.std.specs.Prelude.{◌≡◌, true, length, IfSome, ℕ, ℤ, List as ListOf, ◌+ℤ◌, ◌≤ℤ◌, ◌<ℤ◌};
 ghost use Rattle.lrp_model.specs.Satisfaction.{Assignment, Compares, Passes, time_value};
 ghost use Rattle.lrp_kept.specs.Outlines.{IsFull, IsInOutline};
-ghost use Rattle.lrp_kept.specs.Passing.{AreTimesIn, PassesPlaced, IsWithinRange, placed_value};
-ghost use Rattle.lrp_kept.specs.Spans.{AreInSpans, IsAtLeast, IsAtMost, IsInSpan};
+ghost use Rattle.lrp_kept.specs.Passing.{AreTimesIn, PassesPlaced, placed_value};
+ghost use Rattle.lrp_kept.specs.Spans.{AreInSpans, IsAtLeast, IsAtMost};
 
 use crate::outlines::Outline;
-use crate::spans::{ColumnSpan, in_both};
+use crate::spans::{ColumnSpan, both_least, both_most, in_both};
 use lrp_model::{List, Name, Op, Test, TimeTerm};
 use lrp_tables::place_of;
 
-// The least and the greatest value of a term, as far as they are known.
-#[derive(Clone, Copy)]
-struct Range {
-    least: Option<i128>,
-    most: Option<i128>,
-}
-
-// The range of which nothing is known.
-fn open() -> Range
-    ensures { (x : ℤ) → IsWithinRange result x }
-{
-    Range {
-        least: None,
-        most: None,
-    }
-}
-
-// The range of one value.
-fn one(value: i64) -> Range
-    ensures { IsWithinRange result value }
-{
-    Range {
-        least: Some(i128::from(value)),
-        most: Some(i128::from(value)),
-    }
-}
-
-// What is in a span, with a number added.
-fn shifted(span: &ColumnSpan, plus: i64) -> Range
-    ensures { (x : ℤ) → IsInSpan span.now x → IsWithinRange result (x +ℤ plus) }
-{
-    Range {
-        least: least_sum(span.least, plus),
-        most: greatest_sum(span.most, plus),
-    }
-}
-
+// The sum of a least integer, if one is known, and a number.
 fn least_sum(least: Option<i64>, plus: i64) -> Option<i128>
     ensures { (x : ℤ) → IsAtLeast least x → IsAtLeast result (x +ℤ plus) }
 {
@@ -65,31 +29,11 @@ fn greatest_sum(most: Option<i64>, plus: i64) -> Option<i128>
     }
 }
 
-// Whether each value of a range is greater than each of another one.
-fn is_above(one: Range, other: Range) -> bool
-    ensures { result ≡ true → (x y : ℤ) → IsWithinRange one x → IsWithinRange other y → y <ℤ x }
-{
-    match one.least {
-        Some(least) => is_greater(least, other.most),
-        None => false,
-    }
-}
-
 fn is_greater(least: i128, most: Option<i128>) -> bool
     ensures { result ≡ true → (x y : ℤ) → least ≤ℤ x → IsAtMost most y → y <ℤ x }
 {
     match most {
         Some(most) => most < least,
-        None => false,
-    }
-}
-
-// Whether each value of a range is as great as each of another one, or greater.
-fn is_from(one: Range, other: Range) -> bool
-    ensures { result ≡ true → (x y : ℤ) → IsWithinRange one x → IsWithinRange other y → y ≤ℤ x }
-{
-    match one.least {
-        Some(least) => is_as_great(least, other.most),
         None => false,
     }
 }
@@ -100,20 +44,6 @@ fn is_as_great(least: i128, most: Option<i128>) -> bool
     match most {
         Some(most) => most <= least,
         None => false,
-    }
-}
-
-// Whether no values of the ranges compare so.
-fn never_compare(left: Range, op: Op, right: Range) -> bool
-    ensures { result ≡ true → (x y : ℤ) → IsWithinRange left x → IsWithinRange right y
-        → Compares op x y → ⊥ }
-{
-    match op {
-        Op::Le => is_above(left, right),
-        Op::Lt => is_from(left, right),
-        Op::Ge => is_above(right, left),
-        Op::Gt => is_from(right, left),
-        Op::Eq => is_above(left, right) || is_above(right, left),
     }
 }
 
@@ -168,11 +98,19 @@ impl PlacedTest {
         ensures { result ≡ true → (xs : ℕ → ℤ) → AreInSpans own.now.times xs
             → AreInSpans other.now.times xs → PassesPlaced self.now xs → ⊥ }
     {
-        never_compare(
-            range_in(self.left, own, other),
-            self.op,
-            range_in(self.right, own, other),
-        )
+        let spans = TwoSpans {
+            own: &own.times,
+            other: &other.times,
+        };
+        match self.op {
+            Op::Le => spans.are_above(self.left, self.right),
+            Op::Lt => spans.are_from(self.left, self.right),
+            Op::Ge => spans.are_above(self.right, self.left),
+            Op::Gt => spans.are_from(self.right, self.left),
+            Op::Eq => {
+                spans.are_above(self.left, self.right) || spans.are_above(self.right, self.left)
+            }
+        }
     }
 }
 
@@ -202,29 +140,89 @@ fn placed(term: &TimeTerm, times: &List<Name>) -> Option<PlacedTerm>
     }
 }
 
-// What a term can be where the times are in both outlines.
-fn range_in(term: PlacedTerm, own: &Outline, other: &Outline) -> Range
-    requires own { IsFull own.now }
-    requires other { IsFull other.now }
-    ensures { (xs : ℕ → ℤ) → AreInSpans own.now.times xs → AreInSpans other.now.times xs
-        → IsWithinRange result (placed_value term xs) }
-{
-    match term {
-        PlacedTerm::At { place, plus } => range_at(place, plus, own, other),
-        PlacedTerm::Int { value } => one(value),
-    }
+// Spans of which the times are in both at each place.
+#[derive(Clone, Copy)]
+struct TwoSpans<'a> {
+    own: &'a [ColumnSpan; 8],
+    other: &'a [ColumnSpan; 8],
 }
 
-// What the time at a place can be, with as much added.
-fn range_at(place: usize, plus: i64, own: &Outline, other: &Outline) -> Range
-    requires own { IsFull own.now }
-    requires other { IsFull other.now }
-    ensures { (xs : ℕ → ℤ) → AreInSpans own.now.times xs → AreInSpans other.now.times xs
-        → IsWithinRange result (xs place +ℤ plus) }
-{
-    if place < 8 {
-        shifted(&own.times[place].with(&other.times[place]), plus)
-    } else {
-        open()
+impl<'a> TwoSpans<'a> {
+    // Whether each value of a term is greater than each of another one.
+    fn are_above(&self, one: PlacedTerm, other: PlacedTerm) -> bool
+        requires own { length self.now.own.now ≡ 8 }
+        requires other { length self.now.other.now ≡ 8 }
+        ensures { result ≡ true → (xs : ℕ → ℤ) → AreInSpans self.now.own.now xs
+            → AreInSpans self.now.other.now xs → placed_value other xs <ℤ placed_value one xs }
+    {
+        match self.least_of(one) {
+            Some(least) => is_greater(least, self.greatest_of(other)),
+            None => false,
+        }
+    }
+
+    // Whether each value of a term is as great as each of another one, or greater.
+    fn are_from(&self, one: PlacedTerm, other: PlacedTerm) -> bool
+        requires own { length self.now.own.now ≡ 8 }
+        requires other { length self.now.other.now ≡ 8 }
+        ensures { result ≡ true → (xs : ℕ → ℤ) → AreInSpans self.now.own.now xs
+            → AreInSpans self.now.other.now xs → placed_value other xs ≤ℤ placed_value one xs }
+    {
+        match self.least_of(one) {
+            Some(least) => is_as_great(least, self.greatest_of(other)),
+            None => false,
+        }
+    }
+
+    // The least value that a term can have, if one is known.
+    fn least_of(&self, term: PlacedTerm) -> Option<i128>
+        requires own { length self.now.own.now ≡ 8 }
+        requires other { length self.now.other.now ≡ 8 }
+        ensures { (xs : ℕ → ℤ) → AreInSpans self.now.own.now xs → AreInSpans self.now.other.now xs
+            → IsAtLeast result (placed_value term xs) }
+    {
+        match term {
+            PlacedTerm::At { place, plus } => self.least_at(place, plus),
+            PlacedTerm::Int { value } => Some(i128::from(value)),
+        }
+    }
+
+    fn least_at(&self, place: usize, plus: i64) -> Option<i128>
+        requires own { length self.now.own.now ≡ 8 }
+        requires other { length self.now.other.now ≡ 8 }
+        ensures { (xs : ℕ → ℤ) → AreInSpans self.now.own.now xs → AreInSpans self.now.other.now xs
+            → IsAtLeast result (xs place +ℤ plus) }
+    {
+        if place >= 8 {
+            return None;
+        }
+        let least = both_least(self.own[place].least, self.other[place].least);
+        least_sum(least, plus)
+    }
+
+    // The greatest value that a term can have, if one is known.
+    fn greatest_of(&self, term: PlacedTerm) -> Option<i128>
+        requires own { length self.now.own.now ≡ 8 }
+        requires other { length self.now.other.now ≡ 8 }
+        ensures { (xs : ℕ → ℤ) → AreInSpans self.now.own.now xs → AreInSpans self.now.other.now xs
+            → IsAtMost result (placed_value term xs) }
+    {
+        match term {
+            PlacedTerm::At { place, plus } => self.greatest_at(place, plus),
+            PlacedTerm::Int { value } => Some(i128::from(value)),
+        }
+    }
+
+    fn greatest_at(&self, place: usize, plus: i64) -> Option<i128>
+        requires own { length self.now.own.now ≡ 8 }
+        requires other { length self.now.other.now ≡ 8 }
+        ensures { (xs : ℕ → ℤ) → AreInSpans self.now.own.now xs → AreInSpans self.now.other.now xs
+            → IsAtMost result (xs place +ℤ plus) }
+    {
+        if place >= 8 {
+            return None;
+        }
+        let most = both_most(self.own[place].most, self.other[place].most);
+        greatest_sum(most, plus)
     }
 }

@@ -79,8 +79,8 @@ impl ColumnSpan {
     }
 }
 
-// The larger of two least integers.
-fn both_least(least: Option<i64>, other: Option<i64>) -> Option<i64>
+/// The larger of two least integers.
+pub(crate) fn both_least(least: Option<i64>, other: Option<i64>) -> Option<i64>
     ensures { (x : ℤ) → IsAtLeast least x → IsAtLeast other x → IsAtLeast result x }
 {
     match other {
@@ -99,8 +99,8 @@ pub(crate) fn raised(least: Option<i64>, further: i64) -> Option<i64>
     }
 }
 
-// The smaller of two greatest integers.
-fn both_most(most: Option<i64>, other: Option<i64>) -> Option<i64>
+/// The smaller of two greatest integers.
+pub(crate) fn both_most(most: Option<i64>, other: Option<i64>) -> Option<i64>
     ensures { (x : ℤ) → IsAtMost most x → IsAtMost other x → IsAtMost result x }
 {
     match other {
@@ -207,13 +207,18 @@ fn have_nothing_common(left: &Point, right: &Point) -> bool
     }
 }
 
-/// Whether some integer of the one list is in no span of both: each is looked at by its place.
-pub(crate) fn are_apart_somewhere(left: &[ColumnSpan; 8], right: &[ColumnSpan; 8]) -> bool
+/// Whether an integer at one of the first places is in no span of both.
+pub(crate) fn are_apart_somewhere(
+    left: &[ColumnSpan; 8],
+    right: &[ColumnSpan; 8],
+    places: usize,
+) -> bool
     requires left { length left.now ≡ 8 }
     requires right { length right.now ≡ 8 }
+    requires few { places ≤ 8 }
     ensures { result ≡ true → (xs : ℕ → ℤ) → AreInSpans left.now xs → AreInSpans right.now xs → ⊥ }
 {
-    for i in 0..8 {
+    for i in 0..places {
         if left[i].is_apart(&right[i]) {
             return true;
         }
@@ -236,13 +241,18 @@ pub(crate) fn in_both(left: &[ColumnSpan; 8], right: &[ColumnSpan; 8]) -> [Colum
     all
 }
 
-/// Whether two texts are known for one place, and are different ones.
-pub(crate) fn differ_somewhere(left: &[Option<u32>; 8], right: &[Option<u32>; 8]) -> bool
+/// Whether two texts are known for one of the first places, and are different ones.
+pub(crate) fn differ_somewhere(
+    left: &[Option<u32>; 8],
+    right: &[Option<u32>; 8],
+    places: usize,
+) -> bool
     requires left { length left.now ≡ 8 }
     requires right { length right.now ≡ 8 }
+    requires few { places ≤ 8 }
     ensures { result ≡ true → (ns : List ℕ) → AreKnown left.now ns → AreKnown right.now ns → ⊥ }
 {
-    for i in 0..8 {
+    for i in 0..places {
         if differ(left[i], right[i]) {
             return true;
         }
