@@ -19,3 +19,4 @@ pub mod Carries
 pub mod SeenTerms
 pub mod Firsts
 pub mod Numbered
+pub mod Marked

@@ -1,5 +1,5 @@
 -- The number of the definition that a name means.
-use Rattle.std.proofs.Common.{◌≡◌, ◌<◌, ℕ, Bool, true, false, cond, not, ◌||◌, ◌&&◌, List, map, take, position, Option, Some, None, IfSome, refl, ap, ap₂, sym, subst, ◌∙◌, arith}
+use Rattle.std.proofs.Common.{◌≡◌, ◌<◌, ℕ, Bool, true, false, cond, not, ◌||◌, ◌&&◌, map, take, position, Option, Some, None, IfSome, refl, ap, ap₂, sym, subst, ◌∙◌, arith}
 use Rattle.std.specs.Bool.{nat_lt, then_some}
 use Rattle.std.specs.List.{list_any}
 use Rattle.std.specs.Str.{bytes_eq}
@@ -7,11 +7,11 @@ use Rattle.std.proofs.lemmas.List.{map-append}
 use Rattle.std.proofs.lemmas.List.Folds.{list_any-append}
 use Rattle.lrp_model.specs.Faults.{is_named_in}
 use Rattle.lrp_model.specs.Texts.{Identifier}
-use Rattle.lrp_model.specs.declared.relations.Relation.{Relation}
 use Rattle.lrp_sorts.specs.Definitions.{Defined, definition_number, is_taken}
 use Rattle.lrp_sorts.proofs.Firsts.{among, names_taken}
 
-nothing : (b : Bool) → ◌≡◌ {A = Option ℕ} None (cond b None None)
+-- there is none either way
+pub nothing : (b : Bool) → ◌≡◌ {A = Option ℕ} None (cond b None None)
 nothing true = refl
 nothing false = refl
 

@@ -1,5 +1,6 @@
 -- Definitions beside a database, each as a relation without rows.
-use Rattle.std.specs.Prelude.{◌≡◌, ℕ, Bool, Option, None, List, [], ◌++◌, map, take, position, cond}
+use Rattle.std.specs.Prelude.{◌≡◌, ℕ, Bool, true, false, Option, None, List, [], ◌++◌, map, take, position, cond, get_or, length}
+use Rattle.std.specs.List.{list_any}
 use Rattle.std.specs.HashMap.{HashMap, get_by}
 use Rattle.std.specs.Str.{bytes_eq}
 use Rattle.lrp_model.specs.DatabaseMeaning.{column_of}
@@ -15,6 +16,20 @@ pub record Defined : Type 0 where
 -- each name has the number of the first of these that is that name
 abbrev pub AreNamesNumbered : {S : Type 0} → HashMap Identifier ℕ S → List Identifier → Type 0
 AreNamesNumbered m names = (n : Identifier) → get_by (bytes_eq n) m ≡ position (bytes_eq n) names
+
+-- whether the first byte of a name is marked
+abbrev pub is_marked : List Bool → Identifier → Bool
+is_marked marks n = get_or marks (get_or n 0 0) false
+
+-- those of all these names are, and each byte can be
+pub record AreMarked (marks : List Bool) (names : List Identifier) : Type 0 where
+  pub size : length marks ≡ 256
+  pub each : (n : Identifier) → list_any (bytes_eq n) names ≡ true → is_marked marks n ≡ true
+
+-- the names of definitions, as they are kept
+pub record IsNumberingOf {S : Type 0} (numbers : HashMap Identifier ℕ S) (marks : List Bool) (names : List Identifier) : Type 0 where
+  pub numbered : AreNamesNumbered numbers names
+  pub marked : AreMarked marks names
 
 -- a relation without rows
 abbrev pub rowless : Identifier → List RawColumn → Relation

@@ -1,8 +1,8 @@
 // Definitions beside a database, each as a relation without rows, looked up by their names.
-ghost use Rattle.std.specs.Prelude.{◌≡◌, ◌<◌, ◌++◌, ◌&&◌, List as ListOf, [], ◌∷◌, Some, map, not, length, slice_get, IfOk, IfSome, OnOk};
+ghost use Rattle.std.specs.Prelude.{◌≡◌, ◌<◌, ◌++◌, ◌&&◌, List as ListOf, [], ◌∷◌, Some, map, not, get_or, length, slice_get, IfOk, IfSome, OnOk};
 ghost use Rattle.lrp_model.specs.Faults.{is_named_in};
 ghost use Rattle.lrp_model.specs.Texts.{Identifier};
-ghost use Rattle.lrp_sorts.specs.Definitions.{AreNamesNumbered, definition_number, is_taken, rowless as rowless_of};
+ghost use Rattle.lrp_sorts.specs.Definitions.{AreMarked, AreNamesNumbered, definition_number, is_marked, is_taken, rowless as rowless_of};
 
 use crate::resolving::plain_columns;
 use lrp_database::Database;
@@ -11,11 +11,12 @@ use std::alloc::Global;
 use std::collections::HashMap;
 use std::marker::Model;
 
-/// A database, and definitions in order.
+/// A database, and definitions in order. Most names that are none of theirs are told by their first byte.
 pub struct Definitions<'a> {
     db: &'a Database,
     all: Vec<Relation>,
     numbers: HashMap<Name, usize>,
+    initials: [bool; 256],
 }
 
 // It is let go by one call, which is proved once.
@@ -25,20 +26,21 @@ impl<'a> Drop for Definitions<'a> {
             db: _db,
             all: _all,
             numbers: _numbers,
+            initials: _initials,
         } = self;
     }
 }
 
 impl<'a> Model for Definitions<'a> {
     ghost use Rattle.std.specs.Prelude.{map};
-    ghost use Rattle.lrp_sorts.specs.Definitions.{AreNamesNumbered, Defined};
+    ghost use Rattle.lrp_sorts.specs.Definitions.{IsNumberingOf, Defined};
 
     ghost Value = { Defined };
 
     ghost view = { λ d. record { relations = d.db.now; definitions = d.all.items } };
 
-    // The number of a name is that of the first definition which has it.
-    ghost invariant = { λ d. AreNamesNumbered d.numbers (map (λ r. r.name) d.all.items) };
+    // The number of a name is that of the first definition which has it, and its first byte is known.
+    ghost invariant = { λ d. IsNumberingOf d.numbers d.initials (map (λ r. r.name) d.all.items) };
 }
 
 impl<'a> Definitions<'a> {
@@ -50,6 +52,7 @@ impl<'a> Definitions<'a> {
             db,
             all: Vec::new(alloc),
             numbers: HashMap::new(alloc),
+            initials: [false; 256],
         }
     }
 
@@ -75,6 +78,9 @@ impl<'a> Definitions<'a> {
         ensures there { IfSome result (λ i. i < length self.now.definitions) }
     {
         if before == 0 {
+            return None;
+        }
+        if !may_begin(&self.initials, name) {
             return None;
         }
         if !is_apart(self.db, name) {
@@ -104,13 +110,26 @@ impl<'a> Definitions<'a> {
           definitions = self.entry.definitions ++ rowless_of name.now columns.now ∷ [];
         }) }
     {
-        let Definitions { db, all, numbers } = self;
+        let Definitions {
+            db,
+            all,
+            numbers,
+            initials,
+        } = self;
         let mut all = all;
         let mut numbers = numbers;
+        let mut initials = initials;
         let is_first = add_number(alloc, &mut numbers, name, all.len())?;
+        mark(&mut initials, name);
         all.push(rowless(alloc, name, columns)?)?;
         let is_new = both(is_first, is_apart(db, name));
-        Ok((Definitions { db, all, numbers }, is_new))
+        let made = Definitions {
+            db,
+            all,
+            numbers,
+            initials,
+        };
+        Ok((made, is_new))
     }
 }
 
@@ -118,6 +137,31 @@ fn both(one: bool, other: bool) -> bool
     ensures { result ≡ (one && other) }
 {
     one && other
+}
+
+// The first byte of a name, or 0 where it has none.
+fn first_byte(name: &Name) -> u8
+    ensures { result ≡ get_or name.now 0 0 }
+{
+    match name.as_bytes().first() {
+        Some(first) => *first,
+        None => 0,
+    }
+}
+
+// Whether one of the names whose first bytes are marked begins as this one does.
+fn may_begin(initials: &[bool; 256], name: &Name) -> bool
+    ensures { result ≡ is_marked initials.now name.now }
+{
+    initials[usize::from(first_byte(name))]
+}
+
+// Marks the first byte of a name.
+fn mark(initials: &mut [bool; 256], name: &Name)
+    ensures { (names : ListOf Identifier) → AreMarked initials.old names
+        → AreMarked initials.new (names ++ name.now ∷ []) }
+{
+    initials[usize::from(first_byte(name))] = true;
 }
 
 // Whether no relation of the database has the name.

@@ -57,3 +57,4 @@ pub mod InlineScenes
 pub mod InlineAtoms
 pub mod InlineSteps
 pub mod NumberSteps
+pub mod InPlace

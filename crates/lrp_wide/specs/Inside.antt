@@ -1,5 +1,6 @@
 -- What stands around a formula while it is written out, and what a use brings.
-use Rattle.std.specs.Prelude.{◌≡◌, ◌+◌, ◌<◌, ◌++◌, ℕ, suc, Option, Some, None, List, [], ◌∷◌, map, take, length, slice_get, IfSome}
+use Rattle.std.specs.Prelude.{Box, ◌≡◌, ◌+◌, ◌<◌, ◌++◌, ℕ, suc, Option, Some, None, List, [], ◌∷◌, map, take, length, slice_get, IfSome}
+use Rattle.std.specs.Global.{Global}
 use Rattle.std.specs.List.{AllByRecursion}
 use Rattle.lrp_model.specs.RawQueries.{HasNoOperator, RawFileView, RawForm, RawForms, raw_compare, raw_definition_of, raw_form_of}
 use Rattle.lrp_model.specs.Rows.{columns_in, relation_named}
@@ -7,6 +8,8 @@ use Rattle.lrp_model.specs.Texts.{Identifier}
 use Rattle.lrp_model.specs.declared.formulas.Op.TheVariants.{Eq}
 use Rattle.lrp_model.specs.declared.raw.RawColumn.{RawColumn}
 use Rattle.lrp_model.specs.declared.raw.RawDefinition.{RawDefinition}
+use Rattle.lrp_model.specs.declared.raw.RawFormula.{RawFormula}
+use Rattle.lrp_model.specs.declared.raw.RawKind.{Atom}
 use Rattle.lrp_model.specs.declared.raw.RawTerm.{RawTerm}
 use Rattle.lrp_model.specs.declared.relations.Column.{Column}
 use Rattle.lrp_model.specs.declared.relations.Relation.{Relation}
@@ -174,3 +177,17 @@ pub record IsNextBody (s : Scene) (b next : UsedBody) : Type 0 where
 pub record IsPlainUse (s : UseSetting) (met : Met) (d : Named) (b : UsedBody) : Type 0 where
   pub named : b.named ≡ d
   pub form : (k : Known) (r : Relation) → slice_get d.written.definitions.now.definitions d.number ≡ Some r → r.columns ≡ k.columns → k.form (body_setting b k.counted) ≡ use_form s met.place met.number k met.terms.now
+
+-- ---- the query's own text, written out where it stands
+
+-- one formula is what another becomes in a scene, and of several each
+pub record IsWrittenIn (s : Scene) (old new : RawForm) : Type 0 where
+  pub is : (f : RawFileView) → IsAround s f → new ≡ inlined_here s f old
+
+pub record AreWrittenIn (s : Scene) (old new : RawForms) : Type 0 where
+  pub are : (f : RawFileView) → IsAround s f → new ≡ each_inlined_here s f old
+
+-- what a formula of the own text becomes where it is written anew, and else an atom stays
+abbrev pub IsAtomWritten : Scene → RawFormula → Option (Box RawFormula Global) → Type 0
+IsAtomWritten s f (Some made) = IsWrittenIn s (raw_form_of f) (raw_form_of made.value)
+IsAtomWritten s f None = (n : Identifier) (ts : List RawTerm) → f.kind ≡ Atom n ts → IsWrittenIn s (raw_form_of f) (raw_form_of f)

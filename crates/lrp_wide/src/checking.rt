@@ -97,12 +97,13 @@ fn answer(alloc: Global, file: RawFile, db: &Database) -> Result<RawQuery, WideR
     if let Some(fault) = sooner_of(defined, own) {
         return Err(WideRead::Fault { fault });
     }
+    let (texts, query) = plain.into_parts();
     let written = Written {
         definitions: &definitions,
-        plain: plain.definitions.as_slice(),
+        plain: texts.as_slice(),
         numbers: numbers.as_slice(),
     };
-    Ok(expand(alloc, written, &plain.query)?)
+    Ok(expand(alloc, written, query)?)
 }
 
 // A size that is above a limit is refused.

@@ -1,22 +1,23 @@
 // The query of first-order logic that stands for a file: in its texts without operators each use of a definition and each `*` is written out.
 //
 // A function clears its locals when it begins. So each kind of formula has a function of its own, and a formula pays for its own kind alone.
-ghost use Rattle.std.specs.Prelude.{◌≡◌, ◌<◌, [], IfOk, IfSome, length};
+ghost use Rattle.std.specs.Prelude.{◌≡◌, ◌<◌, [], None, IfOk, IfSome, OnOk, length};
 ghost use Rattle.lrp_model.specs.RawQueries.{HasNoOperator, HaveNoOperator, RawFileView, raw_form_of, raw_forms_of, raw_group, raw_implies, raw_not, raw_question_of};
 ghost use Rattle.lrp_wide.specs.Inlining.{expanded_file, inlined, own_setting, set_column};
-ghost use Rattle.lrp_wide.specs.Inside.{AreBeside, IsWholeIfAny, AreWrittenBy, IsAround, IsUsedBody, IsMeant, IsNamedIn, IsNextBody, IsPassedOn, IsPlainUse, IsUsed, IsWholeWritten, each_inlined_here, inlined_here, met_form};
+ghost use Rattle.lrp_wide.specs.Inside.{AreBeside, IsWholeIfAny, AreWrittenBy, AreWrittenIn, IsAround, IsAtomWritten, IsUsedBody, IsMeant, IsNamedIn, IsNextBody, IsPassedOn, IsPlainUse, IsUsed, IsWholeWritten, IsWrittenIn, each_inlined_here, inlined_here, met_form};
 ghost use Rattle.lrp_tense.specs.Expanding.{expanded_question};
 ghost use Rattle.lrp_tense.specs.Written.{joined_form, quantified_form};
 ghost use Rattle.lrp_wide.specs.Settings.{setting_of};
 
 use crate::atoms::{Met, comparison, membership, starred_atom};
 use crate::names::NameText;
+use crate::narrow::has_no_star;
 use crate::numbering::Numbers;
 use crate::passing::{Arguments, arguments_of};
 use crate::uses::{Passed, Use, UseSetting, some_each, with_comparisons};
 use lrp_model::{
     Copies, List, Memory, Name, Place, RawColumn, RawDefinition, RawFormula, RawKind, RawQuery,
-    Relation,
+    RawTerm, Relation,
 };
 use lrp_sorts::{Catalog, Definitions};
 use lrp_tense::{Connective, QuantifierKind, boxed, denied, grouped, implied, joined, quantified};
@@ -122,11 +123,11 @@ struct Binding<'a> {
 }
 
 /// The query that stands for a file: for this query without operators, beside these definitions.
-pub fn expand(alloc: Global, written: Written<'_>, query: &RawQuery) -> Result<RawQuery, Memory>
-    requires plain { HasNoOperator (raw_form_of query.now.body) }
+pub fn expand(alloc: Global, written: Written<'_>, query: RawQuery) -> Result<RawQuery, Memory>
+    requires plain { HasNoOperator (raw_form_of query.body) }
     requires definitions { IsWholeWritten written }
     ensures { IfOk result (λ made. (file : RawFileView) → AreWrittenBy written.entry file
-        → raw_question_of query.now ≡ expanded_question file.query
+        → raw_question_of query ≡ expanded_question file.query
         → raw_question_of made ≡ expanded_file written.entry.definitions.now.relations file) }
 {
     let catalog = Catalog::new(alloc, written.definitions.database())?;
@@ -138,13 +139,13 @@ fn expand_beside(
     alloc: Global,
     catalog: &Catalog<'_>,
     written: Written<'_>,
-    query: &RawQuery,
+    query: RawQuery,
 ) -> Result<RawQuery, Memory>
-    requires plain { HasNoOperator (raw_form_of query.now.body) }
+    requires plain { HasNoOperator (raw_form_of query.body) }
     requires definitions { IsWholeWritten written }
     ensures { IfOk result (λ made. (file : RawFileView)
         → AreBeside catalog.now written.entry file
-        → raw_question_of query.now ≡ expanded_question file.query
+        → raw_question_of query ≡ expanded_question file.query
         → raw_question_of made ≡ expanded_file written.entry.definitions.now.relations file) }
 {
     let setting = UseSetting {
@@ -158,7 +159,7 @@ fn expand_beside(
         written: Some(written),
         setting,
     };
-    written_out(alloc, &scene, &query.head, &query.body)
+    written_in_place(alloc, &scene, query)
 }
 
 /// The query in which each `*` is written out, counted in each atom by itself; atoms of definitions stay.
@@ -563,4 +564,142 @@ fn plain_use<'a>(
         first: next,
         passed,
     }))
+}
+
+// The query whose own text a scene has, written out where it stands.
+fn written_in_place(alloc: Global, scene: &Scene<'_>, query: RawQuery) -> Result<RawQuery, Memory>
+    requires own { scene.now.setting.used ≡ None }
+    requires plain { HasNoOperator (raw_form_of query.body) }
+    requires definitions { IsWholeIfAny scene.now.written }
+    ensures head { IfOk result (λ made. made.head ≡ query.head) }
+    ensures body { IfOk result (λ made. IsWrittenIn scene.now
+        (raw_form_of query.body) (raw_form_of made.body)) }
+{
+    let (head, body) = query.into_parts();
+    let mut body = body;
+    write_out(alloc, &mut NameText::new(alloc), scene, &mut body)?;
+    Ok(RawQuery { head, body })
+}
+
+// Writes out a formula of the query's own text where it stands: what is no use of a definition and has no `*` stays.
+#[cycle(writing)]
+fn write_out(
+    alloc: Global,
+    text: &mut NameText,
+    scene: &Scene<'_>,
+    f: &mut RawFormula,
+) -> Result<(), Memory>
+    requires own { scene.now.setting.used ≡ None }
+    requires plain { HasNoOperator (raw_form_of f.old) }
+    requires definitions { IsWholeIfAny scene.now.written }
+    ensures { OnOk result (IsWrittenIn scene.now (raw_form_of f.old) (raw_form_of f.new)) }
+{
+    if let Some(made) = written_atom(alloc, text, scene, f)? {
+        *f = Box::into_inner(made);
+        return Ok(());
+    }
+    match &mut f.kind {
+        RawKind::Atom { .. } => Ok(()),
+        RawKind::Compare { .. } => Ok(()),
+        RawKind::Member { .. } => Ok(()),
+        RawKind::Not { of } => {
+            write_out(alloc, text, scene, of)?;
+            Ok(())
+        }
+        RawKind::Group { of } => {
+            write_out(alloc, text, scene, of)?;
+            Ok(())
+        }
+        RawKind::Exists { of, .. } => {
+            write_out(alloc, text, scene, of)?;
+            Ok(())
+        }
+        RawKind::Forall { of, .. } => {
+            write_out(alloc, text, scene, of)?;
+            Ok(())
+        }
+        RawKind::And { of } => {
+            write_each_out(alloc, text, scene, of)?;
+            Ok(())
+        }
+        RawKind::Or { of } => {
+            write_each_out(alloc, text, scene, of)?;
+            Ok(())
+        }
+        RawKind::Implies { left, right } => {
+            write_out(alloc, text, scene, left)?;
+            write_out(alloc, text, scene, right)
+        }
+        // No operator is left.
+        RawKind::Ranged { .. } | RawKind::Paired { .. } => unreachable!(),
+    }
+}
+
+#[cycle(writing)]
+fn write_each_out(
+    alloc: Global,
+    text: &mut NameText,
+    scene: &Scene<'_>,
+    fs: &mut Vec<RawFormula>,
+) -> Result<(), Memory>
+    requires own { scene.now.setting.used ≡ None }
+    requires plain { HaveNoOperator (raw_forms_of fs.old.items) }
+    requires definitions { IsWholeIfAny scene.now.written }
+    ensures { OnOk result (AreWrittenIn scene.now (raw_forms_of fs.old.items)
+        (raw_forms_of fs.new.items)) }
+{
+    for i in 0..fs.len() {
+        write_out(alloc, text, scene, &mut fs[i])?;
+    }
+    Ok(())
+}
+
+// What an atom of a definition, or one with a `*`, becomes; nothing else is written anew.
+fn written_atom(
+    alloc: Global,
+    text: &mut NameText,
+    scene: &Scene<'_>,
+    f: &RawFormula,
+) -> Result<Option<Box<RawFormula>>, Memory>
+    requires own { scene.now.setting.used ≡ None }
+    requires definitions { IsWholeIfAny scene.now.written }
+    ensures { IfOk result (IsAtomWritten scene.now f.now) }
+{
+    let RawKind::Atom { relation, terms } = &f.kind else {
+        return Ok(None);
+    };
+    let terms = terms.as_slice();
+    let Some(named) = meaning_of(scene, relation) else {
+        if has_no_star(terms) {
+            return Ok(None);
+        }
+        let met = own_met(scene, f.place, relation, terms)?;
+        let made = starred_atom(alloc, text, scene.catalog, &scene.setting, met)?;
+        return Ok(Some(made));
+    };
+    let met = own_met(scene, f.place, relation, terms)?;
+    let made = inline_use(alloc, text, scene, met, named)?;
+    Ok(Some(made))
+}
+
+// An atom of the query's own text, as it is met.
+fn own_met<'a>(
+    scene: &Scene<'_>,
+    place: Place,
+    name: &'a Name,
+    terms: &'a [RawTerm],
+) -> Result<Met<'a>, Memory>
+    ensures place { IfOk result (λ met. met.place ≡ place) }
+    ensures name { IfOk result (λ met. met.name ≡ name.entry) }
+    ensures terms { IfOk result (λ met. met.terms ≡ terms.entry) }
+    ensures number { IfOk result (λ met. met.number
+        ≡ (setting_of scene.now.setting).number place) }
+{
+    let number = scene.setting.number(place)?;
+    Ok(Met {
+        place,
+        name,
+        terms,
+        number,
+    })
 }

@@ -1,7 +1,7 @@
 use Rattle.std.proofs.Common.{◌≡◌, ◌++◌, List, length, map, suc, Some, None, ap, subst, sym, ◌∙◌}
 use Rattle.std.specs.List.{AllByRecursion}
 use Rattle.lrp_model.specs.Faults.{earliest}
-use Rattle.lrp_model.specs.RawQueries.{raw_definition_of, raw_file_of}
+use Rattle.lrp_model.specs.RawQueries.{HasNoOperator, raw_definition_of, raw_file_of, raw_form_of, raw_question_of}
 use Rattle.lrp_model.specs.Sorting.{query_standing}
 use Rattle.lrp_model.proofs.FirstFault.{none_is_empty}
 use Rattle.lrp_wide.specs.Counts.{AreRowless}
@@ -34,6 +34,9 @@ returns-in-Some-clause-refused c =
       sym (own_first db f c.in_ok-definitions.defined c.in_ok-own.own c.sooner_of.result names texts c.sooner_of.ensures) ∙ c.in-Some.is,
     )
 
+pub expand-requires-clause-plain : goal.expand-requires-clause-plain
+expand-requires-clause-plain c = subst (λ q. HasNoOperator (raw_form_of q.1.body)) (sym c.into_parts-texts.ensures) c.in_ok-plain.ensures.query
+
 pub expand-requires-clause-definitions : goal.expand-requires-clause-definitions
 expand-requires-clause-definitions c =
     let d = c.in_ok-definitions.definitions in
@@ -41,10 +44,11 @@ expand-requires-clause-definitions c =
     let plain = c.in_ok-plain.plain.definitions.items in
     let rowless : AreRowless d f = ap (λ e. e.definitions) c.in_ok-definitions.ensures.definitions ∙ ap (λ xs. map defined_relation (map raw_definition_of xs)) c.as_slice.ensures.value in
     let tree : map raw_definition_of plain ≡ map plain_definition f.definitions = ap (λ g. g.definitions) c.in_ok-plain.ensures.tree in
+    let texts : c.as_slice-2.result.now ≡ plain = c.as_slice-2.ensures.value ∙ ap (λ q. q.0.items) c.into_parts-texts.ensures in
     record {
-      operators = subst (λ xs. AllByRecursion HasPlainBody xs) (sym c.as_slice-2.ensures.value) c.in_ok-plain.ensures.definitions;
-      definitions = definitions_long d f plain rowless tree ∙ ap length (sym c.as_slice-2.ensures.value);
-      numbers = ap length (c.as_slice-3.ensures.value ∙ c.in_ok-numbers.ensures) ∙ numbers_long d.relations f plain tree ∙ ap (λ xs. suc (length xs)) (sym c.as_slice-2.ensures.value);
+      operators = subst (λ xs. AllByRecursion HasPlainBody xs) (sym texts) c.in_ok-plain.ensures.definitions;
+      definitions = definitions_long d f plain rowless tree ∙ ap length (sym texts);
+      numbers = ap length (c.as_slice-3.ensures.value ∙ c.in_ok-numbers.ensures) ∙ numbers_long d.relations f plain tree ∙ ap (λ xs. suc (length xs)) (sym texts);
     }
 
 pub returns-clause-query : goal.returns-clause-query
@@ -55,9 +59,10 @@ returns-clause-query c =
     let same : d.relations ≡ c.args.db.now = ap (λ e. e.relations) c.in_ok-definitions.ensures.definitions in
     let rowless : AreRowless d f = ap (λ e. e.definitions) c.in_ok-definitions.ensures.definitions ∙ ap (λ xs. map defined_relation (map raw_definition_of xs)) c.as_slice.ensures.value in
     let tree : map raw_definition_of plain ≡ map plain_definition f.definitions = ap (λ g. g.definitions) c.in_ok-plain.ensures.tree in
+    let texts : c.as_slice-2.result.now ≡ plain = c.as_slice-2.ensures.value ∙ ap (λ q. q.0.items) c.into_parts-texts.ensures in
     c.in_ok-expand.ensures f
-    (record { names = rowless; plain = ap (map raw_definition_of) c.as_slice-2.ensures.value ∙ tree; numbers = c.as_slice-3.ensures.value ∙ c.in_ok-numbers.ensures })
-    (ap (λ g. g.query) c.in_ok-plain.ensures.tree)
+    (record { names = rowless; plain = ap (map raw_definition_of) texts ∙ tree; numbers = c.as_slice-3.ensures.value ∙ c.in_ok-numbers.ensures })
+    (ap (λ q. raw_question_of q.1) c.into_parts-texts.ensures ∙ ap (λ g. g.query) c.in_ok-plain.ensures.tree)
     ∙ ap (λ l. expanded_file l f) same
 
 pub returns-clause-sorted : goal.returns-clause-sorted

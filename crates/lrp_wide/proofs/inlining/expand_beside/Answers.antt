@@ -6,5 +6,5 @@ use Rattle.lrp_wide.proofs.inlining.expand_beside.Goals as goal
 
 pub returns : goal.returns
 returns c =
-    if_ok_both c.written_out.result _ _ _ c.written_out.ensures.head c.written_out.ensures.body (λ made h b file w q.
-    file-is c.args.written file w.written _ (raw_question_of c.args.query.now) (raw_question_of made) c.last.result _ q (sym w.database) refl c.last.ensures.value h (b file w))
+    if_ok_both c.written_in_place.result _ _ _ c.written_in_place.ensures.head c.written_in_place.ensures.body (λ made h b file w q.
+    file-is c.args.written file w.written _ (raw_question_of c.args.query) (raw_question_of made) c.last.result _ q (sym w.database) refl c.last.ensures.value h (b.is file w))

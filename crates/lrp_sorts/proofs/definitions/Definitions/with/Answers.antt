@@ -1,5 +1,8 @@
-use Rattle.std.proofs.Common.{◌≡◌, ◌&&◌, map, not, ap, sym, ◌∙◌}
-use Rattle.lrp_sorts.specs.Definitions.{Defined, is_taken}
+use Rattle.std.proofs.Common.{◌≡◌, ◌++◌, List, [], ◌∷◌, length, map, not, ap, subst, sym, ◌∙◌, arith}
+use Rattle.std.proofs.lemmas.List.{length-map, map-append}
+use Rattle.lrp_model.specs.Texts.{Identifier}
+use Rattle.lrp_model.specs.declared.relations.Relation.{Relation}
+use Rattle.lrp_sorts.specs.Definitions.{AreMarked, AreNamesNumbered, Defined, is_taken}
 use Rattle.lrp_sorts.proofs.Numbered.{new_name}
 use Rattle.lrp_sorts.proofs.definitions.Definitions.with.Goals as goal
 
@@ -8,4 +11,18 @@ returns-clause-new c =
     let n = c.args.name.now in
     let d : Defined = record { relations = c.self.inside.db.now; definitions = c.self.inside.all.items } in
     c.both-is_new.ensures
-    ∙ new_name d n c.in_ok-is_first.is_first c.is_apart.result (c.in_ok-is_first.ensures.new (map (λ r. r.name) d.definitions) c.self.invariant) c.is_apart.ensures ∙ ap (λ e. not (is_taken e n)) c.self.view_is
+    ∙ new_name d n c.in_ok-is_first.is_first c.is_apart.result (c.in_ok-is_first.ensures.new (map (λ r. r.name) d.definitions) c.self.invariant.numbered) c.is_apart.ensures ∙ ap (λ e. not (is_taken e n)) c.self.view_is
+
+pub invariant_of-made : goal.invariant_of-made
+invariant_of-made c =
+    let n = c.args.name.now in
+    let all : List Relation = c.self.inside.all.items in
+    let names : List Identifier = map (λ r. r.name) all in
+    let added : List Relation → List Identifier = map (λ r. r.name) in
+    let more : map (λ r. r.name) c.push.new.self.items ≡ names ++ n ∷ [] =
+    ap added c.in_ok-push.ensures.items ∙ map-append (λ r. r.name) all (c.in_ok-rowless.field-0 ∷ []) ∙ ap (λ (r : Relation). names ++ r.name ∷ []) c.in_ok-rowless.ensures in
+    let size : c.len.result ≡ length names = omega (arith, c.len.ensures, length-map all (λ r. r.name)) in
+    record {
+      numbered = subst (AreNamesNumbered c.add_number.new.numbers) (sym more) (c.in_ok-is_first.ensures.numbers names size c.self.invariant.numbered);
+      marked = subst (AreMarked c.mark.new.initials) (sym more) (c.mark.ensures names c.self.invariant.marked);
+    }
