@@ -21,8 +21,8 @@ fn check_size(rt: &impl Abort, number: i64)
     assert!(rt; number.unsigned_abs() <= FAR);
 }
 
-// The integers from one to another.
-fn between(rt: &impl Abort, from: i64, to: i64) -> Zone
+/// The integers from one to another.
+pub fn between(rt: &impl Abort, from: i64, to: i64) -> Zone
     ensures all { IsOfIntegers (2 ^ 62 + 1) result }
     ensures inner { nat_abs from < 2 ^ 62 → nat_abs to < 2 ^ 62 → IsOfIntegers (2 ^ 62) result }
 {

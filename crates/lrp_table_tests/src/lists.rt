@@ -3,7 +3,7 @@ ghost use Rattle.std.specs.Prelude.{◌≡◌, ◌<◌};
 
 use crate::parts::answer;
 use lrp_answers::{Lister, Steps};
-use lrp_model::Spot;
+use lrp_model::{LIMIT, Spot};
 use std::marker::Brand;
 use std::sync::ledger::{Blank, Ledger};
 
@@ -23,13 +23,13 @@ fn next_three<L: Ledger>(
     (first, second, third)
 }
 
-// The next three answers, with steps that nobody counts.
-fn three_of(lister: &mut Lister<'_>) -> (Option<Spot>, Option<Spot>, Option<Spot>) {
+/// The next three answers, with steps that nobody counts.
+pub fn three_of(lister: &mut Lister<'_>) -> (Option<Spot>, Option<Spot>, Option<Spot>) {
     next_three::<Brand>(lister, Blank::new(1))
 }
 
-// Whether this is the time.
-fn is_at(spot: Option<Spot>, time: i64) -> bool {
+/// Whether this is the time.
+pub fn is_at(spot: Option<Spot>, time: i64) -> bool {
     match spot {
         Some(spot) => spot.times[0] == time,
         None => false,
@@ -43,4 +43,15 @@ fn equal_zones_give_each_time_once(rt: HostRuntime) {
     let mut lister = Lister::new(alloc, &answer, 0, 6, None).expect(&rt, "memory");
     let (first, second, third) = three_of(&mut lister);
     assert!(rt; is_at(first, 0) && is_at(second, 6) && third.is_none());
+}
+
+#[test]
+fn a_window_as_wide_as_can_be_begins_at_once(rt: HostRuntime) {
+    // The first multiples of 6 from -2^62 on.
+    let alloc = rt.alloc();
+    let answer = answer(&rt, alloc);
+    let mut lister = Lister::new(alloc, &answer, -LIMIT, LIMIT, None).expect(&rt, "memory");
+    let (first, second, _) = three_of(&mut lister);
+    assert!(rt; is_at(first, -4_611_686_018_427_387_900));
+    assert!(rt; is_at(second, -4_611_686_018_427_387_894));
 }

@@ -6,6 +6,7 @@ ghost use Rattle.lrp_theory.specs.Entries.{node};
 ghost use Rattle.lrp_zone.specs.Zones.{IsResidue, reach_of};
 ghost use Rattle.lrp_model.specs.Sorts.{time_count};
 ghost use Rattle.lrp_store.specs.Stores.{IsPadded, HasReach};
+ghost use Rattle.lrp_table_tests.specs.Residues.{HoldsResidues};
 
 use lrp_answers::Answer;
 use lrp_model::{Bound, Cell, Column, Domain, Head, List, Name, Shape, Sort};
@@ -89,6 +90,28 @@ pub fn sixths(rt: &impl Abort, alloc: Global) -> Store
     store
 }
 
+/// No residue yet.
+#[tactic(auto, using(crate::proofs::ResidueLemmas::none_held))]
+pub fn no_residues(alloc: Global, period: i64) -> Store
+    requires low { pos 1 ≤ℤ period }
+    requires high { period ≤ℤ pos (2 ^ 62) }
+    ensures { HoldsResidues (nat_abs period) result }
+{
+    Store::new(alloc, Shape { times: 1, texts: 0 }, period)
+}
+
+/// Adds all times of a residue.
+pub fn add_residue(rt: &impl Abort, store: &mut Store, residue: i64)
+    requires store { HoldsResidues store.old.period store.old }
+    requires residue { IsResidue store.old.period residue }
+    ensures { HoldsResidues store.old.period store.new }
+{
+    match store.add_whole(&cell(0, residue), 2) {
+        Ok(()) => {}
+        Err(_) => panic!(rt; "memory"),
+    }
+}
+
 /// A name.
 pub fn name(rt: &impl Abort, alloc: Global) -> Name {
     Name::new(alloc, "t").expect(rt, "memory")
@@ -103,8 +126,8 @@ pub fn list<T: Drop>(rt: &impl Abort, alloc: Global, x: T) -> List<T>
     xs
 }
 
-// A head of one time.
-fn head(rt: &impl Abort, alloc: Global) -> Head
+/// A head of one time.
+pub fn head(rt: &impl Abort, alloc: Global) -> Head
     ensures times { time_count result.columns ≡ 1 }
     ensures all { length result.columns ≡ 1 }
 {

@@ -1,9 +1,10 @@
 // Stores: caps, slots, and a larger period.
 ghost use Rattle.std.specs.Prelude.{◌≡◌, ◌^◌};
 ghost use Rattle.lrp_store.specs.Stores.{HasReach};
+ghost use Rattle.lrp_table_tests.specs.Residues.{HoldsResidues};
 
-use crate::parts::{bound, cell, sixths, zone_of};
-use lrp_model::Shape;
+use crate::parts::{add_residue, bound, cell, no_residues, sixths, zone_of};
+use lrp_model::{LIMIT, Shape};
 use lrp_store::{Store, StoreFault};
 use lrp_systems::Align;
 use lrp_zone::Zone;
@@ -106,4 +107,29 @@ fn a_store_is_aligned_residue_by_residue(rt: HostRuntime) {
     let made = aligned(&store, 3).expect(&rt, "three cells");
     assert!(rt; made.len() == 3);
     assert!(rt; aligned(&store, 2).err() == Some(StoreFault::TooManyCells));
+}
+
+// The multiples of half the limit.
+fn halves(rt: &impl Abort, alloc: Global) -> Store
+    ensures { HoldsResidues (2 ^ 61) result }
+{
+    let mut store = no_residues(alloc, LIMIT / 2);
+    add_residue(rt, &mut store, 0);
+    store
+}
+
+// The same in cells of the greatest period.
+fn widened(halves: &Store, cap: u32) -> Result<Store, StoreFault>
+    requires { HoldsResidues (2 ^ 61) halves.now }
+{
+    halves.align(LIMIT, cap)
+}
+
+#[test]
+fn a_store_is_aligned_to_the_limit(rt: HostRuntime) {
+    let store = halves(&rt, rt.alloc());
+    let made = widened(&store, 2).expect(&rt, "two cells");
+    assert!(rt; made.len() == 2);
+    assert!(rt; made.is_whole(&cell(0, 0)) && made.is_whole(&cell(0, LIMIT / 2)));
+    assert!(rt; widened(&store, 1).err() == Some(StoreFault::TooManyCells));
 }

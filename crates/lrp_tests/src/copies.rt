@@ -1,8 +1,8 @@
-// Copies succeed. That one that succeeds is equal is a clause. Queries are never let go: to prove how a formula is dropped
-// takes longer than all the rest.
+// Copies succeed, and have what was copied. Queries are never let go: to prove how a formula is dropped takes longer than all
+// the rest.
 use crate::parts::{PLACE, columns, head, list, member, name, raw_column, seven};
 use lrp_edits::Edit;
-use lrp_io::{File, MemShelf, MemSink};
+use lrp_io::{File, MemShelf, MemSink, Sink};
 use lrp_model::*;
 use lrp_sample::Texts;
 use lrp_token::Resume;
@@ -31,7 +31,9 @@ fn relations_are_copied(rt: HostRuntime) {
         columns: columns(&rt, alloc),
         rows: list(&rt, alloc, row(&rt, alloc)),
     };
-    assert!(rt; relation.copy(alloc).is_ok());
+    let copy = relation.copy(alloc).expect(&rt, "memory");
+    assert!(rt; copy.name == relation.name);
+    assert!(rt; copy.columns.len() == 1 && copy.rows.len() == 1);
 }
 
 fn located<T>(item: T) -> Located<T> {
@@ -63,7 +65,9 @@ fn written_relations_are_copied(rt: HostRuntime) {
         columns: list(&rt, alloc, raw_column(&rt, alloc)),
         rows: list(&rt, alloc, located(raw_row(&rt, alloc))),
     };
-    assert!(rt; relation.copy(alloc).is_ok());
+    let copy = relation.copy(alloc).expect(&rt, "memory");
+    assert!(rt; copy.name.place == PLACE && copy.name.item == relation.name.item);
+    assert!(rt; copy.columns.len() == 1 && copy.rows.len() == 1);
 }
 
 fn denied(rt: &impl Abort, alloc: Global) -> RawFormula {
@@ -90,8 +94,12 @@ fn queries_are_copied(rt: HostRuntime) {
         head: head(&rt, alloc),
         body: denied(&rt, alloc),
     };
-    forget(query.copy(alloc).expect(&rt, "memory"));
-    forget(query.body.copy(alloc).expect(&rt, "memory"));
+    let copy = query.copy(alloc).expect(&rt, "memory");
+    assert!(rt; copy.body.place == PLACE);
+    let body = query.body.copy(alloc).expect(&rt, "memory");
+    assert!(rt; body.place == PLACE);
+    forget(copy);
+    forget(body);
     forget(query);
 }
 
@@ -118,8 +126,12 @@ fn raw_queries_are_copied(rt: HostRuntime) {
         head: list(&rt, alloc, raw_column(&rt, alloc)),
         body: raw_denied(&rt, alloc),
     };
-    forget(query.copy(alloc).expect(&rt, "memory"));
-    forget(query.body.copy(alloc).expect(&rt, "memory"));
+    let copy = query.copy(alloc).expect(&rt, "memory");
+    assert!(rt; copy.body.place == PLACE);
+    let body = query.body.copy(alloc).expect(&rt, "memory");
+    assert!(rt; body.place == PLACE);
+    forget(copy);
+    forget(body);
     forget(query);
 }
 
@@ -155,8 +167,12 @@ fn queries_with_operators_are_copied(rt: HostRuntime) {
         head: list(&rt, alloc, raw_column(&rt, alloc)),
         body: since(&rt, alloc),
     };
-    forget(query.copy(alloc).expect(&rt, "memory"));
-    forget(query.body.copy(alloc).expect(&rt, "memory"));
+    let copy = query.copy(alloc).expect(&rt, "memory");
+    assert!(rt; copy.body.place == PLACE);
+    let body = query.body.copy(alloc).expect(&rt, "memory");
+    assert!(rt; body.place == PLACE);
+    forget(copy);
+    forget(body);
     forget(query);
 }
 
@@ -187,7 +203,8 @@ fn plans_are_copied(rt: HostRuntime) {
         head: head(&rt, alloc),
         domain: domain(&rt, alloc),
     };
-    assert!(rt; plan.copy(alloc).is_ok());
+    let copy = plan.copy(alloc).expect(&rt, "memory");
+    assert!(rt; copy.steps.len() == 1 && copy.domain.len() == 1);
 }
 
 #[test]
@@ -198,7 +215,9 @@ fn edits_are_copied(rt: HostRuntime) {
         relation: name(&rt, alloc, "bus"),
         row: row(&rt, alloc),
     };
-    assert!(rt; edit.copy(alloc).is_ok());
+    let copy = edit.copy(alloc).expect(&rt, "memory");
+    assert!(rt; copy.add && copy.relation == edit.relation);
+    assert!(rt; copy.row.values.len() == 1 && copy.row.bounds.len() == 1);
 }
 
 #[test]
@@ -208,7 +227,9 @@ fn texts_of_the_sample_are_copied(rt: HostRuntime) {
         database: list(&rt, alloc, b'd'),
         query: list(&rt, alloc, b'q'),
     };
-    assert!(rt; texts.copy(alloc).is_ok());
+    let copy = texts.copy(alloc).expect(&rt, "memory");
+    assert!(rt; copy.database.as_slice() == b"d".as_slice());
+    assert!(rt; copy.query.as_slice() == b"q".as_slice());
 }
 
 #[test]
@@ -222,7 +243,10 @@ fn places_in_a_listing_are_copied(rt: HostRuntime) {
         tuple,
         digest: Some([7; 32]),
     };
-    assert!(rt; resume.copy(alloc).is_ok());
+    let copy = resume.copy(alloc).expect(&rt, "memory");
+    assert!(rt; copy.digest == resume.digest);
+    assert!(rt; copy.tuple.times.as_slice() == [-65].as_slice());
+    assert!(rt; copy.tuple.texts.len() == 1);
 }
 
 #[test]
@@ -233,7 +257,10 @@ fn shelves_and_sinks_are_copied(rt: HostRuntime) {
         bytes: list(&rt, alloc, b'a'),
     };
     let shelf = MemShelf::new(list(&rt, alloc, file), list(&rt, alloc, 2));
-    assert!(rt; shelf.copy(alloc).is_ok());
-    let sink = MemSink::stop_after(alloc, 7, 4).expect(&rt, "memory");
-    assert!(rt; sink.copy(alloc).is_ok());
+    let copy = shelf.copy(alloc).expect(&rt, "memory");
+    assert!(rt; copy.faults() == 0);
+    let mut sink = MemSink::stop_after(alloc, 7, 4).expect(&rt, "memory");
+    assert!(rt; sink.write(b"ab") == Ok(2));
+    let copy = sink.copy(alloc).expect(&rt, "memory");
+    assert!(rt; copy.written() == b"ab".as_slice());
 }

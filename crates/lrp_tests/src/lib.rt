@@ -5,6 +5,8 @@
 #[cfg(test)]
 mod copies;
 #[cfg(test)]
+mod matrices;
+#[cfg(test)]
 mod parts;
 #[cfg(test)]
 mod points;

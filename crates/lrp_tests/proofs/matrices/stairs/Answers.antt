@@ -2,7 +2,7 @@
 use Rattle.std.proofs.Common.{◌≡◌, ◌≤◌, ◌<◌, ◌+◌, ◌^◌, ◌∙◌, arith}
 use Rattle.std.proofs.lemmas.Int.{ints}
 use Rattle.lrp_matrix.proofs.Lowering.{free_small, lowered_small}
-use Rattle.lrp_table_tests.proofs.matrices.stairs.Goals as goal
+use Rattle.lrp_tests.proofs.matrices.stairs.Goals as goal
 
 pub loop-i-init : goal.loop-i-init
 loop-i-init c = record {

@@ -1,6 +1,6 @@
 use Rattle.std.proofs.Common.{◌≡◌, ◌+◌, ◌^◌}
 use Rattle.lrp_theory.specs.Entries.{AllSmall}
-use Rattle.lrp_table_tests.proofs.matrices.stairs.Given as goal
+use Rattle.lrp_tests.proofs.matrices.stairs.Given as goal
 
 abbrev pub invariant-loop-i : goal.invariant-loop-i
 invariant-loop-i l = record {
