@@ -331,6 +331,21 @@ def instants_met(size):
     )
 
 
+@family("rides at instants", "one", (625, 2500, 10000), "N instants and N dated rides: rides that leave at one of them")
+def rides_at_instants(size):
+    leave, second = spread_out(size, 1, 7), spread_out(size, 5, 9)
+    rides = [(at, at + 25 + i % 3) for i, at in enumerate(leave)]
+    database = relation("a", times("t", "u"), ["(%d, %d)" % ride for ride in rides]) + relation(
+        "b", times("t"), ["(%d)" % at for at in second]
+    )
+    met = set(second)
+    found = {ride for ride in rides if ride[0] in met}
+    body = "(b(t) and a(t, u))"
+    return Case(
+        listed(0, LIMIT), database, query(times("t", "u"), body), units=size, unit="rows", output=whole_page(found)
+    )
+
+
 @family("intervals met", "one", (125, 500, 2000), "N intervals of period 2 in both residues and N others, in order: what both have")
 def intervals_met(size):
     first = [(20 * i, 20 * i + 12) for i in range(size)]

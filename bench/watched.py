@@ -23,13 +23,28 @@ def overlaps(row, rows):
             yield (first, start, driver)
 
 
-def shifts_case(size, edits):
+def shifts_of_drivers(size, edits):
     """Shifts of which one driver's overlap, 50 for each driver; half of the edits add one, and half take one out."""
     drivers = max(size // 50, 1)
     held = [shift(number, drivers) for number in range(size)]
     added = [shift(size + number, drivers) for number in range(edits // 2)]
+    return shifts_case(held, added, least_overlaps(held, added))
+
+
+def shifts_of_one(size, edits):
+    """Shifts of one driver, one after another, of which each tenth ends after the next begins; edits of later ones."""
+    held = [(30 * at, 30 * at + (20 if at % 10 else 35), "d") for at in range(size)]
+    added = [(30 * at, 30 * at + 20, "d") for at in range(size, size + edits // 2)]
+    return shifts_case(held, added, ['0, 30, "d"'] * (1 + edits))
+
+
+def least_overlaps(rows, added):
+    """The first overlap of the rows, and after each of the edits that add some and then take them out."""
+    held = list(rows)
     of = lambda driver: [row for row in held if row[2] == driver]
-    found = sorted({it for driver in {row[2] for row in held} for row in of(driver) for it in overlaps(row, of(driver))})
+    found = sorted(
+        {it for driver in {row[2] for row in held} for row in of(driver) for it in overlaps(row, of(driver))}
+    )
     lines = ['%d, %d, "%s"' % found[0]]
     for row in added:
         found = sorted({*found, *overlaps(row, of(row[2]))})
@@ -41,32 +56,63 @@ def shifts_case(size, edits):
         kept = {it for other in of(row[2]) for it in overlaps(other, of(row[2]))}
         found = [it for it in found if it not in gone or it in kept]
         lines.append('%d, %d, "%s"' % found[0])
-    rows = [shift_row(shift(number, drivers)) for number in range(size)]
+    return lines
+
+
+def shifts_case(held, added, lines):
+    """A watch of the overlaps of one driver's shifts, and edits that add some and then take them out."""
     return Case(
         ["watch"],
-        relation("shift", [*times("s", "e"), "d: data"], rows),
+        relation("shift", [*times("s", "e"), "d: data"], [shift_row(row) for row in held]),
         query(
             [*times("s", "u"), "d: data"],
             "exists e: time exists v: time (shift(s, e, d) and shift(u, v, d) and s < u and u < e)",
         ),
-        units=edits or size,
-        unit="edits" if edits else "rows",
+        units=2 * len(added) or len(held),
+        unit="edits" if added else "rows",
         output="\n".join([*lines, ""]),
         edits="".join("%s shift %s;\n" % (sign, shift_row(row)) for sign in "+-" for row in added),
     )
 
 
-@family("shifts watched", "two", (625, 2500, 10000), "opening of a watch of N shifts, of which those of one driver overlap")
+@family(
+    "shifts watched", "two", (625, 2500, 10000), "opening of a watch of N shifts, of which those of one driver overlap"
+)
 def shifts_watched(size):
-    return shifts_case(size, 0)
+    return shifts_of_drivers(size, 0)
 
 
 @family("shifts edited", "two", (625, 2500, 10000), "200 edits of N shifts, of which those of one driver overlap")
 def shifts_edited(size):
-    return shifts_case(size, 200)
+    return shifts_of_drivers(size, 200)
 
 
-@family("instants watched", "two", (625, 2500, 10000), "opening of a watch of N instants beside N others, a tenth of them in common")
+@family(
+    "shifts of one driver",
+    "two",
+    (250, 1000, 4000),
+    "opening of a watch of N shifts of one driver, of which a tenth overlap",
+)
+def one_driver_watched(size):
+    return shifts_of_one(size, 0)
+
+
+@family(
+    "shifts of one driver edited",
+    "two",
+    (250, 1000, 4000),
+    "200 edits of N shifts of one driver, of which a tenth overlap",
+)
+def one_driver_edited(size):
+    return shifts_of_one(size, 200)
+
+
+@family(
+    "instants watched",
+    "two",
+    (625, 2500, 10000),
+    "opening of a watch of N instants beside N others, a tenth of them in common",
+)
 def instants_watched(size):
     first = range(0, 2 * size, 2)
     second = [at + (at % 20 != 10) for at in first]
@@ -82,7 +128,12 @@ def instants_watched(size):
     )
 
 
-@family("texts watched", "two", (625, 2500, 10000), "opening of a watch of N rows of a day, each with a text of its own, beside N others")
+@family(
+    "texts watched",
+    "two",
+    (625, 2500, 10000),
+    "opening of a watch of N rows of a day, each with a text of its own, beside N others",
+)
 def texts_watched(size):
     rows = lambda step: ['(%d+%dn, "x%d")' % (step * number % DAY, DAY, number) for number in range(size)]
     text = query([*times("t"), "d: data"], "(r(t, d) and s(t, d))")
