@@ -3,6 +3,7 @@
 import re
 import tempfile
 import unittest
+from collections import Counter
 from collections.abc import Iterable
 from pathlib import Path
 
@@ -298,6 +299,16 @@ class Links(unittest.TestCase):
                 # Definitions and proofs are named without their ending.
                 self.assertTrue((TOP / name).exists() or (TOP / f"{name}.antt").exists(), f"{document.name}: {name}")
 
+    def test_calls_that_no_command_makes_have_a_test(self):
+        decisions = (TOP / "docs/DECISIONS.md").read_text()
+        told = decisions.split("**A public call that no command makes")[1].split("\n- ")[0]
+        named = re.findall(r"`(?:\w+::)?(\w+)`", told.split("These are ")[1].split(". In their place")[0])
+        self.assertGreater(len(named), 10)
+        homes = ("lrp_tests", "lrp_table_tests")
+        tests = "".join(file.read_text() for crate in homes for file in TOP.glob(f"crates/{crate}/src/*.rt"))
+        for name in named:
+            self.assertRegex(tests, rf"\b{name}\b")
+
     def test_wrong_bodies_have_their_edits(self):
         table = (TOP / "docs/gate.md").read_text().split("## Wrong bodies that are refused")[1].split("\n## ")[0]
         named = [(crate, name) for crate, names in re.findall(r"`(lrp_\w+)`: ((?:`\w+`(?:, )?)+)", table)
@@ -305,6 +316,19 @@ class Links(unittest.TestCase):
         self.assertGreater(len(named), 10)
         for crate, name in named:
             self.assertTrue((TOP / f"crates/{crate}/must-fail/{name}.edit").exists(), f"{crate}: {name}")
+
+    def test_edits_are_few_and_each_applies(self):
+        edits = sorted(TOP.glob("crates/*/must-fail/*.edit"))
+        counts = Counter(edit.parts[-3] for edit in edits)
+        self.assertLessEqual(len(edits), 115)
+        for crate, count in counts.items():
+            self.assertLessEqual(count, 4 if crate in ("lrp_top", "lrp_model") else 6, crate)
+        for edit in edits:
+            text = edit.read_text()
+            code = (edit.parent.parent / re.findall(r"(?m)^file: (.*)$", text)[0]).read_text()
+            for old, new in re.findall(r"(?m)^old: (.*)\nnew: ?(.*)$", text):
+                self.assertEqual(code.count(old), 1, edit.name)
+                code = code.replace(old, new)
 
     def test_named_definitions_are_there(self):
         crates = re.findall(r"(?m)^(lrp_\w+)(?: staticlib)?:", (TOP / "crates.txt").read_text())
