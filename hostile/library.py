@@ -14,6 +14,7 @@ from memory import BUS, example
 from opinion import Case
 
 ROOM = 1 << 16
+PAGES = 12
 ASK = ("ask", "db=db", "query=query")
 INSTANTS = b"{ t: time | bus(t) }"
 
@@ -133,9 +134,9 @@ def in_threads(library, tally, seeds):
 
 
 def pages(tell, words, files):
-    """Each page of a question, one after the other."""
+    """The first pages of a question, one after the other: a window of four times has millions of answers."""
     after = []
-    while True:
+    for _ in range(PAGES):
         told = tell(*words, *after, **files)
         yield told
         last = told[1].splitlines()[-1].partition(b" ")
