@@ -1,6 +1,7 @@
 -- What is proved of zones of one cell, cut and settled, by topic.
 pub mod AddingLaws
 pub mod Alike
+pub mod ApartLaws
 pub mod AxisLaws
 pub mod BoundedLaws
 pub mod CountLaws

@@ -101,7 +101,7 @@ greatest_room f zones cells some room =
     omega arith
 
 -- the product with two or more is at least the number
-times_more : (n a : ℕ) → 0 < n → a ≤ n * a
+pub times_more : (n a : ℕ) → 0 < n → a ≤ n * a
 times_more n a l = grind arith
 
 pub gap_room : (f h : ZoneView) (zones : List ZoneView) → 1 < columns_of f → IsOfCell f h → columns_of f * greatest_reach zones + f.period ≤ 2 ^ 62 → side_reach h.period zones ≤ 2 ^ 62

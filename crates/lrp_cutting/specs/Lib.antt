@@ -15,4 +15,5 @@ pub mod Gaps
 pub mod Halves
 pub mod Hulls
 pub mod Lines
+pub mod Turns
 pub mod Windows

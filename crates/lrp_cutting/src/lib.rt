@@ -16,6 +16,7 @@ mod settled;
 mod settling;
 mod standing;
 mod stored;
+mod turns;
 mod windows;
 
 pub use cutters::Cutters;

@@ -8,6 +8,7 @@ use crate::covering::thinned;
 use crate::hull::hull;
 use crate::intervals::maximal;
 use crate::leaving::has_gap;
+use crate::turns::are_apart;
 use lrp_model::{List, Memory};
 use lrp_zone::Zone;
 use std::alloc::Global;
@@ -18,7 +19,8 @@ use std::alloc::Global;
 ///
 /// With two columns or more that zone can only be the hull, the least one that holds the set. Where a piece of the hull is
 /// in none of the zones, they are given as they came, without those that lie within another one. Of equal ones the last
-/// stays.
+/// stays. Zones that come one after another by their values, with one of the first column between two of them, are such as
+/// they stand.
 pub fn settle(alloc: Global, zones: &List<Zone>) -> Result<List<Zone>, Memory>
     requires some { 0 < length zones.now }
     requires cell { (z : ZoneView) → Contains zones.now z → AreOfCell z zones.now }
@@ -35,7 +37,7 @@ pub fn settle(alloc: Global, zones: &List<Zone>) -> Result<List<Zone>, Memory>
     }
 }
 
-// The hull of zones with two columns or more, where it is their set, and else the zones.
+// Zones with two columns or more in fewest zones: as they stand where they are apart, and else by their hull.
 fn fewest(alloc: Global, cell: &Zone, zones: &List<Zone>) -> Result<List<Zone>, Memory>
     requires columns { 1 < columns_of cell.now }
     requires listed { Contains zones.now cell.now }
@@ -49,6 +51,23 @@ fn fewest(alloc: Global, cell: &Zone, zones: &List<Zone>) -> Result<List<Zone>, 
     if all.len() == 1 {
         return one(alloc, *cell);
     }
+    let apart = are_apart(alloc, all)?;
+    if apart {
+        return listed(alloc, all);
+    }
+    by_hull(alloc, cell, zones)
+}
+
+// The hull of the zones, where it is their set, and else the zones.
+fn by_hull(alloc: Global, cell: &Zone, zones: &List<Zone>) -> Result<List<Zone>, Memory>
+    requires columns { 1 < columns_of cell.now }
+    requires listed { Contains zones.now cell.now }
+    requires cell { AreOfCell cell.now zones.now }
+    requires reach { (z : ZoneView) → Contains zones.now z
+        → columns_of z * reach_of z + z.period ≤ 2 ^ 62 }
+    ensures { IfOk result (λ made. IsSettlement cell.now zones.now made) }
+{
+    let all = zones.as_slice();
     let hull = hull(alloc, cell, all)?;
     if has_gap(alloc, &hull, all)? {
         thinned(alloc, all)
@@ -64,4 +83,12 @@ fn one(alloc: Global, zone: Zone) -> Result<List<Zone>, Memory>
     let mut made = List::new(alloc);
     made.push(zone)?;
     Ok(made)
+}
+
+// The list of the zones.
+fn listed(alloc: Global, zones: &[Zone]) -> Result<List<Zone>, Memory>
+    ensures { IfOk result (λ made. made ≡ zones.now) }
+{
+    let all = zones.to_vec(alloc)?;
+    Ok(List::from_vec(all))
 }

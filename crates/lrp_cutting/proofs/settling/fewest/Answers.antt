@@ -1,50 +1,25 @@
--- One zone stays; else the hull is the set, or the set is not that of one zone.
-use Rattle.std.proofs.Common.{◌≡◌, ◌+◌, ◌*◌, ◌≤◌, ◌^◌, ◌∷◌, [], length, ap, arith, subst, sym}
+-- One zone stays, and so do zones that are apart.
+use Rattle.std.proofs.Common.{◌≡◌, ◌∷◌, ◌∙◌, [], length, ap, arith, subst, sym}
 use Rattle.lrp_zone.specs.Zones.{columns_of}
-use Rattle.lrp_cutting.specs.Differences.{greatest_reach}
-use Rattle.lrp_cutting.specs.Hulls.{IsHull}
-use Rattle.lrp_cutting.specs.Leaving.{HasGap}
-use Rattle.lrp_cutting.specs.Settling.{IsSettlement, IsSmallZone, IsThinned}
+use Rattle.lrp_cutting.specs.Settling.{IsSettlement}
+use Rattle.lrp_cutting.specs.Turns.{AreZonesApart}
+use Rattle.lrp_cutting.proofs.ApartLaws.{settled_reordered}
 use Rattle.lrp_cutting.proofs.Lists.{if_ok}
-use Rattle.lrp_cutting.proofs.SettlingLaws.{gap_room, greatest_room, hull_cells, in_one_cell, settled_hull, settled_one, settled_thinned, some_listed}
+use Rattle.lrp_cutting.proofs.SettlingLaws.{same_cell, settled_one}
 use Rattle.lrp_cutting.proofs.settling.fewest.Goals as goal
 
-pub hull-requires-clause-some : goal.hull-requires-clause-some
-hull-requires-clause-some c = rw c.as_slice-all.ensures (some_listed c.args.zones.now c.args.cell.now c.requires.listed)
+pub are_apart-requires-clause-columns : goal.are_apart-requires-clause-columns
+are_apart-requires-clause-columns c = rw c.as_slice-all.ensures (λ z h. let n : columns_of z ≡ columns_of c.args.cell.now = ap length (c.requires.cell.each z h).residues in omega arith)
 
-pub hull-requires-clause-reach : goal.hull-requires-clause-reach
-hull-requires-clause-reach c =
-    let r : columns_of c.args.cell.now * greatest_reach c.args.zones.now + c.args.cell.now.period ≤ 2 ^ 62 = greatest_room c.args.cell.now c.args.zones.now c.requires.cell (some_listed c.args.zones.now c.args.cell.now c.requires.listed) c.requires.reach in
-    rw c.as_slice-all.ensures (omega arith)
+pub are_apart-requires-clause-cell : goal.are_apart-requires-clause-cell
+are_apart-requires-clause-cell c = rw c.as_slice-all.ensures (λ v w h k. same_cell c.args.cell.now v w (c.requires.cell.each v h) (c.requires.cell.each w k))
 
-pub has_gap-requires-clause-cell : goal.has_gap-requires-clause-cell
-has_gap-requires-clause-cell c = rw c.as_slice-all.ensures (hull_cells c.args.cell.now c.args.zones.now c.in_ok-hull.hull c.requires.cell (rw c.as_slice-all.ensures at c.in_ok-hull.ensures.hull))
-
-pub has_gap-requires-clause-reach : goal.has_gap-requires-clause-reach
-has_gap-requires-clause-reach c =
-    rw c.as_slice-all.ensures (gap_room c.args.cell.now c.in_ok-hull.hull c.args.zones.now c.requires.columns c.in_ok-hull.ensures.hull.cell
-    (greatest_room c.args.cell.now c.args.zones.now c.requires.cell (some_listed c.args.zones.now c.args.cell.now c.requires.listed) c.requires.reach))
-
-pub thinned-requires : goal.thinned-requires
-thinned-requires c = rw c.as_slice-all.ensures (in_one_cell c.args.cell.now c.args.zones.now c.requires.columns (some_listed c.args.zones.now c.args.cell.now c.requires.listed) c.requires.cell (rw c.as_slice-all.ensures at c.in_ok-hull.ensures.valid) c.requires.reach)
-
-pub returns-then-branch : goal.returns-then-branch
-returns-then-branch c =
-    let hull : IsHull c.args.cell.now c.args.zones.now c.in_ok-hull.hull = rw c.as_slice-all.ensures at c.in_ok-hull.ensures.hull in
-    let gap : HasGap c.in_ok-hull.hull c.args.zones.now = subst (λ l. HasGap c.in_ok-hull.hull l) c.as_slice-all.ensures (c.in_ok-has_gap.ensures.0 c.if-branch.true) in
-    if_ok (IsThinned c.as_slice-all.result.now) (IsSettlement c.args.cell.now c.args.zones.now) c.thinned.result
-    (λ made t. settled_thinned c.args.cell.now c.args.zones.now c.in_ok-hull.hull c.requires.cell c.requires.columns (rw c.as_slice-all.ensures at c.in_ok-hull.ensures.valid) hull
-    made (subst (λ l. IsThinned l made) c.as_slice-all.ensures t) gap)
-    c.thinned.ensures
-
-pub returns-else-branch : goal.returns-else-branch
-returns-else-branch c =
-    let hull : IsHull c.args.cell.now c.args.zones.now c.in_ok-hull.hull = rw c.as_slice-all.ensures at c.in_ok-hull.ensures.hull in
-    let small : IsSmallZone c.in_ok-hull.hull (columns_of c.args.cell.now * greatest_reach c.args.zones.now) = rw c.as_slice-all.ensures at c.in_ok-hull.ensures.small in
-    if_ok (λ made. made ≡ c.in_ok-hull.hull ∷ []) (IsSettlement c.args.cell.now c.args.zones.now) c.one-else-branch.result
-    (λ made e. rw e (settled_hull c.args.cell.now c.args.zones.now c.in_ok-hull.hull c.requires.cell c.requires.columns (rw c.as_slice-all.ensures at c.in_ok-hull.ensures.valid) hull
-    (λ g. cc (c.in_ok-has_gap.ensures.1 (subst (λ l. HasGap c.in_ok-hull.hull l) (sym c.as_slice-all.ensures) g), c.if-branch.false)) small))
-    c.one-else-branch.ensures
+pub returns-then-apart : goal.returns-then-apart
+returns-then-apart c =
+    let apart : AreZonesApart c.args.zones.now = subst AreZonesApart c.as_slice-all.ensures (c.in_ok-apart.ensures c.if-apart.true) in
+    if_ok (λ made. made ≡ c.as_slice-all.result.now) (IsSettlement c.args.cell.now c.args.zones.now) c.listed.result
+    (λ made e. subst (IsSettlement c.args.cell.now c.args.zones.now) (sym (e ∙ c.as_slice-all.ensures)) (settled_reordered c.args.cell.now c.args.zones.now c.requires.cell c.requires.columns apart))
+    c.listed.ensures
 
 pub returns-then-all-eq1 : goal.returns-then-all-eq1
 returns-then-all-eq1 c =
