@@ -36,6 +36,7 @@ pub use columns::{head_vars, joint_vars, scan_vars, store_over};
 pub use data_drops::drop_data;
 pub use filling::{add_pattern, is_asked, parts_from};
 pub use finding::{IndexedOperand, MeetingIndex, zones_meeting};
+pub use index::Index;
 pub use joins::join;
 pub use layout::{Operand, Wanted};
 pub use lent::{PatternRef, PieceAsked, PlacedRef};
