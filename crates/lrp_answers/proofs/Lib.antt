@@ -16,3 +16,6 @@ pub mod TextsOrder
 pub mod Few
 pub mod Pauses
 pub mod Given
+pub mod MergeLaws
+pub mod MergedPages
+pub mod PartLaws

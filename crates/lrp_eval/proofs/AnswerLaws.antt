@@ -1,5 +1,5 @@
 -- The last table has exactly the answers.
-use Rattle.std.proofs.Common.{◌≡◌, ◌↔◌, ◌<◌, ◌-◌, ℕ, List, [], ◌∷◌, length, Some, Contains, unwrap_or, option_map, sym, ap, subst, ◌∙◌, map}
+use Rattle.std.proofs.Common.{◌≡◌, ◌↔◌, ◌<◌, ◌-◌, ℕ, List, [], ◌∷◌, length, Some, Contains, unwrap_or, option_map, ap, subst, ◌∙◌, map}
 use Rattle.std.specs.List.{AllByRecursion, AllZip}
 use Rattle.std.specs.FinMap as finite
 use Rattle.lrp_model.specs.Texts.{Text}
@@ -21,16 +21,15 @@ use Rattle.lrp_tables.specs.declared.table.Table.{Table}
 use Rattle.lrp_tables.specs.Columns.{head_times, head_texts}
 use Rattle.lrp_tables.specs.Caps.{InhabitsMoreThan}
 use Rattle.lrp_tables.specs.Tables.{HasAssignment}
-use Rattle.lrp_tables.proofs.Numbers.{texts_known, all_mapped}
+use Rattle.lrp_tables.proofs.Numbers.{texts_known}
 use Rattle.lrp_plan_laws.specs.Settled.{IsSoundPlan}
 use Rattle.lrp_eval.specs.Planned.{IsPlanOf, HasAnswers}
 use Rattle.lrp_eval.specs.Counts.{HasCells}
-use Rattle.lrp_eval.specs.Running.{HasConstants, SameVariables, variables_of, IsLastRun}
+use Rattle.lrp_eval.specs.Running.{SameVariables, variables_of, IsLastRun}
 use Rattle.lrp_eval.proofs.Counted.{many_at}
 use Rattle.lrp_eval.proofs.CellCounts.{table_cells}
-use Rattle.lrp_eval.proofs.Named.{texts_are}
+use Rattle.lrp_eval.proofs.HeadTuples.{tuple_held, tuple_known}
 use Rattle.lrp_eval.proofs.PlanEnds.{last_step}
-use Rattle.lrp_tables.proofs.TupleLaws.{tuple_times, tuple_texts}
 
 -- ---- an answer has values of the kinds of its columns, and its texts are constants
 
@@ -42,7 +41,7 @@ of_kind db q Data (text t) h = tt
 of_kind db q (Named name) (time x) h = h
 of_kind db q (Named name) (text t) h = tt
 
-shape_of : (db : List Relation) (q : Question) (cs : List Column) (ds : List Datum) → AllZip (λ c d. IsOfSort (structure db q) c.sort d) cs ds → HasShape cs ds
+pub shape_of : (db : List Relation) (q : Question) (cs : List Column) (ds : List Datum) → AllZip (λ c d. IsOfSort (structure db q) c.sort d) cs ds → HasShape cs ds
 shape_of db q [] [] h = tt
 shape_of db q [] (d ∷ ds) h = absurd h
 shape_of db q (c ∷ cs) [] h = absurd h
@@ -53,7 +52,7 @@ one_sort planned db q h Time t k = absurd k
 one_sort planned db q h Data t k = h.sorts Data t k
 one_sort planned db q h (Named name) t k = h.sorts (Named name) t k
 
-fits_known : (planned : Steps) (db : List Relation) (q : Question) → IsSoundPlan planned db q → (cs : List Column) (ds : List Datum) → AllZip (λ c d. IsOfSort (structure db q) c.sort d) cs ds → AllByRecursion (Contains (constants db q)) (texts_of ds)
+pub fits_known : (planned : Steps) (db : List Relation) (q : Question) → IsSoundPlan planned db q → (cs : List Column) (ds : List Datum) → AllZip (λ c d. IsOfSort (structure db q) c.sort d) cs ds → AllByRecursion (Contains (constants db q)) (texts_of ds)
 fits_known planned db q p [] [] h = tt
 fits_known planned db q p [] (d ∷ ds) h = absurd h
 fits_known planned db q p (c ∷ cs) [] h = absurd h
@@ -75,24 +74,10 @@ module _ (planned : Steps) (db : List Relation) (q : Question) (p : Plan) (h : I
   ordered : (table.vars.times ≡ head_times q.head) × (table.vars.texts ≡ head_texts q.head)
   ordered = r.run.order last (length planned - 1) at_last (last_step sound_plan).1.kind
 
-  is_table : (tuple : List Datum) → HasShape q.head tuple → HasAssignment table (constants db q) (assignment q.head tuple) ↔ StoreHolds (constants db q) table.store (times_of tuple) (texts_of tuple)
-  is_table tuple k =
-      let a : map (assignment q.head tuple).times table.vars.times ≡ times_of tuple = ap (map (assignment q.head tuple).times) ordered.0 ∙ tuple_times q.head tuple _ h.settled.names k in
-      let b : map (assignment q.head tuple).texts table.vars.texts ≡ texts_of tuple = ap (map (assignment q.head tuple).texts) ordered.1 ∙ tuple_texts q.head tuple _ h.settled.names k in (
-        (λ x. subst (λ l. StoreHolds (constants db q) table.store (times_of tuple) l) b (subst (λ l. StoreHolds (constants db q) table.store l (map (assignment q.head tuple).texts table.vars.texts)) a x)),
-        λ x. subst (λ l. StoreHolds (constants db q) table.store l (map (assignment q.head tuple).texts table.vars.texts)) (sym a) (subst (λ l. StoreHolds (constants db q) table.store (times_of tuple) l) (sym b) x),
-      )
-
-  known : (tuple : List Datum) → HasShape q.head tuple → AllByRecursion (Contains (constants db q)) (texts_of tuple) → HasConstants (constants db q) (variables_of table) (assignment q.head tuple)
-  known tuple k c =
-      let b : map (assignment q.head tuple).texts table.vars.texts ≡ texts_of tuple = ap (map (assignment q.head tuple).texts) ordered.1 ∙ tuple_texts q.head tuple _ h.settled.names k in
-      texts_are (constants db q) table.vars.times table.vars.texts (assignment q.head tuple)
-      ((all_mapped (assignment q.head tuple).texts (Contains (constants db q)) table.vars.texts).0 (subst (λ l. AllByRecursion (Contains (constants db q)) l) (sym b) c))
-
   holds : (tuple : List Datum) → HasShape q.head tuple → AllByRecursion (Contains (constants db q)) (texts_of tuple) → StoreHolds (constants db q) table.store (times_of tuple) (texts_of tuple) ↔ IsAnswer db q tuple
   holds tuple k c =
-      let t = is_table tuple k in
-      let m : HasAssignment table (constants db q) (assignment q.head tuple) ↔ Satisfies (formula_at planned (length planned)) (structure db q) (assignment q.head tuple) = r.run.means (assignment q.head tuple) (known tuple k c) in
+      let t = tuple_held q.head h.settled.names (constants db q) tuple k table ordered.0 ordered.1 in
+      let m : HasAssignment table (constants db q) (assignment q.head tuple) ↔ Satisfies (formula_at planned (length planned)) (structure db q) (assignment q.head tuple) = r.run.means (assignment q.head tuple) (tuple_known q.head h.settled.names (constants db q) tuple k c table.vars.times table.vars.texts ordered.1) in
       let a : Satisfies (formula_at planned (length planned)) (structure db q) (assignment q.head tuple) ↔ IsAnswer db q tuple = sound_plan.answers tuple k c in
       ((λ x. a.0 (m.0 (t.1 x))), λ x. t.0 (m.1 (a.1 x)))
 

@@ -39,7 +39,7 @@ use Rattle.lrp_eval.proofs.CellCounts.{no_fewer}
 
 -- ---- bounds
 
-fewer : {X : Type 0} (n : ℕ) (xs : List X) → length (take n xs) ≤ n
+pub fewer : {X : Type 0} (n : ℕ) (xs : List X) → length (take n xs) ≤ n
 fewer n xs = omega (arith, length-take n xs)
 
 power : (m : ℕ) → m + 1 ≤ 2 ^ (m + 1)

@@ -12,6 +12,8 @@ pub mod SettleLaws
 pub mod SingleLaws
 pub mod StandingLaws
 pub mod AnsweredLaws
+pub mod HeadTuples
+pub mod EndLaws
 pub mod JoinLaws
 pub mod FreeingLaws
 pub mod GrowingLaws

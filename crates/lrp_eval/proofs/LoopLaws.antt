@@ -145,7 +145,7 @@ module _ (planned : Steps) (db : List Relation) (q : Question) (cap : ℕ) where
   pub first_many : (tables : List Table) → AreRun planned db q cap tables → ManyAt planned db q cap (suc (length tables)) → IsFirstMany planned db q cap (suc (length tables))
   first_many tables run m = record { is = m; first = few_below tables run }
 
-  many_in : (o : Option PlanStep) (j : ℕ) → slice_get planned j ≡ o → MatchOption o ⊥ (λ step. ManyCells (structure db q) step.period (constants db q) (step_variables q.head step) step.formula cap) → j < length planned
+  pub many_in : (o : Option PlanStep) (j : ℕ) → slice_get planned j ≡ o → MatchOption o ⊥ (λ step. ManyCells (structure db q) step.period (constants db q) (step_variables q.head step) step.formula cap) → j < length planned
   many_in None j e m = absurd m
   many_in (Some step) j e m = within planned j step e
 

@@ -34,7 +34,7 @@ module _ (z : ZoneView) (valid : IsZone z) where
     antichain = λ l. absurd (omega (arith, one));
   }
 
-alone : (z : ZoneView) → IsZone z → IsSettlement z (z ∷ []) (z ∷ [])
+pub alone : (z : ZoneView) → IsZone z → IsSettlement z (z ∷ []) (z ∷ [])
 alone z valid = by (columns_of z) refl
   where
     by : (n : ℕ) → columns_of z ≡ n → IsSettlement z (z ∷ []) (z ∷ [])

@@ -1,5 +1,5 @@
 -- What the answer of a plan is.
-use Rattle.std.specs.Prelude.{◌≡◌, ◌↔◌, ℕ, ◌*◌, pos, List, length, Contains}
+use Rattle.std.specs.Prelude.{◌≡◌, ◌↔◌, ◌<◌, ◌≤◌, ℕ, ◌*◌, pos, List, length, Contains}
 use Rattle.std.specs.FinMap as finite
 use Rattle.lrp_model.specs.Rows.{Datum}
 use Rattle.lrp_model.specs.Formulas.{Question}
@@ -15,6 +15,7 @@ use Rattle.lrp_zone.specs.Zones.{ZoneView}
 use Rattle.lrp_store.specs.Stores.{zones_at}
 use Rattle.lrp_store.specs.Settled.{AreSettled}
 use Rattle.lrp_store.specs.Tables.{InAnswer}
+use Rattle.lrp_answers.specs.Parts.{IsInSomePart}
 use Rattle.lrp_answers.specs.declared.answer.Answer.{Answer}
 use Rattle.lrp_cutting.specs.Settling.{IsSmallZone}
 use Rattle.lrp_plan_laws.specs.Rising.{period_at}
@@ -29,4 +30,20 @@ pub record IsAnswerOf (planned : Steps) (db : List Relation) (q : Question) (cap
   pub cells : HasCells planned db q (length planned) (finite.len a.store.tables)
   pub settled : (cell : Cell) (z : ZoneView) → Contains (zones_at a.store cell) z → AreSettled z (zones_at a.store cell)
   pub small : (cell : Cell) (z : ZoneView) → Contains (zones_at a.store cell) z → IsSmallZone z (time_count q.head * query_reach planned)
+  pub few : (s : ℕ) → ManyAt planned db q cap s → ⊥
+
+-- ---- answers in parts, each in cells of a period of its own
+
+-- a part has the head and the constants of the query, and its period and bounds are within the last reach as an answer's are
+pub record IsAnswerPart (planned : Steps) (db : List Relation) (q : Question) (part : Answer) : Type 0 where
+  pub head : part.head.columns ≡ q.head
+  pub domain : part.domain ≡ constants db q
+  pub period : part.store.period ≤ query_reach planned
+  pub small : (cell : Cell) (z : ZoneView) → Contains (zones_at part.store cell) z → IsSmallZone z (time_count q.head * query_reach planned)
+
+-- at least one part; together they have just the answers of the query, and no step has more than cap cells
+pub record AreAnswersInParts (planned : Steps) (db : List Relation) (q : Question) (cap : ℕ) (parts : List Answer) : Type 0 where
+  pub some : 0 < length parts
+  pub each : (part : Answer) → Contains parts part → IsAnswerPart planned db q part
+  pub answers : (tuple : List Datum) → IsInSomePart parts tuple ↔ IsAnswer db q tuple
   pub few : (s : ℕ) → ManyAt planned db q cap s → ⊥

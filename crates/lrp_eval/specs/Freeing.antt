@@ -16,7 +16,7 @@ AreNoted steps count readers = (j s r : ℕ) (step : Step) → j < count → sli
 abbrev pub AreLastReaders : List Step → List ℕ → Type 0
 AreLastReaders steps readers = AreNoted steps (length steps) readers
 
--- the table at place i is not the last of so many, and its last reader is one of the first steps
+-- of this number of tables the one at place i is not the last, and its last reader is one of their steps
 pub record IsDone (readers : List ℕ) (count i : ℕ) : Type 0 where
   pub before : suc i < count
   pub reader : ℕ

@@ -34,7 +34,7 @@ pub record IsStepInParts (planned : Steps) (db : List Relation) (q : Question) (
   pub means : (env : Assignment) → HasConstants (constants db q) (named_variables (part_times parts) (part_texts parts)) env → HasSome (constants db q) parts env ↔ Satisfies (formula_at planned s) (structure db q) env
   pub other : (step : PlanStep) (of : ℕ) → step_at planned s ≡ Some step → step.kind ≡ Extend of → ⊥
 
--- the steps after so many have these parts, and none has more than cap cells
+-- the steps after the first ones, by their number, have these parts, and none has more than cap cells
 pub record AreStepsInParts (planned : Steps) (db : List Relation) (q : Question) (cap count : ℕ) (made : List (List Table)) : Type 0 where
   pub each : (j : ℕ) (parts : List Table) → slice_get made j ≡ Some parts → IsStepInParts planned db q (suc (count + j)) parts
   pub few : (s : ℕ) → count < s → s ≤ count + length made → ManyAt planned db q cap s → ⊥

@@ -14,7 +14,7 @@ use Rattle.lrp_eval.specs.Planned.{IsPlanOf}
 use Rattle.lrp_eval.specs.Running.{AreRun, IsNext, IsRunResult}
 use Rattle.lrp_eval.specs.declared.growing.Growth.{Growth}
 
--- the step after so many is a union of two steps, of which no later one reads the left
+-- the step after this number of others is a union of two steps, of which no later one reads the left
 pub record IsGrowth (step : Step) (readers : List ℕ) (count : ℕ) (growth : Growth) : Type 0 where
   pub kind : step.kind ≡ Union growth.left growth.right
   pub apart : growth.left ≢ growth.right

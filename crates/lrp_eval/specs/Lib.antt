@@ -4,6 +4,7 @@
 pub mod Counts
 -- What contracts of single functions need beside.
 pub mod Answered
+pub mod Ending
 pub mod Planned
 pub mod Running
 pub mod Settling

@@ -85,8 +85,8 @@ pub fn run_steps(
     Ok(last_of(tables))
 }
 
-// The tables with those of the next step, or of some next steps that are run together.
-fn run_next(
+/// The tables with those of the next step, or of some next steps that are run together.
+pub(crate) fn run_next(
     setting: &Setting<'_>,
     database: &Database,
     plan: &Plan,
@@ -173,8 +173,8 @@ fn run_one(
     Ok(give_up(setting.alloc, kind, readers, tables))
 }
 
-// The last of the tables.
-fn last_of(tables: List<Table>) -> Table
+/// The last of the tables.
+pub(crate) fn last_of(tables: List<Table>) -> Table
     requires { 0 < length tables }
     ensures last { (front : ListOf TableOf) × (tables ≡ front ++ result ∷ []) }
     ensures valid { IsStore result.store }
@@ -188,7 +188,7 @@ fn last_of(tables: List<Table>) -> Table
     }
 }
 
-// The fault of the step after so many tables.
+// The fault of the step after these tables, by their number.
 fn fault_after(tables: usize, fault: StepFault) -> EvalFault
     ensures { (step : ℕ) → result ≡ EvalFault.TooManyCells step → (fault ≡ too_many)
         × (step ≡ suc tables) }

@@ -185,7 +185,7 @@ fn taken_from(step: &Step, right: usize) -> Option<u32>
     }
 }
 
-/// Whether so many steps from this place on are read by no step after the one that follows them.
+/// Whether no step of a number of them from this place on is read after the one that follows them.
 pub(crate) fn are_passed(readers: &[usize], at: usize, count: usize) -> bool
     requires { at + count < 2 ^ 63 }
     ensures { IsTrue result → ArePassed readers.now at count }

@@ -1,7 +1,7 @@
 // Groups of steps whose tables are held in parts, each part of a period of its own.
-ghost use Rattle.std.specs.Prelude.{◌≡◌, ◌+◌, ◌<◌, ◌≤◌, ◌^◌, ◌∷◌, [], IfOk, IfSome, IsTrue, length, pos};
+ghost use Rattle.std.specs.Prelude.{◌≡◌, ◌+◌, ◌<◌, ◌≤◌, ◌∷◌, [], IfOk, IfSome, IsTrue, length, pos};
 ghost use Rattle.lrp_tables.specs.declared.table.Table.{Table as TableOf};
-ghost use Rattle.lrp_eval.specs.Grouped.{AreFewParts, AreStepsGrouped, AreHeld, ArePartsAt, CanBeWhole, CanRunGroup, HaveFew, IsPartAlone, IsGroupRun, IsGroupHeld, IsNextStep, IsOnePart, IsSmallStep, IsWholeTable, next_step_number};
+ghost use Rattle.lrp_eval.specs.Grouped.{AreStepsGrouped, AreHeld, ArePartsAt, CanBeWhole, CanRunGroup, HaveFew, IsPartAlone, IsGroupRun, IsGroupHeld, IsNextStep, IsOnePart, IsSmallStep, IsWholeTable, next_step_number};
 ghost use Rattle.lrp_eval.specs.Running.{AreRunBySome};
 ghost use Rattle.lrp_eval.specs.Together.{AreInside, ArePassed};
 
@@ -100,17 +100,22 @@ fn run_group(setting: &Setting<'_>, group: &Group<'_>) -> Result<Together, Parts
             }
         }
         let parts = step_in_parts(setting, group, &made, step)?;
-        let last = count - place <= 2 || is_complement(step);
-        if can_end && (last || is_cheap(setting, parts.as_slice(), step)) {
+        if can_end && (count - place <= 2 || is_complement(step)) {
             return ended(setting, group, &made, parts, step);
         }
-        made = with_next(setting, group, made, parts, step)?;
+        let Some(bound) = bound_of(setting, parts.as_slice(), step) else {
+            return Err(PartsFault::GivenUp);
+        };
+        if can_end && is_cheap(parts.as_slice(), bound) {
+            return ended(setting, group, &made, parts, step);
+        }
+        made.push(parts)?;
     }
     Err(PartsFault::GivenUp)
 }
 
-// The step at a place, where its period is small.
-fn small_step<'a>(group: &Group<'a>, place: usize) -> Result<&'a Step, PartsFault>
+/// The step at a place, where its period is small.
+pub(crate) fn small_step<'a>(group: &Group<'a>, place: usize) -> Result<&'a Step, PartsFault>
     requires { place < length group.now.plan.now.steps }
     ensures { IfOk result (λ step. IsSmallStep group.now place step.now) }
 {
@@ -121,7 +126,7 @@ fn small_step<'a>(group: &Group<'a>, place: usize) -> Result<&'a Step, PartsFaul
     Ok(step)
 }
 
-// Whether no later step reads one of so many steps of the group.
+// Whether no step after the next one reads one of the group's first steps, by their number.
 fn is_end(group: &Group<'_>, count: usize) -> bool
     ensures { IsTrue result → ArePassed group.now.readers.now (length group.now.tables.now) count }
 {
@@ -132,14 +137,9 @@ fn is_end(group: &Group<'_>, count: usize) -> bool
     are_passed(group.readers, at, count)
 }
 
-// Whether the whole table has few cells more than its parts.
-fn is_cheap(setting: &Setting<'_>, parts: &[Table], step: &Step) -> bool
-    requires { CanBeWhole setting.now.domain.now step.now.period parts.now }
-{
-    match bound_of(setting, parts, step) {
-        Some(cells) => u64::from(cells) / 2 <= cells_of(parts),
-        None => false,
-    }
+// Whether the whole table, which has no more cells than the bound, has few more than its parts.
+fn is_cheap(parts: &[Table], bound: u32) -> bool {
+    u64::from(bound) / 2 <= cells_of(parts)
 }
 
 // How many cells the parts have.
@@ -151,8 +151,8 @@ fn cells_of(parts: &[Table]) -> u64 {
     cells
 }
 
-// A number of cells of the step's period than which the parts have no more, where it is not above the cap.
-fn bound_of(setting: &Setting<'_>, parts: &[Table], step: &Step) -> Option<u32>
+/// A number of cells of the step's period than which the parts have no more, where it is not above the cap.
+pub(crate) fn bound_of(setting: &Setting<'_>, parts: &[Table], step: &Step) -> Option<u32>
     requires { CanBeWhole setting.now.domain.now step.now.period parts.now }
     ensures { IfSome result (λ _. HaveFew setting.now.cap setting.now.domain.now step.now.period
         parts.now) }
@@ -213,42 +213,6 @@ fn ended_by_sieve(
             between: made.len(),
             table,
         })),
-        None => Err(PartsFault::GivenUp),
-    }
-}
-
-// The group with the parts of its next step, which has no more than the cap's number of cells.
-fn with_next(
-    setting: &Setting<'_>,
-    group: &Group<'_>,
-    mut made: List<List<Table>>,
-    parts: List<Table>,
-    step: &Step,
-) -> Result<List<List<Table>>, PartsFault>
-    requires group { CanRunGroup setting.now.cap setting.now.domain.now group.now }
-    requires made { AreHeld setting.now.cap group.now made }
-    requires step { IsNextStep group.now made step.now }
-    requires parts { IsGroupHeld setting.now.cap group.now (next_step_number group.now made) parts }
-    ensures held { IfOk result (AreHeld setting.now.cap group.now) }
-    ensures count { IfOk result (λ new. length new ≡ length made + 1) }
-{
-    let parts = within_cap(setting, parts, step)?;
-    made.push(parts)?;
-    Ok(made)
-}
-
-// The parts, where they have no more than the cap's number of cells: only where the bound doesn't show it they are made whole.
-fn within_cap(
-    setting: &Setting<'_>,
-    parts: List<Table>,
-    step: &Step,
-) -> Result<List<Table>, PartsFault>
-    requires { CanBeWhole setting.now.domain.now step.now.period parts }
-    ensures { IfOk result (AreFewParts setting.now.cap setting.now.domain.now step.now.period
-        parts) }
-{
-    match bound_of(setting, parts.as_slice(), step) {
-        Some(_) => Ok(parts),
         None => Err(PartsFault::GivenUp),
     }
 }
@@ -337,8 +301,8 @@ fn parts_of<'a>(
     Ok(&group.tables[place..place + 1])
 }
 
-// The parts of the next step of the group, by those of the steps that it reads.
-fn step_in_parts(
+/// The parts of the next step of the group, by those of the steps that it reads.
+pub(crate) fn step_in_parts(
     setting: &Setting<'_>,
     group: &Group<'_>,
     made: &List<List<Table>>,

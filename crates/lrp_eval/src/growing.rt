@@ -40,7 +40,7 @@ pub(crate) fn run_growing(
     }
 }
 
-// The steps that the step after so many reads, if it is a union and no step after it reads the left one.
+// The steps that the step reads after this number of others, if it is a union and no later one reads the left.
 fn growth_of(step: &Step, readers: &[usize], count: usize) -> Option<Growth>
     ensures { IfSome result (IsGrowth step.now readers.now count) }
 {

@@ -22,8 +22,8 @@ pub(crate) fn is_headed(tables: &[Table], head: &Head, step: &Step) -> bool
     has_columns(head.columns.as_slice(), times, texts)
 }
 
-// Whether these are the names of the time columns and of the data columns, in order.
-fn has_columns(columns: &[Column], times: &[Name], texts: &[Name]) -> bool
+/// Whether these are the names of the time columns and of the data columns, in order.
+pub(crate) fn has_columns(columns: &[Column], times: &[Name], texts: &[Name]) -> bool
     ensures times { IsTrue result → times.now ≡ head_times columns.now }
     ensures texts { IsTrue result → texts.now ≡ head_texts columns.now }
 {

@@ -3,6 +3,7 @@
 
 mod answering;
 mod complementing;
+mod endings;
 mod evaluation;
 mod following;
 mod freeing;
@@ -17,6 +18,6 @@ mod sorting;
 mod together;
 mod worth;
 
-pub use answering::answer;
+pub use answering::{answer, answer_in_parts};
 pub use evaluation::{EvalFault, run_steps};
 pub use laws::{counts_are_unique, whole_pages_count_answers};

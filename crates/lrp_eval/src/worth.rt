@@ -7,13 +7,16 @@ use lrp_model::{Plan, Relation, Row, Step, StepKind, Value};
 use lrp_tables::Table;
 use std::alloc::Global;
 
-// Rows are worth parts of their own where in cells of the step's period they have so many times more.
+// Rows are worth parts of their own where they have at least 24 times as many cells of the step's period.
 const RATIO: u64 = 24;
 
 // The most periods that rows may have.
 const PERIODS: usize = 16;
 
-// A step in parts may have so many cells, and so many times those that the scans have in cells of their steps' periods.
+// The most steps that are weighed up to the plan's end, since each of them is weighed anew after each table.
+const STEPS: usize = 16;
+
+// A step in parts may have 2,048 cells, and eight times those that the scans have in cells of their steps' periods.
 const FREE: u64 = 2048;
 
 const TIMES: u64 = 8;
@@ -23,6 +26,13 @@ const TIMES: u64 = 8;
 struct Scanned {
     rows: u64,
     cells: u64,
+}
+
+// What the steps up to the plan's end are made of, and how many cells they copy as they are made in parts.
+#[derive(Clone, Copy)]
+struct Weighed {
+    scanned: Scanned,
+    copied: u64,
 }
 
 /// How many cells each of the next steps may have as it is made in parts, where they begin with a scan and are worth it.
@@ -50,6 +60,108 @@ pub(crate) fn most_in_parts(
         scanned = with_scan(alloc, database, step, scanned)?;
     }
     most_cells(scanned, cap)
+}
+
+/// How many cells each of the steps up to the plan's end may have as it is made in parts, where that is worth it.
+///
+/// The first of them is a scan or a union, no complement or difference is among them, and what they scan and unite has far
+/// fewer cells in periods of its own than in the steps' periods.
+pub(crate) fn most_to_end(
+    alloc: Global,
+    database: &Database,
+    plan: &Plan,
+    tables: &[Table],
+    cap: u32,
+) -> Option<u32> {
+    let steps = plan.steps.as_slice();
+    let at = tables.len();
+    if at >= steps.len() || steps.len() - at < 2 || !begins_parts(&steps[at]) {
+        return None;
+    }
+    if !is_short_end(&steps[at..]) {
+        return None;
+    }
+    let mut weighed = Weighed {
+        scanned: Scanned { rows: 0, cells: 0 },
+        copied: 0,
+    };
+    for place in at..steps.len() - 1 {
+        weighed = with_step(alloc, database, tables, &steps[place], weighed)?;
+    }
+    if weighed.scanned.cells / RATIO < weighed.copied {
+        return None;
+    }
+    most_cells(weighed.scanned, cap)
+}
+
+// Whether these steps up to the plan's end are few, and the last one's period is long enough for parts.
+fn is_short_end(steps: &[Step]) -> bool {
+    match steps.last() {
+        Some(last) => steps.len() <= STEPS && last.period.unsigned_abs() >= RATIO,
+        None => false,
+    }
+}
+
+// Whether the step puts rows or tables side by side.
+fn begins_parts(step: &Step) -> bool {
+    matches!(&step.kind, StepKind::Scan { .. } | StepKind::Union { .. })
+}
+
+// With what the step scans, or unites of these tables. `None` where it can't be worth it.
+fn with_step(
+    alloc: Global,
+    database: &Database,
+    tables: &[Table],
+    step: &Step,
+    weighed: Weighed,
+) -> Option<Weighed> {
+    let period = step.period.unsigned_abs();
+    let (first, second) = operands_of(&step.kind);
+    let scanned = match &step.kind {
+        StepKind::Scan { relation, .. } => {
+            with_rows(alloc, database.relation(relation)?, period, weighed.scanned)?
+        }
+        StepKind::Union { .. } => {
+            let left = with_table(tables, first, period, weighed.scanned);
+            with_table(tables, second, period, left)
+        }
+        StepKind::Minus { .. } | StepKind::Complement { .. } | StepKind::Extend { .. } => {
+            return None;
+        }
+        _ => weighed.scanned,
+    };
+    let read = cells_at(tables, first).saturating_add(cells_at(tables, second));
+    Some(Weighed {
+        scanned,
+        copied: weighed
+            .copied
+            .saturating_add(scanned.rows)
+            .saturating_add(read),
+    })
+}
+
+// How many cells the table of a number has, if it is one of these.
+fn cells_at(tables: &[Table], number: u32) -> u64 {
+    let place = number as usize;
+    if place == 0 || place > tables.len() {
+        return 0;
+    }
+    u64::from(tables[place - 1].store.len())
+}
+
+// With the cells of the table of a number, if it is one of these.
+fn with_table(tables: &[Table], number: u32, period: u64, scanned: Scanned) -> Scanned {
+    let place = number as usize;
+    if place == 0 || place > tables.len() {
+        return scanned;
+    }
+    let store = &tables[place - 1].store;
+    let cells = u64::from(store.len());
+    let times = period / store.period().unsigned_abs().max(1);
+    Scanned {
+        rows: scanned.rows.saturating_add(cells),
+        cells: scanned.cells.saturating_add(cells.saturating_mul(times)),
+    }
 }
 
 // Whether a scan is at this place, and more than one step comes after it.
@@ -100,14 +212,21 @@ fn with_scan(alloc: Global, database: &Database, step: &Step, scanned: Scanned) 
         return Some(scanned);
     };
     let relation = database.relation(relation)?;
-    let rows = relation.rows.len() as u64;
-    let cells = cells_of(relation, step.period.unsigned_abs());
-    if cells / RATIO < rows || !has_few_periods(alloc, relation) {
+    let period = step.period.unsigned_abs();
+    if cells_of(relation, period) / RATIO < relation.rows.len() as u64 {
+        return None;
+    }
+    with_rows(alloc, relation, period, scanned)
+}
+
+// With the rows and cells of a relation. `None` where its rows have many periods.
+fn with_rows(alloc: Global, relation: &Relation, period: u64, scanned: Scanned) -> Option<Scanned> {
+    if !has_few_periods(alloc, relation) {
         return None;
     }
     Some(Scanned {
-        rows: scanned.rows.saturating_add(rows),
-        cells: scanned.cells.saturating_add(cells),
+        rows: scanned.rows.saturating_add(relation.rows.len() as u64),
+        cells: scanned.cells.saturating_add(cells_of(relation, period)),
     })
 }
 
@@ -188,7 +307,7 @@ fn most_before(complement: &Step, scanned: Scanned, cap: u32) -> Option<u32> {
     most_cells(scanned, cap)
 }
 
-// How many cells each step may have: as many as the scans have, some times, but fewer than would be more than the cap if each
+// How many cells each step may have: eight times those of the scans and some, but fewer than would be more than the cap if each
 // stood for as many cells of the step's period as the scans' do.
 fn most_cells(scanned: Scanned, cap: u32) -> Option<u32> {
     let Scanned { rows, cells } = scanned;

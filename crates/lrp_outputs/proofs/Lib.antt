@@ -5,3 +5,4 @@ mod RangeTexts
 mod RoomLemmas
 pub mod SmallAnswers
 pub mod Spots
+pub mod PartLeasts

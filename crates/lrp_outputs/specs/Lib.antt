@@ -10,6 +10,7 @@ pub mod SampleLines
 pub mod Statuses
 pub mod Spots
 pub mod SmallAnswers
+pub mod PartLeasts
 pub mod Outputs
 pub mod Known
 -- What functions inside say to one another.

@@ -13,6 +13,7 @@ pub mod Listed
 pub mod Lists
 pub mod KeepingLemmas
 pub mod PagingLemmas
+pub mod PartLemmas
 pub mod Plannable
 pub mod QuestionLemmas
 pub mod ReadingLemmas

@@ -16,6 +16,7 @@ pub mod Due
 pub mod Languages
 -- What is promised of databases that are read once, and of questions to them.
 pub mod Questions
+pub mod Parts
 pub mod Keeping
 -- What functions inside say to one another.
 pub mod Lengths

@@ -1,6 +1,8 @@
 // What a question is asked for: its plan, its answers, its least answer or a page.
 ghost use Rattle.std.specs.Prelude.{◌≡◌, false, true, IfOk, List, ℕ};
-ghost use Rattle.lrp_eval.specs.Answered.{IsAnswerOf};
+ghost use Rattle.std.specs.List.{AllByRecursion};
+ghost use Rattle.lrp_answers.specs.Parts.{AreAlike};
+ghost use Rattle.lrp_eval.specs.Answered.{AreAnswersInParts, IsAnswerOf};
 ghost use Rattle.lrp_model.specs.DataTexts.{IsDomain};
 ghost use Rattle.lrp_model.specs.Formulas.{Question as Queried, question_of};
 ghost use Rattle.lrp_model.specs.Names.{IsName};
@@ -24,10 +26,10 @@ use crate::question::Question;
 use lrp_answer_text::answers_are_texts;
 use lrp_answers::Answer;
 use lrp_canon::canonical_within;
-use lrp_eval::{EvalFault, answer};
-use lrp_model::{Memory, Name};
+use lrp_eval::{EvalFault, answer, answer_in_parts};
+use lrp_model::{List, Memory, Name};
 use lrp_outputs::{
-    Output, Refusal, WholeAnswer, Witness, WritablePlan, small_answers_have_room,
+    Output, Refusal, WholeAnswer, Witness, WritablePlan, least_of_parts, small_answers_have_room,
     spots_stand_for_tuples,
 };
 use lrp_theory::floors_keep_bounds;
@@ -72,6 +74,31 @@ pub fn answers(alloc: Global, question: &Question, cap: u32) -> Result<Answer, R
         Ok(answer) => {
             small_answers_have_room();
             Ok(answer)
+        }
+        Err(EvalFault::TooManyCells { step }) => Err(Refusal::Cells { cap, step }),
+        Err(EvalFault::Memory) => Err(Refusal::Memory),
+    }
+}
+
+/// The same answers in parts, each of which may have a period of its own. They are refused at the same step.
+pub fn answers_in_parts(
+    alloc: Global,
+    question: &Question,
+    cap: u32,
+) -> Result<List<Answer>, Refusal>
+    requires ready { IsReady question.now }
+    ensures counted { IsCounted question.now.planning question.now.database.relations
+        (question_of question.now.query.query) cap (done_as result) }
+    ensures answers { IfOk result (AreAnswersInParts (question_steps question.now)
+        question.now.database.relations (question_of question.now.query.query) cap) }
+    ensures alike { IfOk result AreAlike }
+    ensures room { IfOk result (AllByRecursion (λ part. HasRoom part.store)) }
+    ensures domains { IfOk result (AllByRecursion (λ part. IsDomain part.domain)) }
+{
+    match answer_in_parts(alloc, &question.plan, &question.database.relations, cap) {
+        Ok(parts) => {
+            small_answers_have_room();
+            Ok(parts)
         }
         Err(EvalFault::TooManyCells { step }) => Err(Refusal::Cells { cap, step }),
         Err(EvalFault::Memory) => Err(Refusal::Memory),
@@ -190,8 +217,8 @@ pub fn witness(alloc: Global, question: &Question, cap: u32, dates: bool) -> Res
     ensures due { IsDecided question.now.planning dates cap (database_source question.now.database)
         (query_source question.now.query) question.now.plan (told result) }
 {
-    match answers(alloc, question, cap) {
-        Ok(answer) => Ok(Output::Witness(least_of(answer, dates))),
+    match answers_in_parts(alloc, question, cap) {
+        Ok(parts) => Ok(Output::Witness(least_of_parts(parts, dates))),
         Err(refusal) => Err(refusal),
     }
 }

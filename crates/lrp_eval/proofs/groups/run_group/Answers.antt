@@ -1,9 +1,10 @@
 -- One step of the group more, or the last one.
-use Rattle.std.proofs.Common.{◌≡◌, List, [], length, sym, ap, subst, arith}
+use Rattle.std.proofs.Common.{◌≡◌, ◌+◌, List, [], length, refl, sym, ap, subst, ◌∙◌, arith}
 use Rattle.lrp_tables.specs.declared.table.Table.{Table}
-use Rattle.lrp_eval.specs.Grouped.{AreStepsInParts, CanBeWhole, IsSmallStep}
-use Rattle.lrp_eval.proofs.GroupLaws.{none_held}
-use Rattle.lrp_eval.proofs.GroupSteps.{held_whole}
+use Rattle.lrp_eval.specs.Grouped.{AreHeld, AreStepsInParts, CanBeWhole, HaveFew, IsSmallStep}
+use Rattle.lrp_eval.proofs.GroupLaws.{none_held, own_few}
+use Rattle.lrp_eval.proofs.GroupSteps.{held_whole, next_makes}
+use Rattle.lrp_eval.proofs.LoopLaws.{more_count}
 use Rattle.lrp_eval.proofs.groups.run_group.Goals as goal
 
 pub loop-place-init : goal.loop-place-init
@@ -17,13 +18,24 @@ loop-place-init c =
 pub step_in_parts-requires-clause-step : goal.step_in_parts-requires-clause-step
 step_in_parts-requires-clause-step c = subst (λ i. IsSmallStep c.args.group.now i c.in_ok-step.step.now) (sym c.loop-place.invariant.count) c.in_ok-step.ensures
 
-pub is_cheap-requires : goal.is_cheap-requires
-is_cheap-requires c =
-    let next = subst (λ i. IsSmallStep c.args.group.now i c.in_ok-step.step.now) (sym c.loop-place.invariant.count) c.in_ok-step.ensures in
-    subst (λ (ps : List Table). CanBeWhole c.args.setting.now.domain.now c.in_ok-step.step.now.period ps) (sym c.as_slice.ensures) (held_whole c.requires c.loop-place.invariant.held next c.in_ok-parts.parts c.in_ok-parts.ensures)
-
 pub ended-requires-clause-step : goal.ended-requires-clause-step
 ended-requires-clause-step c = subst (λ i. IsSmallStep c.args.group.now i c.in_ok-step.step.now) (sym c.loop-place.invariant.count) c.in_ok-step.ensures
 
-pub with_next-requires-clause-step : goal.with_next-requires-clause-step
-with_next-requires-clause-step c = subst (λ i. IsSmallStep c.args.group.now i c.in_ok-step.step.now) (sym c.loop-place.invariant.count) c.in_ok-step.ensures
+pub bound_of-requires : goal.bound_of-requires
+bound_of-requires c =
+    let next = subst (λ i. IsSmallStep c.args.group.now i c.in_ok-step.step.now) (sym c.loop-place.invariant.count) c.in_ok-step.ensures in
+    subst (λ (ps : List Table). CanBeWhole c.args.setting.now.domain.now c.in_ok-step.step.now.period ps) (sym c.as_slice.ensures) (held_whole c.requires c.loop-place.invariant.held next c.in_ok-parts.parts c.in_ok-parts.ensures)
+
+pub ended-requires-then-is_cheap-clause-step : goal.ended-requires-then-is_cheap-clause-step
+ended-requires-then-is_cheap-clause-step c = subst (λ i. IsSmallStep c.args.group.now i c.in_ok-step.step.now) (sym c.loop-place.invariant.count) c.in_ok-step.ensures
+
+pub loop-place-preserved : goal.loop-place-preserved
+loop-place-preserved c =
+    let next = subst (λ i. IsSmallStep c.args.group.now i c.in_ok-step.step.now) (sym c.loop-place.invariant.count) c.in_ok-step.ensures in
+    let whole : CanBeWhole c.args.setting.now.domain.now c.in_ok-step.step.now.period c.in_ok-parts.parts = held_whole c.requires c.loop-place.invariant.held next c.in_ok-parts.parts c.in_ok-parts.ensures in
+    let few : HaveFew c.args.setting.now.cap c.args.setting.now.domain.now c.in_ok-step.step.now.period c.in_ok-parts.parts = subst (λ (ps : List Table). HaveFew c.args.setting.now.cap c.args.setting.now.domain.now c.in_ok-step.step.now.period ps) c.as_slice.ensures c.in-Some-bound_of.ensures in
+    record {
+      held = subst (λ (ms : List (List Table)). AreHeld c.args.setting.now.cap c.args.group.now ms) (sym c.in_ok-push.ensures.ok)
+          (next_makes c.requires c.loop-place.invariant.held next c.in_ok-parts.parts c.in_ok-parts.parts c.in_ok-parts.ensures (own_few c.args.setting.now.cap c.args.setting.now.domain.now c.in_ok-step.step.now.period c.in_ok-parts.parts whole few));
+      count = (let e : length c.push.new.self ≡ length c.loop-place.made + 1 = ap (λ (ms : List (List Table)). length ms) c.in_ok-push.ensures.ok ∙ more_count c.loop-place.made c.in_ok-parts.parts (length c.loop-place.made) refl in let k = c.loop-place.invariant.count in omega (arith, e, k));
+    }

@@ -1,5 +1,5 @@
 -- What was given is the page, and it can be written.
-use Rattle.std.proofs.Common.{◌≡◌, subst, ◌∙◌}
+use Rattle.std.proofs.Common.{subst, ◌∙◌}
 use Rattle.std.specs.List.{AllByRecursion}
 use Rattle.lrp_answers.specs.Listing.{WindowView, window_of}
 use Rattle.lrp_answers.specs.Standing.{IsStanding}
@@ -13,6 +13,9 @@ returns-clause-page g c =
     let p = c.args.paging.now in
     page_given c.listings_are_pages.ensures (window_of c.args.answer.now p.from p.to) _ _ _ _ _ c.in_ok-taken.taken.spots p.limit c.more-more.result c.in_ok-lister.ensures.window c.in_ok-taken.ensures.window c.in_ok-lister.ensures.position
     c.in_ok-taken.ensures.gives c.in_ok-taken.ensures.few c.in_ok-taken.ensures.full c.more-more.ensures.more
+
+pub returns-clause-standing : goal.returns-clause-standing
+returns-clause-standing g c = subst (λ (w : WindowView). AllByRecursion (IsStanding w) c.in_ok-taken.taken.spots) c.in_ok-lister.ensures.window c.in_ok-taken.ensures.standing
 
 pub returns-clause-known : goal.returns-clause-known
 returns-clause-known g c =

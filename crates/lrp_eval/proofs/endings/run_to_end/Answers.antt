@@ -1,0 +1,5 @@
+-- What the run up to the plan's end says.
+use Rattle.lrp_eval.proofs.endings.run_to_end.Goals as goal
+
+pub run_last-requires : goal.run_last-requires
+run_last-requires c = record { domain_is = c.requires.domain; run = c.requires.plan }
