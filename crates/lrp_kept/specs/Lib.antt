@@ -18,3 +18,4 @@ pub mod Keyed
 pub mod Sketches
 pub mod Features
 pub mod Passing
+pub mod TimeWindows

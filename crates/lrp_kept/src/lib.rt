@@ -14,6 +14,7 @@ mod rows;
 mod signs;
 mod sketches;
 mod spans;
+mod windows;
 
 pub use disjuncts::{Disjunct, JoinedAtom, disjuncts_of};
 pub use equal_rows::are_equal;
@@ -24,3 +25,4 @@ pub use limits::{is_read, scaled_reach, tested_period, with_bounds, with_periods
 pub use outlines::Outline;
 pub use passing::PlacedTest;
 pub use rows::{HeldRelation, HeldRow, HeldRows, Sketch};
+pub use windows::TimeWindow;

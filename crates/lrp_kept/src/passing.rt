@@ -63,9 +63,9 @@ impl Outline {
     }
 }
 
-// A term of times, by the place of its variable.
+/// A term of times, by the place of its variable.
 #[derive(Clone, Copy)]
-enum PlacedTerm {
+pub(crate) enum PlacedTerm {
     At { place: usize, plus: i64 },
     Int { value: i64 },
 }
@@ -73,9 +73,9 @@ enum PlacedTerm {
 /// A comparison of times, by the places of its variables.
 #[derive(Clone, Copy)]
 pub struct PlacedTest {
-    left: PlacedTerm,
-    op: Op,
-    right: PlacedTerm,
+    pub(crate) left: PlacedTerm,
+    pub(crate) op: Op,
+    pub(crate) right: PlacedTerm,
 }
 
 impl PlacedTest {
@@ -140,11 +140,11 @@ fn placed(term: &TimeTerm, times: &List<Name>) -> Option<PlacedTerm>
     }
 }
 
-// Spans of which the times are in both at each place.
+/// Spans of which the times are in both at each place.
 #[derive(Clone, Copy)]
-struct TwoSpans<'a> {
-    own: &'a [ColumnSpan; 8],
-    other: &'a [ColumnSpan; 8],
+pub(crate) struct TwoSpans<'a> {
+    pub(crate) own: &'a [ColumnSpan; 8],
+    pub(crate) other: &'a [ColumnSpan; 8],
 }
 
 impl<'a> TwoSpans<'a> {
@@ -174,8 +174,8 @@ impl<'a> TwoSpans<'a> {
         }
     }
 
-    // The least value that a term can have, if one is known.
-    fn least_of(&self, term: PlacedTerm) -> Option<i128>
+    /// The least value that a term can have, if one is known.
+    pub(crate) fn least_of(&self, term: PlacedTerm) -> Option<i128>
         requires own { length self.now.own.now ≡ 8 }
         requires other { length self.now.other.now ≡ 8 }
         ensures { (xs : ℕ → ℤ) → AreInSpans self.now.own.now xs → AreInSpans self.now.other.now xs
@@ -200,8 +200,8 @@ impl<'a> TwoSpans<'a> {
         least_sum(least, plus)
     }
 
-    // The greatest value that a term can have, if one is known.
-    fn greatest_of(&self, term: PlacedTerm) -> Option<i128>
+    /// The greatest value that a term can have, if one is known.
+    pub(crate) fn greatest_of(&self, term: PlacedTerm) -> Option<i128>
         requires own { length self.now.own.now ≡ 8 }
         requires other { length self.now.other.now ≡ 8 }
         ensures { (xs : ℕ → ℤ) → AreInSpans self.now.own.now xs → AreInSpans self.now.other.now xs

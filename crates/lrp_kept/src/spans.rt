@@ -160,8 +160,8 @@ fn residue_in(point: &Point, period: u64) -> Option<u64>
     Some(remainder(point.offset(), period))
 }
 
-// Whether a greatest integer is below a least one.
-fn is_below(most: Option<i64>, least: Option<i64>) -> bool
+/// Whether a greatest integer is below a least one.
+pub(crate) fn is_below(most: Option<i64>, least: Option<i64>) -> bool
     ensures { result ≡ true → (x : ℤ) → IsAtMost most x → IsAtLeast least x → ⊥ }
 {
     match most {

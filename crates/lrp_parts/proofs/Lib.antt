@@ -24,3 +24,4 @@ pub mod Firsts
 pub mod Candidates
 pub mod Indexing
 pub mod Fronting
+pub mod Lining

@@ -8,3 +8,4 @@ pub mod Patterns
 pub mod Conjunctions
 pub mod Indexes
 pub mod Fronts
+pub mod Lines

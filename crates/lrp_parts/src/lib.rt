@@ -7,6 +7,7 @@ mod derivation;
 mod fronts;
 mod heads;
 mod indexes;
+mod lines;
 mod parts;
 mod patterns;
 
