@@ -7,9 +7,9 @@ use Rattle.lrp_model.specs.RawQueries.{RawDefinitionView, RawFileView, RawForm, 
 use Rattle.lrp_model.specs.declared.raw.RawColumn.{RawColumn}
 use Rattle.lrp_model.specs.declared.relations.Relation.{Relation}
 use Rattle.lrp_tense.specs.Expanding.{expanded_question}
-use Rattle.lrp_wide.specs.Counts.{file_numbers}
+use Rattle.lrp_wide.specs.Counts.{file_numbers, stopped_counts}
 use Rattle.lrp_wide.specs.Inlining.{Counted, Known, UseSetting, counted_from, counted_in, expanded_file, inlined, known_of, own_setting, plain_definition}
-use Rattle.lrp_wide.specs.Inside.{AreWrittenBy}
+use Rattle.lrp_wide.specs.Inside.{AreOwnNumbers, AreWrittenBy}
 use Rattle.lrp_wide.specs.Settings.{setting_of}
 use Rattle.lrp_wide.specs.declared.inlining.Written.{Written}
 use Rattle.lrp_wide.proofs.InlineKnown.{known-length}
@@ -33,7 +33,7 @@ module _ (w : Written) (f : RawFileView) (h : AreWrittenBy w f) where
 
   -- what is made of the query beside all definitions
   pub file-is : (db : List Relation) (q made : RawQuestion) (numbers : Option (Bor (List Counted))) (before : ℕ) → q ≡ expanded_question f.query → db ≡ w.definitions.now.relations → before ≡ length w.plain.now
-      → option_copied numbers ≡ slice_get w.numbers.now (length w.numbers.now - 1) → made.head ≡ q.head
+      → AreOwnNumbers w numbers → made.head ≡ q.head
       → made.body ≡ inlined db (take before (known_of db [] f.definitions)) q.body (setting_of (record { used = None; before = before; first = 1; numbers = numbers })) → made ≡ expanded_file w.definitions.now.relations f
   file-is db q made numbers before eq edb eb en eh e =
       let rs : List Relation = w.definitions.now.relations in
@@ -42,8 +42,8 @@ module _ (w : Written) (f : RawFileView) (h : AreWrittenBy w f) where
       let many = as_many in
       let size = known-length rs f.definitions in
       let known : take before (known_of db [] f.definitions) ≡ ks = ap (λ r. take before (known_of r [] f.definitions)) edb ∙ take_all before ks (omega (arith, many, size, eb)) in
-      let all : slice_get w.numbers.now (length w.numbers.now - 1) ≡ Some counted = ap (λ l. slice_get l (length l - 1)) h.numbers ∙ last_of (map (λ (k : Known). k.counted) ks) counted in
-      let own : setting_of (record { used = None; before = before; first = 1; numbers = numbers }) ≡ own_setting (counted_from 1 counted) = own_from before numbers counted (en ∙ all) in
+      let all : slice_get w.numbers.now (length w.numbers.now - 1) ≡ Some (stopped_counts counted) = ap (λ l. slice_get l (length l - 1)) h.numbers ∙ last_of (map (λ (k : Known). stopped_counts k.counted) ks) (stopped_counts counted) in
+      let own : setting_of (record { used = None; before = before; first = 1; numbers = numbers }) ≡ own_setting (counted_from 1 counted) = own_from before numbers counted (en counted all) in
       let body : made.body ≡ inlined rs ks (expanded_question f.query).body (own_setting (counted_from 1 counted)) =
       e ∙ ap (λ r. inlined r (take before (known_of db [] f.definitions)) q.body (setting_of (record { used = None; before = before; first = 1; numbers = numbers }))) edb
       ∙ ap₂ (λ l (x : RawQuestion). inlined rs l x.body (setting_of (record { used = None; before = before; first = 1; numbers = numbers }))) known eq ∙ ap (inlined rs ks (expanded_question f.query).body) own in

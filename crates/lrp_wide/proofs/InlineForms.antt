@@ -4,6 +4,8 @@ use Rattle.std.proofs.lemmas.List.{take_more}
 use Rattle.lrp_model.specs.RawQueries.{RawForm, RawForms, raw_form_of, raw_forms_of, raw, no_raws}
 use Rattle.lrp_model.specs.declared.raw.RawFormula.{RawFormula}
 use Rattle.lrp_model.specs.declared.relations.Relation.{Relation}
+use Rattle.lrp_wide.specs.Counts.{kept_each, kept_in, stopped_counts}
+use Rattle.lrp_wide.proofs.NumberStops.{stopped-append}
 use Rattle.lrp_wide.specs.Inlining.{Counted, Known, UseSetting, counted_each, counted_in, inlined, inlined_each}
 
 so_far : (fs : List RawFormula) (i : ℕ) (f : RawFormula) → i < length fs → f ≡ get_or fs i f → take (i + 1) fs ≡ take i fs ++ f ∷ []
@@ -20,11 +22,13 @@ module _ (db : List Relation) (ks : List Known) where
 
   -- the atoms of the formulas so far, and of one more
   pub counted-more : (fs : List RawFormula) (i : ℕ) (f : RawFormula) (old now new : List Counted) → i < length fs → f ≡ get_or fs i f
-      → now ≡ old ++ counted_each db ks (raw_forms_of (take i fs)) → new ≡ now ++ counted_in db ks (raw_form_of f) → new ≡ old ++ counted_each db ks (raw_forms_of (take (i + 1) fs))
+      → now ≡ old ++ kept_each db ks (raw_forms_of (take i fs)) → new ≡ now ++ kept_in db ks (raw_form_of f) → new ≡ old ++ kept_each db ks (raw_forms_of (take (i + 1) fs))
   counted-more fs i f old now new lt is e h =
       let one : counted_each db ks (raw_forms_of (take (i + 1) fs)) ≡ counted_each db ks (raw_forms_of (take i fs)) ++ counted_in db ks (raw_form_of f) =
       ap (λ l. counted_each db ks (raw_forms_of l)) (so_far fs i f lt is) ∙ counted_append (take i fs) (f ∷ []) ∙ ap (λ l. counted_each db ks (raw_forms_of (take i fs)) ++ l) (append-nil (counted_in db ks (raw_form_of f))) in
-      h ∙ ap (λ l. l ++ counted_in db ks (raw_form_of f)) e ∙ append_assoc old (counted_each db ks (raw_forms_of (take i fs))) (counted_in db ks (raw_form_of f)) ∙ ap (λ l. old ++ l) (sym one)
+      let kept : kept_each db ks (raw_forms_of (take (i + 1) fs)) ≡ kept_each db ks (raw_forms_of (take i fs)) ++ kept_in db ks (raw_form_of f) =
+      ap stopped_counts one ∙ stopped-append (counted_each db ks (raw_forms_of (take i fs))) (counted_in db ks (raw_form_of f)) in
+      h ∙ ap (λ l. l ++ kept_in db ks (raw_form_of f)) e ∙ append_assoc old (kept_each db ks (raw_forms_of (take i fs))) (kept_in db ks (raw_form_of f)) ∙ ap (λ l. old ++ l) (sym kept)
 
   -- ---- formulas
 

@@ -12,8 +12,9 @@ use Rattle.lrp_model.specs.declared.raw.RawTerm.{RawTerm}
 use Rattle.lrp_model.specs.declared.relations.Column.{Column}
 use Rattle.lrp_model.specs.declared.relations.Relation.{Relation}
 use Rattle.lrp_model.specs.declared.tokens.Place.{Place}
-use Rattle.lrp_wide.specs.Inlining.{Counted, Known, Passed, UseSetting, compared_form, counted_from, inlined, inlined_atom, known_of, known_with, meant_by, passed, passed_name, some_each, star_total, use_form}
+use Rattle.lrp_wide.specs.Inlining.{Counted, Known, Passed, UseSetting, compared_form, counted_from, counted_in, inlined, inlined_atom, known_of, known_with, meant_by, passed, passed_name, some_each, star_total, use_form}
 use Rattle.lrp_wide.specs.Inside.{AreArguments, AreBeside, AreWritten, HasPlainBody, IsAround, IsUsedBody, IsInsideBody, IsMeant, IsNamedIn, IsNextBody, IsPlainUse, IsUsed, body_setting, inlined_here, known_by, known_here, met_form}
+use Rattle.lrp_wide.specs.Counts.{stopped_counts}
 use Rattle.lrp_wide.specs.Limits.{depth_of}
 use Rattle.lrp_wide.specs.Settings.{and_after, name_passed, setting_of}
 use Rattle.lrp_wide.specs.declared.atoms.Met.{Met}
@@ -92,12 +93,10 @@ pub around_inside : (s : Scene) (b : UsedBody) (inner : Scene) (file : RawFileVi
 around_inside s b inner file h around = subst (λ o. AreWritten inner.catalog.now o file) (sym h.written) (subst (λ l. AreWritten l s.written file) (sym h.catalog) around)
 
 -- what a body is read by, as it is kept
-pub body-reads : (b : UsedBody) (given : List PassedOf) (own counted : List Counted) → given ≡ b.passed.items → slice_get b.named.written.numbers.now b.named.number ≡ Some own → slice_get b.named.written.numbers.now b.named.number ≡ Some counted
+pub body-reads : (b : UsedBody) (given : List PassedOf) (own counted : List Counted) → given ≡ b.passed.items → own ≡ counted
     → ◌≡◌ {A = UseSetting} (record { name = name_passed given b.number; place = λ q. b.place; number = counted_from b.first own }) (body_setting b counted)
-body-reads b given own counted eg eo ec =
+body-reads b given own counted eg same =
     let as_setting : List PassedOf → List Counted → UseSetting = λ l c. record { name = name_passed l b.number; place = λ q. b.place; number = counted_from b.first c } in
-    let both : Some own ≡ Some counted = sym eo ∙ ec in
-    let same : own ≡ counted = cc in
     ap₂ as_setting eg same
 
 module _ (s : Scene) (file : RawFileView) (w : Written) (is : s.written ≡ Some w) (around : IsAround s file) where
@@ -134,14 +133,12 @@ module _ (s : Scene) (file : RawFileView) (w : Written) (is : s.written ≡ Some
       let db : List Relation = s.catalog.now in
       let n : ℕ = b.named.number in
       let t = known-text n k e in
-      let numbered = at_below b.named.written.numbers.now n (omega (arith, named.there, named.whole.numbers)) in
-      let counted : List Counted = numbered.entry in
-      let k' : Known = known_with db (take n all_known) t.text in
-      let own : counted ≡ k'.counted = used-numbers db w file beside n t.text t.at counted (ap (λ (y : Written). slice_get y.numbers.now n) (sym ew) ∙ numbered.is) in
+      let counted : List Counted = counted_in db (take n all_known) t.text.body in
+      let own : slice_get b.named.written.numbers.now n ≡ Some (stopped_counts counted) = ap (λ (y : Written). slice_get y.numbers.now n) ew ∙ used-numbers db w file beside n t.text t.at in
       let here : List Relation → Option Written → ℕ → UseSetting → RawForm = λ r o i u. inlined r (known_here r o file i) (raw_form_of x.body) u in
       ap₂ (λ r o. here r o inner.setting.before (setting_of inner.setting)) h.catalog (h.written ∙ is)
-      ∙ ap₂ (here db (Some w)) h.setting.before (h.setting.reads counted numbered.is)
-      ∙ ap₂ (λ f c. inlined db (take n all_known) f (body_setting b c)) (used-body db w file beside n t.text t.at x ex) own
+      ∙ ap₂ (here db (Some w)) h.setting.before (h.setting.reads counted own)
+      ∙ ap (λ f. inlined db (take n all_known) f (body_setting b counted)) (used-body db w file beside n t.text t.at x ex)
       ∙ ap (λ (y : Known). y.form (body_setting b y.counted)) (sym t.same)
 
   -- a use becomes what its body becomes, under its quantifiers
@@ -171,10 +168,8 @@ next-named s inner b found named h m =
     }
 
 -- all of its text stands at the place of the use
-inside-place : (s inner : Scene) (b : UsedBody) (q : Place) → IsNamedIn s b.named → IsInsideBody s b inner → b.place ≡ (setting_of inner.setting).place q
-inside-place s inner b q named h =
-    let numbered = at_below b.named.written.numbers.now b.named.number (omega (arith, named.there, named.whole.numbers)) in
-    sym (ap (λ (u : UseSetting). u.place q) (h.setting.reads numbered.entry numbered.is))
+inside-place : (s inner : Scene) (b : UsedBody) (q : Place) → IsInsideBody s b inner → b.place ≡ (setting_of inner.setting).place q
+inside-place s inner b q h = sym (h.setting.place q)
 
 pub next-is : (s inner : Scene) (b next : UsedBody) (found : Named) (f : RawFormula) (x : RawDefinition) (n : Identifier) (terms : List RawTerm) (met : Met) → IsNamedIn s b.named → IsInsideBody s b inner → IsMeant inner n (Some found)
     → slice_get b.named.written.plain.now b.named.number ≡ Some x → f ≡ x.body → f.kind ≡ Atom n terms → met.name.now ≡ n → met.terms.now ≡ terms → met.place ≡ b.place → met.number ≡ (setting_of inner.setting).number f.place
@@ -199,7 +194,7 @@ next-is s inner b next found f x n terms met named h m ex ef kind en et ep ek u 
                     ∙ u.form y r.entry r.is (known-columns s file w named.written around found.number y there r.entry r.is);
               } in
               let met_is : form ≡ met_form inner file met = atom-used inner found file met form meant inside (subst (λ i. meant_by inner.catalog.now (known_by inner file) i ≡ slice_get (known_of inner.catalog.now [] file.definitions) found.number) (sym en) (m.meaning file inside)) used in
-              atom_step inner f file b.place (inside-place s inner b f.place named h) form n terms met.terms.now met.place met.number kind ep ek et (met_is ∙ ap (λ i. inlined_atom (setting_of inner.setting) met.place met.number i (columns_in (relation_named inner.catalog.now i)) met.terms.now (meant_by inner.catalog.now (known_by inner file) i)) en)
+              atom_step inner f file b.place (inside-place s inner b f.place h) form n terms met.terms.now met.place met.number kind ep ek et (met_is ∙ ap (λ i. inlined_atom (setting_of inner.setting) met.place met.number i (columns_in (relation_named inner.catalog.now i)) met.terms.now (meant_by inner.catalog.now (known_by inner file) i)) en)
               ∙ ap (λ (y : RawFormula). inlined_here inner file (raw_form_of y)) ef
               ∙ body-is s file w named.written around b inner refl named h x ex k e;
         };

@@ -10,8 +10,8 @@ use Rattle.lrp_model.specs.declared.relations.Column.{Column}
 use Rattle.lrp_model.specs.declared.relations.Relation.{Relation}
 use Rattle.lrp_model.specs.declared.tokens.Place.{Place}
 use Rattle.lrp_sorts.specs.Definitions.{rowless}
-use Rattle.lrp_wide.specs.Counts.{file_numbers}
-use Rattle.lrp_wide.specs.Inlining.{Counted, Known, Passed, UseSetting, compared_columns, compared_form, counted_from, counted_in, known_of, known_with, passed, passed_name, plain_definition, some_each, star_columns, star_total, use_form}
+use Rattle.lrp_wide.specs.Counts.{file_numbers, kept_in, stopped_counts}
+use Rattle.lrp_wide.specs.Inlining.{Counted, Known, Passed, UseSetting, compared_columns, compared_form, counted_from, known_of, known_with, passed, passed_name, plain_definition, some_each, star_columns, star_total, use_form}
 use Rattle.lrp_wide.specs.Inside.{AreArguments, AreBeside}
 use Rattle.lrp_wide.specs.Settings.{and_after, name_passed, passed_of}
 use Rattle.lrp_wide.specs.declared.atoms.Met.{Met}
@@ -77,11 +77,11 @@ module _ (db : List Relation) (w : Written) (f : RawFileView) (around : AreBesid
   first_of (y ∷ xs) ys zero x e = e
   first_of (y ∷ xs) ys (suc i) x e = first_of xs ys i x e
 
-  -- its numbers
-  pub used-numbers : (c : List Counted) → slice_get w.numbers.now n ≡ Some c → c ≡ counted_in db (take n all_known) d.body
-  used-numbers c e =
+  -- its numbers, as they are kept
+  pub used-numbers : slice_get w.numbers.now n ≡ Some (kept_in db (take n all_known) d.body)
+  used-numbers =
       let k : Known = known_with db (take n (known_of db [] f.definitions)) d in
       let all : w.numbers.now ≡ file_numbers db f = around.written.numbers ∙ ap (λ rs. file_numbers rs f) around.database in
-      let own : slice_get (map (λ (x : Known). x.counted) (known_of db [] f.definitions)) n ≡ Some k.counted = got-map (λ (x : Known). x.counted) (known_of db [] f.definitions) n k (known-at db f.definitions n d there) in
-      let both : Some c ≡ Some k.counted = sym e ∙ ap (λ l. slice_get l n) all ∙ first_of _ _ n k.counted own in
-      cc
+      let kept : Known → List Counted = λ x. stopped_counts x.counted in
+      let own : slice_get (map kept (known_of db [] f.definitions)) n ≡ Some (kept k) = got-map kept (known_of db [] f.definitions) n k (known-at db f.definitions n d there) in
+      ap (λ l. slice_get l n) all ∙ first_of _ _ n (kept k) own

@@ -46,6 +46,7 @@ pub mod InlineArguments
 pub mod InlineMeasures
 pub mod InlineKnown
 pub mod NumberPlaces
+pub mod NumberStops
 pub mod NumberOrder
 pub mod InlineForms
 pub mod InlineNodes

@@ -95,12 +95,13 @@ narrow_starred db q h = ap (λ f. record { head = q.head; body = f }) (narrow_ow
 
 -- ---- one more
 
-pub starless_more : (ts : List RawTerm) (i : ℕ) (t : RawTerm) → i < length ts → t ≡ get_or ts i t → AllByRecursion HasNoStar (take i ts) → HasNoStar t → AllByRecursion HasNoStar (take (i + 1) ts)
-starless_more [] i t lt e h one = absurd (omega (arith, lt))
-starless_more (x ∷ ts) zero t lt e h one = (subst HasNoStar e one, tt)
-starless_more (x ∷ ts) (suc i) t lt e h one =
+-- what holds of the elements so far, and of one more
+pub all_more : {X : Type 0} (P : X → Type 0) (xs : List X) (i : ℕ) (x : X) → i < length xs → x ≡ get_or xs i x → AllByRecursion P (take i xs) → P x → AllByRecursion P (take (i + 1) xs)
+all_more P [] i x lt e h one = absurd (omega (arith, lt))
+all_more P (y ∷ xs) zero x lt e h one = (subst P e one, tt)
+all_more P (y ∷ xs) (suc i) x lt e h one =
     let n : suc (i + 1) ≡ suc i + 1 = omega arith in
-    subst (λ k. AllByRecursion HasNoStar (take k (x ∷ ts))) n (h.0, starless_more ts i t (omega (arith, lt)) e h.1 one)
+    subst (λ k. AllByRecursion P (take k (y ∷ xs))) n (h.0, all_more P xs i x (omega (arith, lt)) e h.1 one)
 
 pub narrow_more : (fs : List RawFormula) (i : ℕ) (f : RawFormula) → i < length fs → f ≡ get_or fs i f → AreUnstarred (raw_forms_of (take i fs)) → IsUnstarred (raw_form_of f) → AreUnstarred (raw_forms_of (take (i + 1) fs))
 narrow_more [] i f lt e h one = absurd (omega (arith, lt))

@@ -5,8 +5,8 @@ use Rattle.lrp_model.specs.RawQueries.{RawDefinitionView, RawFileView, RawQuesti
 use Rattle.lrp_model.specs.declared.raw.RawDefinition.{RawDefinition}
 use Rattle.lrp_model.specs.declared.relations.Relation.{Relation}
 use Rattle.lrp_sorts.specs.Definitions.{rowless}
-use Rattle.lrp_wide.specs.Counts.{AreRelationsNumbered, IsRelationNumbered, file_numbers}
-use Rattle.lrp_wide.specs.Inlining.{Counted, Known, counted_in, known_of, known_with}
+use Rattle.lrp_wide.specs.Counts.{AreRelationsNumbered, IsRelationNumbered, file_numbers, kept_in}
+use Rattle.lrp_wide.specs.Inlining.{Counted, Known, known_of, known_with}
 use Rattle.lrp_wide.proofs.InlineKnown.{known-length, known-more}
 use Rattle.lrp_wide.proofs.NumberKnown.{got, got-map, numbered-counted, numbered-more}
 
@@ -16,7 +16,7 @@ module _ (db ds : List Relation) (items : List RawDefinition) (rows : ds ≡ map
   known_to i = known_of db [] (map raw_definition_of (take i items))
 
   -- one definition more
-  pub numbered-definition : (i : ℕ) (d : RawDefinition) (ns new : List (List Counted)) (n : List Counted) → i < length items → d ≡ get_or items i d → AreRelationsNumbered (known_to i) ds ns → n ≡ counted_in db (known_to i) (raw_form_of d.body) → new ≡ ns ++ n ∷ []
+  pub numbered-definition : (i : ℕ) (d : RawDefinition) (ns new : List (List Counted)) (n : List Counted) → i < length items → d ≡ get_or items i d → AreRelationsNumbered (known_to i) ds ns → n ≡ kept_in db (known_to i) (raw_form_of d.body) → new ≡ ns ++ n ∷ []
       → AreRelationsNumbered (known_to (i + 1)) ds new
   numbered-definition i d ns new n lt is h e en =
       let xs : List RawDefinition = take i items in
@@ -41,6 +41,6 @@ module _ (db ds : List Relation) (items : List RawDefinition) (rows : ds ≡ map
   numbered-all i ns le h = subst (λ l. AreRelationsNumbered (known_of db [] (map raw_definition_of l)) ds ns) (take_all i items le) h
 
   -- and the query
-  pub numbered-file : (query : RawQuestion) (ns new : List (List Counted)) (n : List Counted) → AreRelationsNumbered (known_of db [] (map raw_definition_of items)) ds ns → n ≡ counted_in db (known_of db [] (map raw_definition_of items)) query.body → new ≡ ns ++ n ∷ []
+  pub numbered-file : (query : RawQuestion) (ns new : List (List Counted)) (n : List Counted) → AreRelationsNumbered (known_of db [] (map raw_definition_of items)) ds ns → n ≡ kept_in db (known_of db [] (map raw_definition_of items)) query.body → new ≡ ns ++ n ∷ []
       → new ≡ file_numbers db (record { definitions = map raw_definition_of items; query = query })
   numbered-file query ns new n h e en = en ∙ ap₂ (λ l x. l ++ x ∷ []) (numbered-counted all_known ds ns h) e

@@ -1,13 +1,14 @@
 -- Definitions with the numbers of their texts.
 use Rattle.std.proofs.Common.{◌≡◌, ℕ, zero, suc, ◌+◌, ◌<◌, ◌≤◌, Option, Some, None, List, [], ◌∷◌, ◌++◌, map, length, take, get_or, slice_get, refl, ap, ap₂, sym, subst, ◌∙◌, arith}
 use Rattle.lrp_model.specs.declared.relations.Relation.{Relation}
-use Rattle.lrp_wide.specs.Counts.{AreRelationsNumbered, IsRelationNumbered}
+use Rattle.lrp_wide.specs.Counts.{AreRelationsNumbered, IsRelationNumbered, stopped, stopped_counts}
 use Rattle.lrp_wide.specs.Inlining.{Counted, Known, atom_numbers, numbers_of, star_total}
 use Rattle.lrp_model.specs.declared.raw.RawTerm.{RawTerm}
 use Rattle.lrp_model.specs.declared.relations.Column.{Column}
+use Rattle.lrp_wide.proofs.NumberStops.{stopped-sum}
 
 -- their numbers are those that are kept
-pub numbered-counted : (ks : List Known) (ds : List Relation) (ns : List (List Counted)) → AreRelationsNumbered ks ds ns → ns ≡ map (λ (k : Known). k.counted) ks
+pub numbered-counted : (ks : List Known) (ds : List Relation) (ns : List (List Counted)) → AreRelationsNumbered ks ds ns → ns ≡ map (λ (k : Known). stopped_counts k.counted) ks
 numbered-counted [] ds ns h = h
 numbered-counted (k ∷ ks) [] ns h = absurd h
 numbered-counted (k ∷ ks) (d ∷ ds) [] h = absurd h
@@ -36,7 +37,7 @@ numbered-at (x ∷ ks) (d ∷ ds) (m ∷ ns) zero k r n h a b c =
     record {
       name = ap (λ (y : Relation). y.name) (sym f) ∙ h.0.name ∙ ap (λ (y : Known). y.name) e;
       columns = ap (λ (y : Relation). y.columns) (sym f) ∙ h.0.columns ∙ ap (λ (y : Known). y.columns) e;
-      counted = sym g ∙ h.0.counted ∙ ap (λ (y : Known). y.counted) e;
+      counted = sym g ∙ h.0.counted ∙ ap (λ (y : Known). stopped_counts y.counted) e;
     }
 numbered-at (x ∷ ks) (d ∷ ds) (m ∷ ns) (suc i) k r n h a b c = numbered-at ks ds ns i k r n h.1 a b c
 
@@ -83,9 +84,9 @@ at_below (x ∷ xs) (suc i) lt = let h = at_below xs i (omega (arith, lt)) in re
 
 -- how many numbers a use takes
 pub use-numbers : (columns : List Column) (ts : List RawTerm) (o : Option Known) (k : Known) (r : Relation) (n : List Counted) (one stars taken : ℕ) → o ≡ Some k → IsRelationNumbered k (r, n)
-    → stars ≡ star_total r.columns ts → one ≡ 1 + stars → taken ≡ one + numbers_of n → taken ≡ atom_numbers columns ts o
+    → stars ≡ star_total r.columns ts → one ≡ stopped (stars + 1) → taken ≡ stopped (one + stopped (numbers_of n)) → taken ≡ stopped (atom_numbers columns ts o)
 use-numbers columns ts o k r n one stars taken e i s f g =
     let a : star_total r.columns ts ≡ star_total k.columns ts = ap (λ cs. star_total cs ts) i.columns in
-    let b : numbers_of n ≡ numbers_of k.counted = ap numbers_of i.counted in
-    let t : taken ≡ suc (star_total k.columns ts + numbers_of k.counted) = omega (arith, s, f, g, a, b) in
-    t ∙ ap (atom_numbers columns ts) (sym e)
+    let b : stopped (numbers_of n) ≡ stopped (numbers_of k.counted) = ap (λ cs. stopped (numbers_of cs)) i.counted ∙ stopped-sum k.counted in
+    let t : taken ≡ stopped (suc (star_total k.columns ts + numbers_of k.counted)) = omega (arith, s, f, g, a, b) in
+    t ∙ ap (λ m. stopped (atom_numbers columns ts m)) (sym e)

@@ -7,14 +7,14 @@ use Rattle.std.proofs.lemmas.List.Sums.{sum_by-cons}
 use Rattle.lrp_model.specs.declared.tokens.Place.{Place}
 use Rattle.lrp_tense.specs.Expanding.{is_before}
 use Rattle.lrp_wide.specs.Inlining.{Counted, numbers_before, numbers_of}
-use Rattle.lrp_wide.specs.Counts.{AreAscending, AreSummed, IsFirstAfter, SumTo, counted_of, end_before}
+use Rattle.lrp_wide.specs.Counts.{AreAscending, IsFirstAfter, SumTo, counted_of, end_before, stopped}
 use Rattle.lrp_wide.specs.declared.numbering.Counted.{Counted as CountedAtom}
 use Rattle.lrp_wide.proofs.NumberPlaces.{before-through}
 
 -- ---- one atom more
 
-pub sums-more : (sum : ℕ) (atoms : List CountedAtom) (total : ℕ) (a : CountedAtom) → SumTo sum atoms total → a.before ≡ total → SumTo sum (atoms ++ a ∷ []) (total + a.numbers)
-sums-more sum [] total a h e = (e ∙ sym h, ap (λ x. x + a.numbers) h)
+pub sums-more : (sum : ℕ) (atoms : List CountedAtom) (total : ℕ) (a : CountedAtom) → SumTo sum atoms total → a.before ≡ total → SumTo sum (atoms ++ a ∷ []) (stopped (total + a.numbers))
+sums-more sum [] total a h e = let t : total ≡ stopped sum = h in (e ∙ t, omega (arith, t))
 sums-more sum (b ∷ atoms) total a h e = (h.0, sums-more (sum + b.numbers) atoms total a h.1 e)
 
 pub ascending-more : (atoms : List CountedAtom) (a : CountedAtom) → AreAscending atoms → end_before atoms a.place ≡ true → AreAscending (atoms ++ a ∷ [])
@@ -39,12 +39,15 @@ end-none (a ∷ (b ∷ atoms)) p e =
 
 -- ---- sums
 
-pub total-is : (sum : ℕ) (atoms : List CountedAtom) (total : ℕ) → SumTo sum atoms total → sum + numbers_of (counted_of atoms) ≡ total
-total-is sum [] total h = let e : sum ≡ total = h in omega (arith, e)
+pub total-is : (sum : ℕ) (atoms : List CountedAtom) (total : ℕ) → SumTo sum atoms total → total ≡ stopped (sum + numbers_of (counted_of atoms))
+total-is sum [] total h = let e : total ≡ stopped sum = h in omega (arith, e)
 total-is sum (a ∷ atoms) total h =
-    let rest : sum + a.numbers + numbers_of (counted_of atoms) ≡ total = total-is (sum + a.numbers) atoms total h.1 in
+    let rest : total ≡ stopped (sum + a.numbers + numbers_of (counted_of atoms)) = total-is (sum + a.numbers) atoms total h.1 in
     let one : numbers_of (counted_of (a ∷ atoms)) ≡ a.numbers + numbers_of (counted_of atoms) = sum_by-cons (λ (c : Counted). c.numbers) (record { place = a.place; numbers = a.numbers }) (counted_of atoms) in
     omega (arith, rest, one)
+
+pub total-of : (atoms : List CountedAtom) (total : ℕ) → SumTo 0 atoms total → total ≡ stopped (numbers_of (counted_of atoms))
+total-of atoms total h = let all = total-is 0 atoms total h in omega (arith, all)
 
 -- the first number of the atom with an index, or the total
 pub at_index : List CountedAtom → ℕ → ℕ → ℕ
@@ -76,18 +79,18 @@ none_before (a ∷ atoms) p h =
 
 -- where the first n stand before a place and the others don't, they take what the next one keeps
 pub before-point : (sum : ℕ) (atoms : List CountedAtom) (total : ℕ) (p : Place) (n : ℕ) → SumTo sum atoms total → n ≤ length atoms
-    → AllWithin (λ a. is_before a.place p ≡ true) atoms 0 n → AllWithin (λ a. is_before a.place p ≡ false) atoms n (length atoms) → sum + numbers_before (counted_of atoms) p ≡ at_index atoms n total
+    → AllWithin (λ a. is_before a.place p ≡ true) atoms 0 n → AllWithin (λ a. is_before a.place p ≡ false) atoms n (length atoms) → at_index atoms n total ≡ stopped (sum + numbers_before (counted_of atoms) p)
 unfolding at_index
-before-point sum [] total p n h le yes' no' = let e : sum ≡ total = h in omega (arith, e)
-before-point sum (a ∷ atoms) total p zero h le yes' no' = let e : a.before ≡ sum = h.0 in let z = none_before (a ∷ atoms) p no' in omega (arith, e, z)
+before-point sum [] total p n h le yes' no' = let e : total ≡ stopped sum = h in omega (arith, e)
+before-point sum (a ∷ atoms) total p zero h le yes' no' = let e : a.before ≡ stopped sum = h.0 in let z = none_before (a ∷ atoms) p no' in omega (arith, e, z)
 before-point sum (a ∷ atoms) total p (suc n) h le yes' no' =
     let first : is_before a.place p ≡ true = yes' 0 a (omega arith) (omega arith) in
-    let rest : sum + a.numbers + numbers_before (counted_of atoms) p ≡ at_index atoms n total =
+    let rest : at_index atoms n total ≡ stopped (sum + a.numbers + numbers_before (counted_of atoms) p) =
     before-point (sum + a.numbers) atoms total p n h.1 (omega (arith, le)) (λ k d low lt. yes' (suc k) d (omega arith) (omega (arith, lt))) (λ k d low lt. no' (suc k) d (omega (arith, low)) (omega (arith, lt))) in
     let one : numbers_before (counted_of (a ∷ atoms)) p ≡ a.numbers + numbers_before (counted_of atoms) p = one_before a atoms p ∙ ap (λ b. cond b a.numbers 0 + numbers_before (counted_of atoms) p) first in
     omega (arith, rest, one)
 
-pub before-first : (atoms : List CountedAtom) (total : ℕ) (p : Place) (n : ℕ) → SumTo 0 atoms total → IsFirstAfter atoms p n → numbers_before (counted_of atoms) p ≡ at_index atoms n total
+pub before-first : (atoms : List CountedAtom) (total : ℕ) (p : Place) (n : ℕ) → SumTo 0 atoms total → IsFirstAfter atoms p n → at_index atoms n total ≡ stopped (numbers_before (counted_of atoms) p)
 before-first atoms total p n h f = let e = before-point 0 atoms total p n h f.bound f.before f.after in omega (arith, e)
 
 -- ---- what stands before a place is a first part
@@ -132,24 +135,12 @@ joined_before (x ∷ xs) ys p =
     let own = one_before x xs p in
     omega (arith, rest, all, own)
 
-some_before : (xs : List CountedAtom) (i : ℕ) (p : Place) → numbers_before (counted_of (take i xs)) p ≤ numbers_before (counted_of xs) p
-some_before [] zero p = omega arith
-some_before [] (suc i) p = omega arith
-some_before (x ∷ xs) zero p = omega arith
-some_before (x ∷ xs) (suc i) p =
-    let rest = some_before xs i p in
-    let all = one_before x xs p in
-    let own = one_before x (take i xs) p in
-    omega (arith, rest, all, own)
-
-pub before-more : (atoms : List CountedAtom) (i : ℕ) (d : CountedAtom) (p : Place) (sum one next : ℕ) → i < length atoms → (numbers_before (counted_of atoms) p < 2 ^ 64 → sum ≡ numbers_before (counted_of (take i atoms)) p)
-    → one ≡ cond (is_before (get_or atoms i d).place p) (get_or atoms i d).numbers 0 → next ≡ min (sum + one) (2 ^ 64 - 1) → numbers_before (counted_of atoms) p < 2 ^ 64 → next ≡ numbers_before (counted_of (take (i + 1) atoms)) p
-before-more atoms i d p sum one next lt h e n small =
+pub before-more : (atoms : List CountedAtom) (i : ℕ) (d : CountedAtom) (p : Place) (sum one next : ℕ) → i < length atoms → sum ≡ stopped (numbers_before (counted_of (take i atoms)) p)
+    → one ≡ cond (is_before (get_or atoms i d).place p) (get_or atoms i d).numbers 0 → next ≡ min (sum + one) (2 ^ 64 - 1) → next ≡ stopped (numbers_before (counted_of (take (i + 1) atoms)) p)
+before-more atoms i d p sum one next lt now e n =
     let a : CountedAtom = get_or atoms i d in
-    let now : sum ≡ numbers_before (counted_of (take i atoms)) p = h small in
     let so : take (i + 1) atoms ≡ take i atoms ++ a ∷ [] = take_more atoms i d lt in
     let all : numbers_before (counted_of (take (i + 1) atoms)) p ≡ numbers_before (counted_of (take i atoms)) p + numbers_before (counted_of (a ∷ [])) p =
     ap (λ l. numbers_before (counted_of l) p) so ∙ joined_before (take i atoms) (a ∷ []) p in
     let last : numbers_before (counted_of (a ∷ [])) p ≡ cond (is_before a.place p) a.numbers 0 + 0 = one_before a [] p in
-    let few = some_before atoms (i + 1) p in
-    omega (arith, now, all, last, few, e, n, small)
+    omega (arith, now, all, last, e, n)

@@ -11,8 +11,8 @@ use Rattle.lrp_model.specs.declared.raw.RawDefinition.{RawDefinition}
 use Rattle.lrp_model.specs.declared.relations.Relation.{Relation}
 use Rattle.lrp_model.proofs.FirstFault.{first_of_both}
 use Rattle.lrp_sorts.specs.Definitions.{Defined, rowless}
-use Rattle.lrp_wide.specs.Counts.{AreRowless, file_numbers}
-use Rattle.lrp_wide.specs.Inlining.{counted_in, known_of, plain_definition, plain_file}
+use Rattle.lrp_wide.specs.Counts.{AreRowless, file_numbers, kept_in, stopped_counts}
+use Rattle.lrp_wide.specs.Inlining.{known_of, plain_definition, plain_file}
 use Rattle.lrp_wide.specs.WideSorting.{name_faults, own_faults, text_faults}
 use Rattle.lrp_wide.proofs.MeasureKnown.{known_length}
 
@@ -37,5 +37,5 @@ definitions_long d f plain h e =
 pub numbers_long : (db : List Relation) (f : RawFileView) (plain : List RawDefinition) → map raw_definition_of plain ≡ map plain_definition f.definitions → length (file_numbers db f) ≡ suc (length plain)
 numbers_long db f plain e =
     let ks = known_of db [] f.definitions in
-    let both : length (file_numbers db f) ≡ length (map (λ k. k.counted) ks) + 1 = length-append (map (λ k. k.counted) ks) (counted_in db ks f.query.body ∷ []) in
-    omega (arith, both, length-map ks (λ k. k.counted), known_length db [] f.definitions, length-map plain raw_definition_of, ap length e, length-map f.definitions plain_definition)
+    let both : length (file_numbers db f) ≡ length (map (λ k. stopped_counts k.counted) ks) + 1 = length-append (map (λ k. stopped_counts k.counted) ks) (kept_in db ks f.query.body ∷ []) in
+    omega (arith, both, length-map ks (λ k. stopped_counts k.counted), known_length db [] f.definitions, length-map plain raw_definition_of, ap length e, length-map f.definitions plain_definition)

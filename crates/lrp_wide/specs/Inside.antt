@@ -1,6 +1,8 @@
 -- What stands around a formula while it is written out, and what a use brings.
-use Rattle.std.specs.Prelude.{Box, ◌≡◌, ◌+◌, ◌<◌, ◌++◌, ℕ, suc, Option, Some, None, List, [], ◌∷◌, map, take, length, slice_get, IfSome}
+use Rattle.std.specs.Prelude.{Box, ◌≡◌, ◌+◌, ◌-◌, ◌<◌, ◌++◌, ℕ, suc, Option, Some, None, List, [], ◌∷◌, map, take, length, slice_get, IfSome}
+use Rattle.std.specs.Borrow.{Bor}
 use Rattle.std.specs.Global.{Global}
+use Rattle.std.specs.Option.{option_copied}
 use Rattle.std.specs.List.{AllByRecursion}
 use Rattle.lrp_model.specs.RawQueries.{HasNoOperator, RawFileView, RawForm, RawForms, raw_compare, raw_definition_of, raw_form_of}
 use Rattle.lrp_model.specs.Rows.{columns_in, relation_named}
@@ -16,7 +18,7 @@ use Rattle.lrp_model.specs.declared.relations.Relation.{Relation}
 use Rattle.lrp_model.specs.declared.tokens.Place.{Place}
 use Rattle.lrp_tense.specs.Expanding.{name_term}
 use Rattle.lrp_wide.specs.Inlining.{Counted, Known, Passed, UseSetting, column_added, counted_from, inlined_atom, compared_columns, inlined, inlined_each, itself, equal, known_of, meant_by, passed, plain_definition, star_columns, star_total, star_variable, use_form}
-use Rattle.lrp_wide.specs.Counts.{AreRowless, file_numbers}
+use Rattle.lrp_wide.specs.Counts.{AreRowless, file_numbers, stopped_counts}
 use Rattle.lrp_wide.specs.Settings.{IsPassedToo, name_passed, passed_of, setting_of}
 use Rattle.lrp_wide.specs.declared.atoms.Met.{Met}
 use Rattle.lrp_wide.specs.declared.inlining.UsedBody.{UsedBody}
@@ -46,6 +48,10 @@ pub record AreWrittenBy (w : Written) (f : RawFileView) : Type 0 where
   pub names : AreRowless w.definitions.now f
   pub plain : map raw_definition_of w.plain.now ≡ map plain_definition f.definitions
   pub numbers : w.numbers.now ≡ file_numbers w.definitions.now.relations f
+
+-- the numbers that are kept last, where they haven't stopped
+abbrev pub AreOwnNumbers : Written → Option (Bor (List Counted)) → Type 0
+AreOwnNumbers w made = (counted : List Counted) → slice_get w.numbers.now (length w.numbers.now - 1) ≡ Some (stopped_counts counted) → option_copied made ≡ Some counted
 
 -- and they stand beside this database
 pub record AreBeside (db : List Relation) (w : Written) (f : RawFileView) : Type 0 where
@@ -151,7 +157,8 @@ body_setting b counted = record { name = name_passed b.passed.items b.number; pl
 -- a setting is the one that a body is read by
 pub record IsBodySetting (b : UsedBody) (made : SettingOf) : Type 0 where
   pub before : made.before ≡ b.named.number
-  pub reads : (counted : List Counted) → slice_get b.named.written.numbers.now b.named.number ≡ Some counted → setting_of made ≡ body_setting b counted
+  pub place : (q : Place) → (setting_of made).place q ≡ b.place
+  pub reads : (counted : List Counted) → slice_get b.named.written.numbers.now b.named.number ≡ Some (stopped_counts counted) → setting_of made ≡ body_setting b counted
 
 -- a scene is the one inside a body
 pub record IsInsideBody (s : Scene) (b : UsedBody) (made : Scene) : Type 0 where

@@ -4,7 +4,7 @@
 ghost use Rattle.std.specs.Prelude.{◌≡◌, ◌<◌, [], None, IfOk, IfSome, OnOk, length};
 ghost use Rattle.lrp_model.specs.RawQueries.{HasNoOperator, HaveNoOperator, RawFileView, raw_form_of, raw_forms_of, raw_group, raw_implies, raw_not, raw_question_of};
 ghost use Rattle.lrp_wide.specs.Inlining.{expanded_file, inlined, own_setting, set_column};
-ghost use Rattle.lrp_wide.specs.Inside.{AreBeside, IsWholeIfAny, AreWrittenBy, AreWrittenIn, IsAround, IsAtomWritten, IsUsedBody, IsMeant, IsNamedIn, IsNextBody, IsPassedOn, IsPlainUse, IsUsed, IsWholeWritten, IsWrittenIn, each_inlined_here, inlined_here, met_form};
+ghost use Rattle.lrp_wide.specs.Inside.{AreBeside, IsWholeIfAny, AreOwnNumbers, AreWrittenBy, AreWrittenIn, IsAround, IsAtomWritten, IsUsedBody, IsMeant, IsNamedIn, IsNextBody, IsPassedOn, IsPlainUse, IsUsed, IsWholeWritten, IsWrittenIn, each_inlined_here, inlined_here, met_form};
 ghost use Rattle.lrp_tense.specs.Expanding.{expanded_question};
 ghost use Rattle.lrp_tense.specs.Written.{joined_form, quantified_form};
 ghost use Rattle.lrp_wide.specs.Settings.{setting_of};
@@ -48,7 +48,9 @@ struct Named<'a> {
 }
 
 impl<'a> Named<'a> {
-    ghost use Rattle.std.specs.Prelude.{◌≡◌, ◌<◌, Some, length, slice_get};
+    ghost use Rattle.std.specs.Prelude.{◌≡◌, ◌<◌, List, Some, IfOk, length, slice_get};
+    ghost use Rattle.lrp_wide.specs.Counts.{stopped_counts};
+    ghost use Rattle.lrp_wide.specs.Inlining.{Counted as CountedOf};
     ghost use Rattle.lrp_wide.specs.Inside.{IsWholeWritten};
 
     // The definition as a relation without rows.
@@ -71,12 +73,14 @@ impl<'a> Named<'a> {
     }
 
     // How the atoms of its text are numbered.
-    fn numbers(self) -> &'a Numbers
+    fn numbers(self) -> Result<&'a Numbers, Memory>
         requires written { IsWholeWritten self.written }
         requires there { self.number < length self.written.plain.now }
-        ensures { slice_get self.entry.written.numbers.now self.entry.number ≡ Some result.now }
+        ensures { IfOk result (λ made. (counted : List CountedOf)
+            → slice_get self.entry.written.numbers.now self.entry.number
+            ≡ Some (stopped_counts counted) → made.now ≡ counted) }
     {
-        &self.written.numbers[self.number]
+        self.written.numbers[self.number].whole()
     }
 }
 
@@ -91,17 +95,18 @@ struct UsedBody<'a> {
 }
 
 impl<'a> UsedBody<'a> {
-    ghost use Rattle.std.specs.Prelude.{◌<◌, length};
+    ghost use Rattle.std.specs.Prelude.{◌<◌, IfOk, length};
     ghost use Rattle.lrp_wide.specs.Inside.{IsBodySetting, IsWholeWritten};
 
     // What it is read by.
-    fn setting(&self) -> UseSetting<'_>
+    fn setting(&self) -> Result<UseSetting<'_>, Memory>
         requires written { IsWholeWritten self.now.named.written }
         requires there { self.now.named.number < length self.now.named.written.plain.now }
-        ensures { IsBodySetting self.now result }
+        ensures { IfOk result (IsBodySetting self.now) }
     {
         let named = self.named;
-        UseSetting {
+        let numbers = named.numbers()?;
+        Ok(UseSetting {
             used: Some(Use {
                 number: self.number,
                 place: self.place,
@@ -109,8 +114,8 @@ impl<'a> UsedBody<'a> {
             }),
             before: named.number,
             first: self.first,
-            numbers: Some(named.numbers()),
-        }
+            numbers: Some(numbers),
+        })
     }
 }
 
@@ -152,7 +157,7 @@ fn expand_beside(
         used: None,
         before: written.plain.len(),
         first: 1,
-        numbers: written.numbers.last(),
+        numbers: own_numbers(written)?,
     };
     let scene = Scene {
         catalog,
@@ -160,6 +165,16 @@ fn expand_beside(
         setting,
     };
     written_in_place(alloc, &scene, query)
+}
+
+// How the atoms of the query's own text are numbered.
+fn own_numbers<'a>(written: Written<'a>) -> Result<Option<&'a Numbers>, Memory>
+    ensures { IfOk result (AreOwnNumbers written.entry) }
+{
+    match written.numbers.last() {
+        Some(numbers) => Ok(Some(numbers.whole()?)),
+        None => Ok(None),
+    }
 }
 
 /// The query in which each `*` is written out, counted in each atom by itself; atoms of definitions stay.
@@ -472,7 +487,7 @@ fn inline_body(
     let around = Scene {
         catalog: scene.catalog,
         written: scene.written,
-        setting: last.setting(),
+        setting: last.setting()?,
     };
     inline(alloc, text, &around, &last.named.text().body)
 }
@@ -514,7 +529,7 @@ fn next_body<'a>(
     let around = Scene {
         catalog: scene.catalog,
         written: scene.written,
-        setting: body.setting(),
+        setting: body.setting()?,
     };
     let Some(found) = meaning_of(&around, relation) else {
         return Ok(None);

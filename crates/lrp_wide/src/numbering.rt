@@ -1,9 +1,9 @@
 // How uses of definitions and `*` are numbered: by the places of their atoms, in each text by itself.
-ghost use Rattle.std.specs.Prelude.{◌≡◌, ◌<◌, ◌+◌, ◌++◌, ◌^◌, List as ListOf, IfOk, IsTrue, OnOk, cond};
+ghost use Rattle.std.specs.Prelude.{◌≡◌, ◌<◌, ◌+◌, ◌-◌, ◌++◌, ◌^◌, List as ListOf, IfOk, IsTrue, OnOk, cond};
 ghost use Rattle.lrp_model.specs.RawQueries.{raw_file_of, raw_form_of, raw_forms_of};
 ghost use Rattle.lrp_model.specs.Rows.{columns_in, relation_named};
-ghost use Rattle.lrp_wide.specs.Inlining.{Known, atom_numbers as numbers_of_atom, counted_each, counted_in, meant_by, numbers_before};
-ghost use Rattle.lrp_wide.specs.Counts.{AreAscending, AreRelationsNumbered, AreRowless, IsFirstAfter, counted_of, end_before, file_numbers};
+ghost use Rattle.lrp_wide.specs.Inlining.{Known, atom_numbers as numbers_of_atom, meant_by, numbers_before};
+ghost use Rattle.lrp_wide.specs.Counts.{AreAscending, AreRelationsNumbered, AreRowless, IsFirstAfter, counted_of, end_before, file_numbers, kept_each, kept_in, stopped};
 ghost use Rattle.lrp_tense.specs.Expanding.{is_before as is_before_of};
 
 use crate::measures::{stars_of, terms_of};
@@ -12,7 +12,8 @@ use lrp_sorts::Definitions;
 use std::alloc::Global;
 use std::marker::Model;
 
-// An atom that takes numbers: how many, and how many those that were met before it take.
+// An atom that takes numbers: how many, and how many those that were met before it take. Both stop at the greatest word: a
+// definition that nothing uses may take any number.
 #[derive(Clone, Copy)]
 struct Counted {
     place: Place,
@@ -49,15 +50,20 @@ impl Model for Numbers {
     ghost invariant = { λ n. AreSummed n.atoms.items n.total n.is_ascending };
 }
 
-/// The sum of two counts.
+/// The sum of two numbers.
 ///
 /// # Errors
 ///
-/// It is 2^64 or more, which no text brings about.
+/// It has stopped, which it does in no query whose formulas are within their limit.
 pub fn plus(left: u64, right: u64) -> Result<u64, Memory>
-    ensures { IfOk result (λ sum. sum ≡ left + right) }
+    ensures sum { IfOk result (λ sum. sum ≡ left + right) }
+    ensures below { IfOk result (λ sum. sum < 2 ^ 64 - 1) }
 {
-    left.checked_add(right).ok_or(Memory)
+    let sum = left.saturating_add(right);
+    if sum == u64::MAX {
+        return Err(Memory);
+    }
+    Ok(sum)
 }
 
 // Whether the first place stands before the second.
@@ -85,8 +91,9 @@ fn ascends(is_ascending: bool, atoms: &[Counted], place: Place) -> bool
 }
 
 impl Numbers {
-    ghost use Rattle.std.specs.Prelude.{◌≡◌, ◌++◌, [], ◌∷◌, OnOk};
-    ghost use Rattle.lrp_wide.specs.Inlining.{numbers_before, numbers_of};
+    ghost use Rattle.std.specs.Prelude.{◌≡◌, ◌++◌, [], ◌∷◌, List, IfOk, OnOk};
+    ghost use Rattle.lrp_wide.specs.Inlining.{Counted as CountedOf, numbers_before, numbers_of};
+    ghost use Rattle.lrp_wide.specs.Counts.{stopped, stopped_counts};
 
     // None yet.
     fn new(alloc: Global) -> Self
@@ -105,28 +112,42 @@ impl Numbers {
             ≡ self.old ++ record { place = place; numbers = numbers } ∷ []) }
     {
         let before = self.total;
-        let total = plus(before, numbers)?;
         let is_ascending = ascends(self.is_ascending, self.atoms.as_slice(), place);
         self.atoms.push(Counted {
             place,
             numbers,
             before,
         })?;
-        self.total = total;
+        self.total = before.saturating_add(numbers);
         self.is_ascending = is_ascending;
         Ok(())
     }
 
-    /// How many numbers all atoms take.
-    pub fn total(&self) -> u64
-        ensures { result ≡ numbers_of self.now }
+    // How many numbers all atoms take.
+    fn total(&self) -> u64
+        ensures { result ≡ stopped (numbers_of self.now) }
     {
         self.total
     }
 
+    /// The same numbers, of which none has stopped.
+    ///
+    /// # Errors
+    ///
+    /// One has, which it does in no text that a query uses whose formulas are within their limit.
+    pub fn whole(&self) -> Result<&Numbers, Memory>
+        ensures { IfOk result (λ made. (counted : List CountedOf)
+            → self.now ≡ stopped_counts counted → made.now ≡ counted) }
+    {
+        if self.total == u64::MAX {
+            return Err(Memory);
+        }
+        Ok(self)
+    }
+
     /// How many numbers the atoms before a place take.
     pub fn before(&self, place: Place) -> u64
-        ensures { result ≡ numbers_before self.now place }
+        ensures { result ≡ stopped (numbers_before self.now place) }
     {
         if self.total == 0 {
             return 0;
@@ -153,8 +174,7 @@ fn first_after(atoms: &[Counted], place: Place) -> usize
 
 // How many numbers the atoms before a place take, in any order.
 fn sum_before(atoms: &[Counted], place: Place) -> u64
-    ensures { numbers_before (counted_of atoms.now) place < 2 ^ 64
-        → result ≡ numbers_before (counted_of atoms.now) place }
+    ensures { result ≡ stopped (numbers_before (counted_of atoms.now) place) }
 {
     let mut sum = 0u64;
     for atom in atoms {
@@ -203,7 +223,7 @@ fn number_text(
 ) -> Result<Numbers, Memory>
     ensures { IfOk result (λ made. (ks : ListOf Known)
         → AreRelationsNumbered ks definitions.now.definitions known.now
-        → made ≡ counted_in definitions.now.relations ks (raw_form_of f.now)) }
+        → made ≡ kept_in definitions.now.relations ks (raw_form_of f.now)) }
 {
     let mut numbers = Numbers::new(alloc);
     count_in(&mut numbers, definitions, known, f)?;
@@ -220,11 +240,11 @@ fn count_in(
 ) -> Result<(), Memory>
     ensures { OnOk result ((ks : ListOf Known)
         → AreRelationsNumbered ks definitions.now.definitions known.now → numbers.new
-        ≡ numbers.old ++ counted_in definitions.now.relations ks (raw_form_of f.now)) }
+        ≡ numbers.old ++ kept_in definitions.now.relations ks (raw_form_of f.now)) }
 {
     match &f.kind {
         RawKind::Atom { relation, terms } => {
-            let taken = atom_numbers(definitions, known, relation, terms.as_slice())?;
+            let taken = atom_numbers(definitions, known, relation, terms.as_slice());
             numbers.count(f.place, taken)
         }
         RawKind::Compare { .. } => Ok(()),
@@ -256,7 +276,7 @@ fn count_each(
 ) -> Result<(), Memory>
     ensures { OnOk result ((ks : ListOf Known)
         → AreRelationsNumbered ks definitions.now.definitions known.now → numbers.new
-        ≡ numbers.old ++ counted_each definitions.now.relations ks (raw_forms_of fs.now)) }
+        ≡ numbers.old ++ kept_each definitions.now.relations ks (raw_forms_of fs.now)) }
 {
     for f in fs {
         count_in(numbers, definitions, known, f)?;
@@ -270,16 +290,17 @@ fn atom_numbers(
     known: &[Numbers],
     name: &Name,
     terms: &[RawTerm],
-) -> Result<u64, Memory>
-    ensures { IfOk result (λ taken. (ks : ListOf Known)
-        → AreRelationsNumbered ks definitions.now.definitions known.now
-        → taken ≡ numbers_of_atom (columns_in (relation_named definitions.now.relations name.now))
-        terms.now
+) -> u64
+    ensures { (ks : ListOf Known) → AreRelationsNumbered ks definitions.now.definitions known.now
+        → result ≡ stopped (numbers_of_atom
+        (columns_in (relation_named definitions.now.relations name.now)) terms.now
         (meant_by definitions.now.relations ks name.now)) }
 {
     if let Some(number) = definitions.number(name, known.len()) {
         let stars = terms_of(definitions.at(number).columns.as_slice(), terms).stars;
-        return plus(plus(1, stars)?, known[number].total());
+        return stars
+            .saturating_add(1)
+            .saturating_add(known[number].total());
     }
-    Ok(stars_of(definitions, name, terms))
+    stars_of(definitions, name, terms)
 }

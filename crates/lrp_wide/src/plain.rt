@@ -1,5 +1,5 @@
 // Files without operators: those of each text are written out by themselves.
-ghost use Rattle.std.specs.Prelude.{◌≡◌, IfOk};
+ghost use Rattle.std.specs.Prelude.{◌≡◌, IfOk, IsTrue};
 ghost use Rattle.std.specs.List.{AllByRecursion};
 ghost use Rattle.lrp_model.specs.RawQueries.{HasNoOperator, raw_definition_of, raw_file_of, raw_form_of, raw_question_of};
 ghost use Rattle.lrp_tense.specs.Expanding.{IsExpandable, expanded_question};
@@ -48,7 +48,27 @@ fn query_without_operators(alloc: Global, query: RawQuery) -> Result<RawQuery, M
     expand(alloc, &query)
 }
 
-/// The file without operators.
+// Whether no operator stands in a file.
+fn is_plain_file(file: &RawFile) -> bool
+    ensures definitions { IsTrue result
+        → AllByRecursion HasPlainBody file.now.definitions.items }
+    ensures query { IsTrue result → HasNoOperator (raw_form_of file.now.query.body) }
+{
+    are_plain_definitions(file.definitions.as_slice()) && is_plain(&file.query.body)
+}
+
+fn are_plain_definitions(definitions: &[RawDefinition]) -> bool
+    ensures { IsTrue result → AllByRecursion HasPlainBody definitions.now }
+{
+    for definition in definitions {
+        if !is_plain(&definition.body) {
+            return false;
+        }
+    }
+    true
+}
+
+/// The file without operators. One that has none stays where it is.
 pub fn plain(alloc: Global, file: RawFile) -> Result<RawFile, Memory>
     requires { IsExpandableFile (raw_file_of file) }
     ensures tree { IfOk result (λ made. raw_file_of made ≡ plain_file (raw_file_of file)) }
@@ -56,6 +76,10 @@ pub fn plain(alloc: Global, file: RawFile) -> Result<RawFile, Memory>
     ensures definitions { IfOk result (λ made. AllByRecursion HasPlainBody
         made.definitions.items) }
 {
+    if is_plain_file(&file) {
+        expansion_leaves_plain_queries();
+        return Ok(file);
+    }
     let (written, query) = file.into_parts();
     let mut definitions = Vec::with_capacity(alloc, written.len())?;
     for definition in written {

@@ -29,7 +29,7 @@ loop-i-preserved c =
           let col = w.index-columns-i.result in
           let columns = dropped cs i col w.if-i-columns.true w.index-columns-i.is in
           let star = ap is_star c.index-met-i.is ∙ sym w.is_star.ensures ∙ w.if-is_star.true in
-          let next : w.in_ok-next.next ≡ c.loop-i.next + 1 = w.in_ok-next.ensures in
+          let next : w.in_ok-next.next ≡ c.loop-i.next + 1 = w.in_ok-next.ensures.sum in
           starred-as s p k cs ts (i + 1) (suc c.loop-i.next) _ _ _ _ _ (omega (arith, next, w.next-is))
           (w.all-is ∙ w.in_ok-push-2.ensures.ok ∙ ap (λ x. c.loop-i.all ++ x ∷ []) (w.variable.ensures ∙ ap (name_term p) w.in_ok-name.ensures))
           (ap (λ v. v.items) w.binders-is ∙ w.in_ok-push.ensures.items ∙ ap (λ x. c.loop-i.binders.items ++ x ∷ []) (w.in_ok-added.ensures ∙ ap (λ (x : Column). column_added p w.in_ok-copy.field-0 x.sort) (sym w.index-columns-i.is) ∙ ap (λ n. column_added p n col.sort) (w.in_ok-copy.ensures ∙ w.in_ok-name.ensures)))

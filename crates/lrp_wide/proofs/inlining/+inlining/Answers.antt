@@ -108,7 +108,7 @@ inline_body-returns t c =
     let s = c.args.scene.now in
     let b = c.in_ok-last.last in
     let passed = c.in_ok-last.ensures in
-    let h : IsInsideBody s b (record { catalog = s.catalog; written = s.written; setting = c.setting.result }) = record { catalog = refl; written = refl; setting = c.setting.ensures } in
+    let h : IsInsideBody s b (record { catalog = s.catalog; written = s.written; setting = c.in_ok-setting.field-0 }) = record { catalog = refl; written = refl; setting = c.in_ok-setting.ensures } in
     if_ok_then c.inline.result _ _ c.inline.ensures (λ made e file around.
     passed.same file around (raw_form_of made.value) (record { body = λ k at. e file around ∙ body-is s file b.named.written passed.named.written around b _ refl passed.named h c.text.result.now c.text.ensures k at }))
 
@@ -153,5 +153,5 @@ inline_body-inline-requires t c =
     let x = c.text.result.now in
     let named = c.in_ok-last.ensures.named in
     let less = use-less s b.named x named c.text.ensures in
-    let own : work_before s.written c.setting.result.before ≡ work_before s.written b.named.number = ap (work_before s.written) c.setting.ensures.before in
+    let own : work_before s.written c.in_ok-setting.field-0.before ≡ work_before s.written b.named.number = ap (work_before s.written) c.in_ok-setting.ensures.before in
     (omega (arith, c.decreases, less, own), (use-plain s b.named x named c.text.ensures, c.requires.definitions))

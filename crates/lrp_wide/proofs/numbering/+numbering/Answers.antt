@@ -2,18 +2,19 @@ use Rattle.std.proofs.Common.{◌++◌, refl, ap, sym, ◌∙◌, append-nil}
 use Rattle.std.proofs.lemmas.List.{take_all}
 use Rattle.lrp_model.specs.RawQueries.{raw_forms_of}
 use Rattle.lrp_model.specs.Rows.{columns_in, relation_named}
-use Rattle.lrp_wide.specs.Inlining.{atom_numbers, counted_each, meant_by}
+use Rattle.lrp_wide.specs.Counts.{kept_each, stopped}
+use Rattle.lrp_wide.specs.Inlining.{atom_numbers, meant_by}
 use Rattle.lrp_wide.proofs.InlineForms.{counted-more}
 use Rattle.lrp_wide.proofs.NumberSteps.{and_counted, atom_counted, both_counted, compare_counted, exists_counted, forall_counted, group_counted, implies_counted, member_counted, not_counted, or_counted, paired_counted, ranged_counted}
 use Rattle.lrp_wide.proofs.Results.{then_ok}
 use Rattle.lrp_wide.proofs.numbering.+numbering.Goals as goal
 
-pub count_in-returns-in_ok-taken-in-Atom : goal.count_in-returns-in_ok-taken-in-Atom
-count_in-returns-in_ok-taken-in-Atom t c =
+pub count_in-returns-in-Atom : goal.count_in-returns-in-Atom
+count_in-returns-in-Atom t c =
     let db = c.args.definitions.now.relations in
     then_ok c.count.result _ _ c.count.ensures (λ h ks k.
-    atom_counted db ks c.args.f.now c.args.numbers.now c.count.new.self c.in-Atom.relation c.in-Atom.terms c.in_ok-taken-in-Atom.taken c.in-Atom.is h
-    (c.in_ok-taken-in-Atom.ensures ks k ∙ ap (λ ts. atom_numbers (columns_in (relation_named db c.in-Atom.relation)) ts (meant_by db ks c.in-Atom.relation)) c.as_slice.ensures))
+    atom_counted db ks c.args.f.now c.args.numbers.now c.count.new.self c.in-Atom.relation c.in-Atom.terms c.atom_numbers-taken.result c.in-Atom.is h
+    (c.atom_numbers-taken.ensures ks k ∙ ap (λ ts. stopped (atom_numbers (columns_in (relation_named db c.in-Atom.relation)) ts (meant_by db ks c.in-Atom.relation))) c.as_slice.ensures))
 
 pub count_in-returns-in-Compare : goal.count_in-returns-in-Compare
 count_in-returns-in-Compare t c = λ ks k. compare_counted c.args.definitions.now.relations ks c.args.f.now c.args.numbers.now c.args.numbers.now _ _ _ c.in-Compare.is refl
@@ -75,4 +76,4 @@ count_each-loop-f-preserved t c = λ ks k.
 
 pub count_each-returns : goal.count_each-returns
 count_each-returns t c = λ ks k.
-    c.loop-f.invariant ks k ∙ ap (λ l. c.args.numbers.now ++ counted_each c.args.definitions.now.relations ks (raw_forms_of l)) (take_all c.loop-f.f-index c.args.fs.now c.loop-f-test.false)
+    c.loop-f.invariant ks k ∙ ap (λ l. c.args.numbers.now ++ kept_each c.args.definitions.now.relations ks (raw_forms_of l)) (take_all c.loop-f.f-index c.args.fs.now c.loop-f-test.false)

@@ -13,7 +13,7 @@ use Rattle.lrp_wide.proofs.passing.arguments_of.Goals.{then-is_star+in_ok-star, 
 pub loop-i-init : goal.loop-i-init
 loop-i-init c =
     let e = c.new-given.ensures in
-    passed-begun (setting_of c.args.setting.now) c.args.met.place c.args.met.number c.args.columns.now c.args.met.terms.now c.new-given.result (e.next ∙ c.in_ok-plus.ensures) e.stars e.columns e.comparisons e.passed
+    passed-begun (setting_of c.args.setting.now) c.args.met.place c.args.met.number c.args.columns.now c.args.met.terms.now c.new-given.result (e.next ∙ c.in_ok-plus.ensures.sum) e.stars e.columns e.comparisons e.passed
 
 pub loop-i-preserved : goal.loop-i-preserved
 loop-i-preserved c =

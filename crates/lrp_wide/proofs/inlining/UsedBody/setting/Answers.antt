@@ -5,5 +5,6 @@ use Rattle.lrp_wide.proofs.inlining.UsedBody.setting.Goals as goal
 pub returns : goal.returns
 returns c = record {
   before = refl;
-  reads = λ counted e. body-reads c.args.self.now c.as_slice.result.now c.numbers.result.now counted c.as_slice.ensures.value c.numbers.ensures e;
+  place = λ q. refl;
+  reads = λ counted e. body-reads c.args.self.now c.as_slice.result.now c.in_ok-numbers.numbers.now counted c.as_slice.ensures.value (c.in_ok-numbers.ensures counted e);
 }

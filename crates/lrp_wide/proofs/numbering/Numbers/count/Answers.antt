@@ -8,8 +8,7 @@ pub invariant_of-self-2 : goal.invariant_of-self-2
 invariant_of-self-2 c =
     let a : Counted = record { place = c.args.place; numbers = c.args.numbers; before = c.self.inside.total } in
     record {
-      sums = subst (λ l. SumTo 0 l c.in_ok-total.total) (sym c.in_ok-push.ensures.items) (subst (SumTo 0 (c.self.inside.atoms.items ++ a ∷ [])) (sym c.in_ok-total.ensures) (sums-more 0 c.self.inside.atoms.items c.self.inside.total a c.self.invariant.sums refl));
-      small = search rules;
+      sums = subst (λ l. SumTo 0 l c.saturating_add-self-inside.result) (sym c.in_ok-push.ensures.items) (subst (SumTo 0 (c.self.inside.atoms.items ++ a ∷ [])) (sym c.saturating_add-self-inside.ensures) (sums-more 0 c.self.inside.atoms.items c.self.inside.total a c.self.invariant.sums refl));
       ascending = λ h.
           let both = c.ascends-is_ascending.ensures h in
           subst AreAscending (sym c.in_ok-push.ensures.items) (ascending-more c.self.inside.atoms.items a (c.self.invariant.ascending both.0) (sym (ap (λ l. end_before l c.args.place) c.as_slice.ensures.value) ∙ both.1));
