@@ -12,7 +12,7 @@ use Rattle.lrp_civil.specs.declared.values.CivilText.{CivilText}
 use Rattle.lrp_calendar.specs.Moments.{clock_bytes, date_bytes}
 use Rattle.lrp_civil.specs.CivilValues.{pace_bytes, padded_bytes, spelled}
 use Rattle.lrp_civil.specs.Tokens.{IsAfterToken, after_blanks, is_last}
-use Rattle.lrp_civil.specs.PlainText.{IsFirstValue, IsSpelledAt, IsSpelledIn, blanks, plain_as, plain_bytes_of, plain_from, plain_value, signs_of, value_in}
+use Rattle.lrp_civil.specs.PlainText.{IsFirstCivilValue, IsSpelledAt, IsSpelledIn, blanks, plain_as, plain_bytes_of, plain_from, plain_value, signs_of, value_in}
 use Rattle.std.specs.Str.{IsUtf8, is_utf8}
 use Rattle.std.proofs.lemmas.Str.{IsUtf8-from_is_utf8, is_utf8-from_IsUtf8}
 use Rattle.lrp_calendar.proofs.Counts.{either}
@@ -147,7 +147,7 @@ way_on kind bytes rest here left w e f k =
 
 -- at a value
 pub way_value : (kind : CivilText) (bytes rest here : List ℕ) (v : CivilValue) → IsOnTheWay kind bytes rest → here ≡ after_blanks rest → IsSpelledAt here v → value_in kind here ≡ Some v
-    → IsFirstValue kind bytes (take (length bytes - length here) bytes) v (drop (length (spelled v)) here)
+    → IsFirstCivilValue kind bytes (take (length bytes - length here) bytes) v (drop (length (spelled v)) here)
 way_value kind bytes rest here v w e s f =
     let before = w.front ++ blanks rest in
     let after = drop (length (spelled v)) here in
@@ -183,9 +183,9 @@ after_is n bytes = take_all (length bytes - n) (drop n bytes) (omega (arith, len
 
 -- at a value, as the code has it
 pub value_here : (kind : CivilText) (bytes rest here : List ℕ) (v : CivilValue) (n : ℕ) → IsOnTheWay kind bytes rest → here ≡ after_blanks rest → IsSpelledIn kind here v → n ≡ length (spelled v)
-    → IsFirstValue kind bytes (take (length bytes - length here) bytes) v (take (length here - n) (drop n here))
+    → IsFirstCivilValue kind bytes (take (length bytes - length here) bytes) v (take (length here - n) (drop n here))
 value_here kind bytes rest here v n w e s size =
-    let P : List ℕ → Type 0 = λ after. IsFirstValue kind bytes (take (length bytes - length here) bytes) v after in
+    let P : List ℕ → Type 0 = λ after. IsFirstCivilValue kind bytes (take (length bytes - length here) bytes) v after in
     subst P (ap (λ m. drop m here) (sym size) ∙ sym (after_is n here)) (way_value kind bytes rest here v w e (as_civil kind here v s) (value_is kind here v s))
 
 pub value_left : (kind : CivilText) (here : List ℕ) (v : CivilValue) (n : ℕ) → IsSpelledIn kind here v → n ≡ length (spelled v) → length (take (length here - n) (drop n here)) < length here

@@ -103,13 +103,13 @@ unfoldable pub plain_bytes_of : CivilText → List ℕ → List ℕ
 plain_bytes_of kind bytes = plain_from kind (suc (length bytes)) bytes
 
 -- the value stands after these bytes, of which all stays, and before others; the plain text is made of the three
-pub record IsFirstValue (kind : CivilText) (bytes before : List ℕ) (value : CivilValue) (rest : List ℕ) : Type 0 where
+pub record IsFirstCivilValue (kind : CivilText) (bytes before : List ℕ) (value : CivilValue) (rest : List ℕ) : Type 0 where
   pub civil : IsTrue (is_civil value)
   pub is : plain_bytes_of kind bytes ≡ before ++ (padded_bytes value ++ plain_bytes_of kind rest)
 
 -- the first value of the bytes, or none where all stays
 abbrev pub FindsFirst : CivilText → List ℕ → Option Found → Type 0
-FindsFirst kind bytes found = MatchOption found (plain_bytes_of kind bytes ≡ bytes) (λ first. IsFirstValue kind bytes first.before.now first.value first.rest.now)
+FindsFirst kind bytes found = MatchOption found (plain_bytes_of kind bytes ≡ bytes) (λ first. IsFirstCivilValue kind bytes first.before.now first.value first.rest.now)
 
 -- the plain text of a file; bytes that are no UTF-8 stay
 unfoldable pub plain_as : CivilText → List ℕ → List ℕ
