@@ -14,7 +14,7 @@ from support import environment, fake
 PROBLEMS = {**BY_NUMBERS, "dates": dates}
 FOLDERS = {**PROBLEMS, **RULES}
 # Plans, refusals and normal forms, which follow from the rules of the formats and not from a count.
-NOT_COUNTED = {"dates": {"rides", "unread", "boat_plan", "no_such_day"}, "maintenance": {"unattended", "far", "far_asked", "few_cells"}, "guide": {"check", "dates", "costly", "not_kept"}, "roster": {"not_kept"}, "counting": {"one_time_at_most", "one_time", "sort_before_the_head", "period", "cells", "no_file", "usage"},
+NOT_COUNTED = {"dates": {"rides", "unread", "boat_plan", "no_such_day"}, "maintenance": {"unattended", "far", "far_asked", "few_cells"}, "guide": {"check", "dates", "costly", "not_kept"}, "roster": {"not_kept"}, "cycles": {"silent_refused"}, "counting": {"one_time_at_most", "one_time", "sort_before_the_head", "period", "cells", "no_file", "usage"},
                "canon": {"two_rows", "a_million_rows", "one_cell", "three_cells", "needs_one", "no_file", "three_terms", "period", "bound", "a_pair"}}
 
 
