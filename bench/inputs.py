@@ -4,6 +4,7 @@ A family is a function of the size that gives a Case. Its smallest sizes have an
 out here, without the program: by going over a window, as long as the relations' periods ask for.
 """
 
+import collections
 import hashlib
 import itertools
 import math
@@ -310,6 +311,58 @@ def join_on_nothing(size):
     pairs = [(t, t + wait) for t in first for wait in (1, 2) if (t + wait) % WEEK in late]
     found = [(t, u) for t, u in pairs if u < WEEK]
     return Case(listed(0, WEEK - 1), database, text, units=len(pairs), output=whole_page(found))
+
+
+# A city
+
+
+def city(size):
+    """The rides of a week from stop to stop, on a grid of streets: a line for each row and for each column, both ways, and
+    390 trips a week of each. Two lines cross at a stop."""
+    hops = []
+    for line, ride in enumerate(itertools.product(range(2), range(size), (1, -1))):
+        across, street, way = ride
+        along = range(size)[::way]
+        for turn in range(390):
+            day, start = divmod(turn, 56)
+            leave = day * DAY + 300 + 20 * start + (7 * line + 3 * street + turn // 7) % 19
+            for here, there in zip(along, along[1:]):
+                length = 2 + (here * there + line) % 3
+                stops = ["s%d.%d" % ((street, at) if across else (at, street)) for at in (here, there)]
+                hops.append((leave, leave + length, "t%d.%d" % (line, turn), *stops))
+                leave += length + 1
+    return hops
+
+
+def changes(hops, least, most):
+    """Each arrival and a departure of another trip from the stop after so many minutes, within the week."""
+    leaving = collections.defaultdict(lambda: collections.defaultdict(list))
+    for leave, _, trip, start, _ in hops:
+        leaving[start][leave % WEEK].append(trip)
+    for _, arrive, trip, _, stop in hops:
+        at = arrive % WEEK
+        for wait in range(least, most + 1):
+            for other in leaving[stop][at + wait] if at + wait < WEEK else ():
+                if other != trip:
+                    yield at, at + wait, trip, other, stop
+
+
+@family("transfers", "one", (3, 5, 10), "the changes of a city, N streets each way: 9,360, 31,200 and 140,400 rides from stop to stop")
+def transfers(size):
+    hops = city(size)
+    rows = [
+        '(%d+%dn, %d+%dn, "%s", "%s", "%s") where a = d + %d'
+        % (leave % WEEK, WEEK, arrive % WEEK, WEEK, trip, start, goal, arrive - leave)
+        for leave, arrive, trip, start, goal in hops
+    ]
+    database = relation("hop", times("d", "a") + ["trip: data", "start: data", "goal: data"], rows)
+    text = query(
+        times("a", "d") + ["t: data", "u: data", "s: data"],
+        "exists b: time exists c: time exists x: data exists y: data "
+        "(hop(b, a, t, x, s) and hop(d, c, u, s, y) and not t = u and d >= a + 3 and d <= a + 16)",
+    )
+    output = whole_page(set(changes(hops, 3, 16))) if size <= 5 else None
+    return Case(listed(0, WEEK - 1), database, text, output=output)
 
 
 # Joins by windows

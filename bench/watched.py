@@ -90,7 +90,7 @@ def shifts_edited(size):
 @family(
     "shifts of one driver",
     "two",
-    (250, 1000, 4000),
+    (625, 2500, 10000),
     "opening of a watch of N shifts of one driver, of which a tenth overlap",
 )
 def one_driver_watched(size):
@@ -100,7 +100,7 @@ def one_driver_watched(size):
 @family(
     "shifts of one driver edited",
     "two",
-    (250, 1000, 4000),
+    (625, 2500, 10000),
     "200 edits of N shifts of one driver, of which a tenth overlap",
 )
 def one_driver_edited(size):
