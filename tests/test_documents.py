@@ -272,6 +272,35 @@ class Names(unittest.TestCase):
         self.assertEqual({name for name, there in homes.items() if len(there) > 1}, rules)
 
 
+class Memory(unittest.TestCase):
+    """Want of memory is handed on, or made of an error of the allocator; each other place that makes it is told."""
+
+    def places(self) -> Iterable[str]:
+        """The files, as `crate/file`, with such a place."""
+        for file in sorted(TOP.glob("crates/lrp_*/src/**/*.rt")):
+            if any(self.is_made(line) for line in self.bodies(file.read_text())):
+                yield f"{file.relative_to(TOP / 'crates').parts[0]}/{file.name}"
+
+    def bodies(self, text: str) -> Iterable[str]:
+        """The lines of code of a file, but for faults, conversions and for arms that hand a want of memory on."""
+        text = re.sub(r"(?m)//.*|^ *(?:pub )?use [^;]*;|^ *ghost [^;]*;", "", text)
+        text = re.sub(r"(?ms)^( *)(?:pub(?:\(crate\))? enum|impl[^{]* From<).*?^\1\}", "", text)
+        text = re.sub(r"(?ms)^( *)Err\((?:\w+::)?Memory\) => \{$.*?^\1\}", "", text)
+        for line in text.splitlines():
+            pattern, arrow, value = line.rpartition(" => ")
+            if not (arrow and "Memory" in pattern):
+                yield value
+
+    def is_made(self, line: str) -> bool:
+        """Whether the line makes a want of memory."""
+        return bool(re.search(r"(?:Err\(|ok_or\(|_ => |^ *)(?:\w+::)?Memory\)*[,;?]*$", line)) and "Result<" not in line
+
+    def test_each_place_is_told(self):
+        section = (TOP / "docs/proofs.md").read_text().split(". Want of memory")[1].split("\n## ")[0]
+        told = re.findall(r"`(lrp_\w+/\w+\.rt)`", section)
+        self.assertEqual(sorted(told), sorted(self.places()))
+
+
 class Walk(unittest.TestCase):
     """The way of a query, with the functions that go it."""
 
