@@ -191,6 +191,9 @@ none_of_values domain times texts values terms n fails = record { none = λ env 
 pub other_text : (value : Value) (term : Term) (here asked : Text) → value ≡ Const here → term ≡ data_term (data_const asked) → bytes_eq here asked ≡ false → IsNeverOf value term
 other_text value term here asked ev et differ = record { none = λ env h. (let same : bytes_eq here asked ≡ true = (bytes_decides here asked).1 (sym (subst (λ u. IsOfValue (Const here) (term_value env u)) et (subst (λ v. IsOfValue v (term_value env term)) ev h))) in cc) }
 
+pub never_equal : (value : Value) (term : Term) (here asked : Text) → value ≡ Const here → term ≡ data_term (data_const asked) → here ≢ asked → IsNeverOf value term
+never_equal value term here asked ev et differ = record { none = λ env h. differ (sym (subst (λ u. IsOfValue (Const here) (term_value env u)) et (subst (λ v. IsOfValue v (term_value env term)) ev h))) }
+
 first_and_rest : (v : Value) (values : List Value) (d : Datum) (tuple : List Datum) → IsOf (v ∷ values) (d ∷ tuple) → IsOfValue v d × IsOf values tuple
 first_and_rest (Point at) values (time x) tuple h = h
 first_and_rest (Const c) values (text t) tuple h = h

@@ -1,5 +1,5 @@
 // The texts that the terms of an atom ask for.
-ghost use Rattle.std.specs.Prelude.{◌≡◌, All, IfOk, IfSome, IsTrue, List as ListOf};
+ghost use Rattle.std.specs.Prelude.{◌≡◌, ◌≢◌, All, IfOk, IfSome, IsTrue, List as ListOf};
 ghost use Rattle.lrp_model.specs.declared.formulas.DataTerm.TheVariants.{Const as data_const};
 ghost use Rattle.lrp_model.specs.declared.formulas.Term.{Term as TermValue};
 ghost use Rattle.lrp_model.specs.declared.formulas.Term.TheVariants.{Data as data_term};
@@ -64,6 +64,20 @@ fn is_another(value: &Value, text: &DataText) -> bool
 {
     match value {
         Value::Point { .. } => false,
-        Value::Const { text: here } => here != text,
+        Value::Const { text: here } => are_different(here.as_bytes(), text.as_bytes()),
     }
+}
+
+// Whether the bytes differ. Texts of one relation often begin alike, so the last byte is looked at first.
+fn are_different(left: &[u8], right: &[u8]) -> bool
+    ensures { IsTrue result → left.now ≢ right.now }
+{
+    if left.len() != right.len() {
+        return true;
+    }
+    if left.is_empty() {
+        return false;
+    }
+    let last = left.len() - 1;
+    left[last] != right[last] || left != right
 }

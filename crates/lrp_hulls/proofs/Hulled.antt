@@ -1,5 +1,5 @@
 -- Hulls of zones, and hulls that have what others have.
-use Rattle.std.proofs.Common.{◌≡◌, ℕ, ◌+◌, ◌<◌, ◌≤◌, List, [], ◌∷◌, ◌++◌, None, length, replicate, set, get_or, inl, inr, ap, sym, subst, ◌∙◌, arith}
+use Rattle.std.proofs.Common.{◌≡◌, ℕ, ◌+◌, ◌<◌, ◌≤◌, List, [], ◌∷◌, ◌++◌, length, replicate, set, get_or, inl, inr, ap, sym, subst, ◌∙◌, arith}
 use Rattle.std.specs.Prelude.{ℤ, pos, ◌-ℤ◌}
 use Rattle.std.proofs.lemmas.Int.{ints}
 use Rattle.std.proofs.lemmas.Bool.{cases_eq}
@@ -9,7 +9,7 @@ use Rattle.lrp_zone.specs.Zones.{ZoneView, IsMember, columns_of}
 use Rattle.lrp_tables.specs.declared.pieces.Piece.{Piece}
 use Rattle.lrp_hulls.specs.Hulls.{AreHullsOf, AreSpansOf, AreWider, AreWiderTexts, IsHullOf, IsWiderHull, hull_at}
 use Rattle.lrp_hulls.specs.Queries.{piece_at}
-use Rattle.lrp_hulls.specs.Spans.{IsInHullSpan as IsInSpan, IsInTextSpan, IsWiderSpan as IsWider, IsWiderText, span_at, text_span_at}
+use Rattle.lrp_hulls.specs.Spans.{IsInHullSpan as IsInSpan, IsInTextSpan, IsWiderSpan as IsWider, IsWiderText, span_at, text_span_at, whole_span}
 use Rattle.lrp_hulls.specs.declared.hull.Hull.{Hull}
 use Rattle.lrp_hulls.specs.declared.hull.TextSpan.{TextSpan}
 use Rattle.lrp_hulls.specs.declared.span.ColumnSpan.{ColumnSpan}
@@ -29,7 +29,7 @@ pub record AreSpansBefore (zone : ZoneView) (i : ℕ) (spans : List ColumnSpan) 
 pub spans_more : (zone : ZoneView) (i : ℕ) (spans : List ColumnSpan) (span : ColumnSpan) → i < 8 → AreSpansBefore zone i spans → ((xs : List ℤ) → IsMember zone xs → IsInSpan zone.period span (node xs (i + 1))) → AreSpansBefore zone (i + 1) (set spans i span)
 spans_more zone i spans span low are one = record {
   size = length-set spans i span ∙ are.size;
-  each = set_more (λ j s. (xs : List ℤ) → IsMember zone xs → IsInSpan zone.period s (node xs (j + 1))) (record { low = None; high = None; first = pos 0; last = pos 0 }) spans i span (let s : length spans ≡ 8 = are.size in omega (arith, s, low)) are.each one;
+  each = set_more (λ j s. (xs : List ℤ) → IsMember zone xs → IsInSpan zone.period s (node xs (j + 1))) whole_span spans i span (let s : length spans ≡ 8 = are.size in omega (arith, s, low)) are.each one;
 }
 
 pub less_nothing : (x : ℤ) → x -ℤ pos 0 ≡ x
@@ -58,7 +58,7 @@ pub record AreWiderBefore (old : List ColumnSpan) (i : ℕ) (new : List ColumnSp
 pub wider_more : (old : List ColumnSpan) (i : ℕ) (new : List ColumnSpan) (span : ColumnSpan) → i < 8 → AreWiderBefore old i new → IsWider (span_at old i) span → AreWiderBefore old (i + 1) (set new i span)
 wider_more old i new span low are one = record {
   size = length-set new i span ∙ are.size;
-  each = set_more (λ j s. IsWider (span_at old j) s) (record { low = None; high = None; first = pos 0; last = pos 0 }) new i span (let s : length new ≡ 8 = are.size in omega (arith, s, low)) are.each one;
+  each = set_more (λ j s. IsWider (span_at old j) s) whole_span new i span (let s : length new ≡ 8 = are.size in omega (arith, s, low)) are.each one;
 }
 
 pub record AreWiderTextsBefore (old : List TextSpan) (i : ℕ) (new : List TextSpan) : Type 0 where

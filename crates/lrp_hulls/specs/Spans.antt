@@ -1,7 +1,5 @@
 -- Where the values of a column lie: from a low to a high end, where there are such ends, and modulo a period.
-use Rattle.std.specs.Prelude.{ℕ, ℤ, ◌≤◌, ◌≤ℤ◌, ◌-ℤ◌, List, None, pos, slice_index_or}
-use Rattle.lrp_matrix.specs.Ranges.{Above}
-use Rattle.lrp_theory.specs.Bounds.{Within}
+use Rattle.std.specs.Prelude.{ℕ, ℤ, ◌-◌, ◌^◌, ◌⊎◌, ◌≤◌, ◌≤ℤ◌, ◌-ℤ◌, List, neg_ℤ, pos, slice_index_or}
 use Rattle.lrp_theory.specs.Divides.{Divides}
 use Rattle.lrp_hulls.specs.declared.hull.TextSpan.{TextSpan}
 use Rattle.lrp_hulls.specs.declared.span.ColumnSpan.{ColumnSpan}
@@ -13,10 +11,18 @@ pub record HasResidueAmong (k : ℕ) (first last x : ℤ) : Type 0 where
   pub high : r ≤ℤ last
   pub same : Divides (pos k) (x -ℤ r)
 
+-- x is at least the low end, where there is one: the least number of 64 bits is none
+abbrev pub IsFromLowEnd : ℤ → ℤ → Type 0
+IsFromLowEnd low x = (low ≤ℤ neg_ℤ (pos (2 ^ 63))) ⊎ (low ≤ℤ x)
+
+-- x is at most the high end, where there is one: the greatest number of 64 bits is none
+abbrev pub IsToHighEnd : ℤ → ℤ → Type 0
+IsToHighEnd high x = (pos (2 ^ 63 - 1) ≤ℤ high) ⊎ (x ≤ℤ high)
+
 -- x is between the ends that there are, and has one of the residues
 pub record IsInHullSpan (k : ℕ) (span : ColumnSpan) (x : ℤ) : Type 0 where
-  pub low : Above x span.low
-  pub high : Within x span.high
+  pub low : IsFromLowEnd span.low x
+  pub high : IsToHighEnd span.high x
   pub residue : HasResidueAmong k span.first span.last x
 
 -- new has the numbers that old has
@@ -32,9 +38,13 @@ pub record IsInTextSpan (span : TextSpan) (n : ℕ) : Type 0 where
 pub record IsWiderText (old new : TextSpan) : Type 0 where
   pub covers : (n : ℕ) → IsInTextSpan old n → IsInTextSpan new n
 
+-- all numbers of one residue modulo 1
+abbrev pub whole_span : ColumnSpan
+whole_span = record { low = neg_ℤ (pos (2 ^ 63)); high = pos (2 ^ 63 - 1); first = pos 0; last = pos 0 }
+
 -- the span of the column after i
 abbrev pub span_at : List ColumnSpan → ℕ → ColumnSpan
-span_at spans i = slice_index_or spans i (record { low = None; high = None; first = pos 0; last = pos 0 })
+span_at spans i = slice_index_or spans i whole_span
 
 -- the span of the texts in the column after i
 abbrev pub text_span_at : List TextSpan → ℕ → TextSpan

@@ -40,14 +40,11 @@ impl Axis {
 }
 
 // An end, if there is one, else 0.
-fn end_of(low: Option<i64>, high: Option<i64>) -> i64 {
-    match low {
-        Some(low) => low,
-        None => match high {
-            Some(high) => high,
-            None => 0,
-        },
+fn end_of(low: i64, high: i64) -> i64 {
+    if low != i64::MIN {
+        return low;
     }
+    if high != i64::MAX { high } else { 0 }
 }
 
 /// How far the hulls with these numbers are spread on an axis.

@@ -4,7 +4,7 @@ ghost use Rattle.lrp_zone.specs.Zones.{columns_of};
 ghost use Rattle.lrp_hulls.specs.Common.{AreCommonBounds, HaveColumns, IsCommonBound, IsZoneInCommon, IsSmallBound};
 
 use lrp_model::{Bound, Memory};
-use lrp_tables::Piece;
+use lrp_packed::PackedList;
 use lrp_zone::Zone;
 use std::alloc::Global;
 
@@ -13,7 +13,11 @@ const MOST: i64 = 1 << 60;
 
 /// The tuples within the bounds that all zones of so many columns have, each bound as that of the loosest zone; `None`
 /// where no integers are within them.
-pub fn common_zone(alloc: Global, pieces: &[Piece], columns: usize) -> Result<Option<Zone>, Memory>
+pub fn common_zone(
+    alloc: Global,
+    pieces: &PackedList,
+    columns: usize,
+) -> Result<Option<Zone>, Memory>
     requires few { columns ≤ 8 }
     requires columns { HaveColumns columns pieces.now }
     ensures { IfOk result (λ found. IfSome found (IsZoneInCommon columns pieces.now)) }
@@ -24,7 +28,7 @@ pub fn common_zone(alloc: Global, pieces: &[Piece], columns: usize) -> Result<Op
 }
 
 // These bounds.
-fn common_bounds(alloc: Global, pieces: &[Piece], columns: usize) -> Result<Vec<Bound>, Memory>
+fn common_bounds(alloc: Global, pieces: &PackedList, columns: usize) -> Result<Vec<Bound>, Memory>
     requires few { columns ≤ 8 }
     requires columns { HaveColumns columns pieces.now }
     ensures { IfOk result (λ bounds. AreCommonBounds columns pieces.now bounds.items) }
@@ -38,7 +42,7 @@ fn common_bounds(alloc: Global, pieces: &[Piece], columns: usize) -> Result<Vec<
 
 // Adds those of column i minus each column, where column 0 is the number zero.
 fn add_bounds_of(
-    pieces: &[Piece],
+    pieces: &PackedList,
     columns: usize,
     i: usize,
     bounds: &mut Vec<Bound>,
@@ -58,7 +62,7 @@ fn add_bounds_of(
 }
 
 // That of column i minus column j, where all zones have one that isn't large.
-fn common_bound(pieces: &[Piece], columns: usize, i: usize, j: usize) -> Option<Bound>
+fn common_bound(pieces: &PackedList, columns: usize, i: usize, j: usize) -> Option<Bound>
     requires few { columns ≤ 8 }
     requires columns { HaveColumns columns pieces.now }
     requires left { i ≤ columns }
@@ -66,7 +70,8 @@ fn common_bound(pieces: &[Piece], columns: usize, i: usize, j: usize) -> Option<
     ensures { IfSome result (IsCommonBound columns pieces.now) }
 {
     let mut most = -MOST;
-    for piece in pieces {
+    for number in 0..pieces.len() {
+        let piece = pieces.piece(number);
         let bound = small_bound(&piece.zone, i, j)?;
         if most < bound {
             most = bound;

@@ -1,11 +1,13 @@
 // What zones of a store have in common: where the values of their columns lie, and their texts.
-ghost use Rattle.std.specs.Prelude.{◌≡◌, ◌<◌, ◌≤◌, ℤ, List, None, length, pos};
+ghost use Rattle.std.specs.Prelude.{◌≡◌, ◌<◌, ◌≤◌, ℤ, List, length};
+ghost use Rattle.lrp_matrix.specs.Ranges.{Above};
 ghost use Rattle.lrp_matrix.specs.Matrices.{HaveSameIntegers};
 ghost use Rattle.lrp_store.specs.Least.{matrix_of};
+ghost use Rattle.lrp_theory.specs.Bounds.{Within};
 ghost use Rattle.lrp_theory.specs.Entries.{node};
 ghost use Rattle.lrp_zone.specs.Zones.{IsMember, columns_of};
 ghost use Rattle.lrp_hulls.specs.Hulls.{AreSpansOf, AreTextSpansOf, AreWider, AreWiderTexts, IsHullOf, IsWiderHull};
-ghost use Rattle.lrp_hulls.specs.Spans.{IsInHullSpan as IsInSpan, IsInTextSpan, IsWiderText, span_at, text_span_at};
+ghost use Rattle.lrp_hulls.specs.Spans.{IsFromLowEnd, IsInHullSpan as IsInSpan, IsInTextSpan, IsToHighEnd, IsWiderText, span_at, text_span_at, whole_span};
 
 use crate::range::{high_end, low_end, stored_low_end};
 use crate::span::ColumnSpan;
@@ -61,11 +63,11 @@ impl Hull {
 
 // All numbers of one residue modulo 1.
 fn whole() -> ColumnSpan
-    ensures { result ≡ record { low = None; high = None; first = pos 0; last = pos 0 } }
+    ensures { result ≡ whole_span }
 {
     ColumnSpan {
-        low: None,
-        high: None,
+        low: i64::MIN,
+        high: i64::MAX,
         first: 0,
         last: 0,
     }
@@ -110,8 +112,8 @@ fn lone_spans(zone: &Zone) -> [ColumnSpan; 8]
     let residue = zone.residue(1);
     let mut spans = [whole(); 8];
     spans[0] = ColumnSpan {
-        low: stored_low_end(zone.bound(0, 1)),
-        high: zone.bound(1, 0),
+        low: low_number(stored_low_end(zone.bound(0, 1))),
+        high: high_number(zone.bound(1, 0)),
         first: residue,
         last: residue,
     };
@@ -140,10 +142,30 @@ fn span_in(zone: &Zone, least: &Matrix, column: usize) -> ColumnSpan
 {
     let residue = zone.residue(column);
     ColumnSpan {
-        low: low_end(least.get(0, column)),
-        high: high_end(least.get(column, 0)),
+        low: low_number(low_end(least.get(0, column))),
+        high: high_number(high_end(least.get(column, 0))),
         first: residue,
         last: residue,
+    }
+}
+
+// The number that a low end is, and the least one of its type for none.
+fn low_number(end: Option<i64>) -> i64
+    ensures { (x : ℤ) → Above x end → IsFromLowEnd result x }
+{
+    match end {
+        Some(low) => low,
+        None => i64::MIN,
+    }
+}
+
+// The number that a high end is, and the greatest one of its type for none.
+fn high_number(end: Option<i64>) -> i64
+    ensures { (x : ℤ) → Within x end → IsToHighEnd result x }
+{
+    match end {
+        Some(high) => high,
+        None => i64::MAX,
     }
 }
 

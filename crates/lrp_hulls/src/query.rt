@@ -9,7 +9,7 @@ ghost use Rattle.lrp_hulls.specs.Spans.{IsInTextSpan};
 use crate::hull::{Hull, TextSpan, span_of_column, text_span_of_column};
 use crate::range::{ColumnRange, range_of_column};
 
-/// Ranges for the values of so many columns, and the numbers of so many texts, where they are known.
+/// Ranges for the values of columns, and the numbers of texts, where they are known.
 #[derive(Clone, Copy)]
 pub struct HullQuery {
     pub columns: usize,

@@ -1,8 +1,9 @@
 -- The zones of a packed store are those of the store that it is seen as.
-use Rattle.std.proofs.Common.{◌≡◌, ◌⊎◌, ℕ, zero, suc, ◌<◌, ◌≤◌, ◌^◌, inl, inr, List, [], ◌∷◌, ◌++◌, map, take, Option, Some, None, IsSome, Bool, true, false, cond, Contains, refl, sym, ap, subst, ◌∙◌, arith, unwrap_or, append_assoc, to_z, of_z}
+use Rattle.std.proofs.Common.{◌≡◌, ◌⊎◌, ℕ, zero, suc, ◌<◌, ◌≤◌, ◌^◌, inl, inr, List, [], ◌∷◌, ◌++◌, length, get_or, map, take, Option, Some, None, IsSome, Bool, true, false, cond, Contains, refl, sym, ap, subst, ◌∙◌, arith, unwrap_or, append_assoc, to_z, of_z}
 use Rattle.std.specs.Prelude.{ℤ, nat_abs, pos}
 use Rattle.std.specs.Int.{w64}
 use Rattle.std.proofs.lemmas.Int.{ints}
+use Rattle.std.proofs.lemmas.List.{length-map}
 use Rattle.std.specs.List.{AllByRecursion}
 use Rattle.std.specs.Ordering.{is_eq, eq_by_cmp}
 use Rattle.std.specs.Cmp.{tied_itself}
@@ -124,6 +125,27 @@ module _ (shape : Shape) (period : ℕ) (zs : List CellZone) where
           small_reach (zone_of (store_of shape period zs) c t) (2 ^ 62) is.shape.columns is.size is.shape.outside (record { each = λ i j il jl. tight_is_small _ _ (entry t i j) (entry t i j) refl (is.shape.tight i j (omega arith) (omega arith)) });
     }
 
+-- ---- a zone of a packed list
+
+read_map : {X Y : Type 0} (f : X → Y) (xs : List X) (n : ℕ) (x : X) (y : Y) → n < length xs → x ≡ get_or xs n x → get_or (map f xs) n y ≡ f x
+read_map f [] n x y low is = absurd (omega (arith, low))
+read_map f (w ∷ xs) zero x y low is = ap f (sym is)
+read_map f (w ∷ xs) (suc n) x y low is = read_map f xs n x y (omega (arith, low)) is
+
+module _ (shape : Shape) (period : ℕ) (zs : List CellZone) (now : List Piece) (seen_is : map (unpacked shape period) zs ≡ now) where
+  pub listed_count : length zs ≡ length now
+  listed_count = sym (length-map zs (unpacked shape period)) ∙ ap length seen_is
+
+  module _ (n : ℕ) (z : CellZone) (low : n < length now) (is : z ≡ get_or zs n z) where
+    inside : n < length zs
+    inside = subst (λ k. n < k) (sym listed_count) low
+
+    pub listed_can : AllByRecursion (CanBeUnpacked shape period) zs → CanBeUnpacked shape period z
+    listed_can all = all_in (CanBeUnpacked shape period) zs z all (n, inside, sym is)
+
+    pub listed_piece : (piece : Piece) → piece ≡ unpacked shape period z → (other : Piece) → get_or now n other ≡ piece
+    listed_piece piece made other = ap (λ l. get_or l n other) (sym seen_is) ∙ read_map (unpacked shape period) zs n z other inside is ∙ sym made
+
 -- ---- a zone is unpacked
 
 -- the cell and the table that entries stand for are those that are seen
@@ -241,3 +263,14 @@ module _ (s : StoreView) where
 
     pub packed_can : IsStore s → AllByRecursion (CanBeUnpacked shape period) zs
     packed_can valid = rw shape_is (rw period_is (rw p.zones (can_of p.done whole valid)))
+
+    -- they are unpacked again
+    pub packed_pieces : IsStore s → ArePieces s (map (unpacked shape period) zs)
+    packed_pieces valid = rw shape_is (rw period_is (rw p.zones (subst (ArePieces s) (sym (again valid p.done whole.each)) whole)))
+      where
+        one : IsStore s → (piece : Piece) → IsPieceOf s piece → unpacked s.shape s.period (packed piece) ≡ piece
+        one valid piece is = ap (λ z. record { cell = piece.cell; zone = z }) (sym (own_zone piece is))
+
+        again : IsStore s → (pieces : List Piece) → ((piece : Piece) → Contains pieces piece → IsPieceOf s piece) → map (unpacked s.shape s.period) (map packed pieces) ≡ pieces
+        again valid [] each = refl
+        again valid (x ∷ xs) each = ap (λ y. y ∷ map (unpacked s.shape s.period) (map packed xs)) (one valid x (each x (first_in x xs))) ∙ ap (λ ys. x ∷ ys) (again valid xs (λ y h. each y (later_in x y xs h)))
