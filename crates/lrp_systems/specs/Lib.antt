@@ -13,6 +13,7 @@ pub mod Frames
 pub mod Joint
 -- What functions inside say to one another.
 pub mod FrontCodes
+pub mod Marks
 pub mod Pieces
 pub mod Placing
 pub mod Sole

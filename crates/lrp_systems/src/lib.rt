@@ -11,6 +11,7 @@ mod free;
 mod front_walk;
 mod fronts;
 mod joint;
+mod marks;
 mod order;
 mod part;
 mod piece;

@@ -1,10 +1,11 @@
 // Cells that a store holds whole.
-ghost use Rattle.std.specs.Prelude.{◌≡◌, ◌-◌, ◌^◌, pos, take, OnOk, OnErr};
+ghost use Rattle.std.specs.Prelude.{◌≡◌, ◌-◌, ◌^◌, pos, take, length, true, OnOk, OnErr};
 ghost use Rattle.lrp_zone.specs.Zones.{greatest_of};
 ghost use Rattle.lrp_store.specs.Growing.{IsAdded, IsTupleOf};
 ghost use Rattle.lrp_store.specs.Stores.{IsPadded};
-ghost use Rattle.lrp_systems.specs.Wholes.{AreWhole};
+ghost use Rattle.lrp_systems.specs.Wholes.{AreMarkedWhole, AreWhole};
 
+use crate::marks::Marks;
 use lrp_model::Cell;
 use lrp_store::{Store, StoreFault};
 use lrp_tables::{RememberedCells, is_free};
@@ -36,4 +37,24 @@ pub fn add_zone(
         wholes.put(cell);
     }
     Ok(())
+}
+
+/// Marks the residue of a cell that is remembered, where cells have one column and no texts.
+pub(crate) fn mark_whole(cell: &Cell, wholes: &RememberedCells, out: &Store, marks: &mut Marks)
+    requires size { length cell.now.residues ≡ 8 }
+    requires wholes { AreWhole wholes.now out.now }
+    requires marks { AreMarkedWhole marks.old out.now }
+    ensures { AreMarkedWhole marks.new out.now }
+{
+    if is_line(out) && wholes.has(cell) {
+        marks.put(cell);
+    }
+}
+
+/// Whether the tuples of a store have one time and no texts.
+pub(crate) fn is_line(store: &Store) -> bool
+    ensures { result ≡ true → (store.now.shape.times ≡ 1) × (store.now.shape.texts ≡ 0) }
+{
+    let shape = store.shape();
+    shape.times == 1 && shape.texts == 0
 }
