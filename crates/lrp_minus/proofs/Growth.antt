@@ -1,19 +1,19 @@
 -- By how many zones each cell grows.
-use Rattle.std.proofs.Common.{◌≡◌, ◌≢◌, ℕ, zero, suc, ◌+◌, ◌*◌, ◌<◌, ◌≤◌, ◌⊎◌, inl, inr, List, [], ◌∷◌, length, unwrap_or, refl, sym, ap, subst, ◌∙◌, arith, get_or, set, get_or-set_other, get_or-set_same}
-use Rattle.std.specs.Prelude.{ℤ, pos, ◌<ℤ◌, ◌≤ℤ◌, ◌+ℤ◌, AllPairs, Contains}
+use Rattle.std.proofs.Common.{◌≡◌, ◌≢◌, ℕ, zero, suc, ◌+◌, ◌*◌, ◌<◌, ◌≤◌, inl, inr, List, [], ◌∷◌, length, unwrap_or, refl, sym, ap, subst, ◌∙◌, arith, get_or, set, get_or-set_other, get_or-set_same}
+use Rattle.std.specs.Prelude.{ℤ, pos, ◌<ℤ◌, ◌+ℤ◌, AllPairs, Contains}
 use Rattle.std.proofs.lemmas.Int.{ints}
 use Rattle.std.specs.FinMap as finite
 use Rattle.std.specs.FinMap.{get-empty}
 use Rattle.lrp_model.specs.declared.tuples.Cell.{Cell}
 use Rattle.lrp_zone.specs.Zones.{ZoneView}
 use Rattle.lrp_store.specs.Growing.{GrowsByAtMost}
-use Rattle.lrp_store.specs.Stores.{StoreView, tables_at, whole_zone, zones_at}
+use Rattle.lrp_store.specs.Stores.{StoreView, tables_at}
 use Rattle.lrp_store.proofs.Aligning.{head_in, tail_in}
 use Rattle.lrp_store.proofs.Held.{cell_or}
 use Rattle.lrp_store.proofs.ZoneCounts.{first_differs, rest_differ}
 use Rattle.lrp_cutting.specs.declared.pairs.NodePair.{NodePair}
 use Rattle.lrp_cutting.specs.Thresholds.{most_parts, most_pieces, pairs_below, parts_along}
-use Rattle.lrp_minus.specs.Counts.{GrowsIn, BeginsWithResidues, BeginsWithTexts, most_left}
+use Rattle.lrp_minus.specs.Counts.{GrowsIn, BeginsWithResidues, BeginsWithTexts, LiesInWideCell, cell_modulo}
 
 -- ---- one cell
 
@@ -71,6 +71,30 @@ grows_as P Q n old new to g = record {
   ];
 }
 
+-- by at most more
+pub grows_wider : (P : Cell → Type 0) (m n : Cell → ℕ) (old new : StoreView) → ((c : Cell) → P c → m c ≤ n c) → GrowsIn P m old new → GrowsIn P n old new
+grows_wider P m n old new wider g = record {
+  each = λ q. elim (g.each q) [
+    | inl e ↦ inl e
+    | inr e ↦ inr (e.0, let l : m q ≤ n q = wider q e.0 in let h : length (tables_at new q) ≤ length (tables_at old q) + m q = e.1 in omega arith)
+  ];
+}
+
+-- the same cells twice
+pub grows_again : (P : Cell → Type 0) (m n : Cell → ℕ) (old mid new : StoreView) → GrowsIn P m old mid → GrowsIn P n mid new → GrowsIn P (λ c. m c + n c) old new
+grows_again P m n old mid new g h = record {
+  each = λ q. elim (g.each q) [
+    | inl e ↦ elim (h.each q) [
+      | inl f ↦ inl (f ∙ e)
+      | inr f ↦ inr (f.0, let s : length (tables_at mid q) ≡ length (tables_at old q) = ap length e in let l : length (tables_at new q) ≤ length (tables_at mid q) + n q = f.1 in omega arith)
+    ]
+    | inr e ↦ elim (h.each q) [
+      | inl f ↦ inr (e.0, let s : length (tables_at new q) ≡ length (tables_at mid q) = ap length f in let l : length (tables_at mid q) ≤ length (tables_at old q) + m q = e.1 in omega arith)
+      | inr f ↦ inr (e.0, let l : length (tables_at mid q) ≤ length (tables_at old q) + m q = e.1 in let r : length (tables_at new q) ≤ length (tables_at mid q) + n q = f.1 in omega arith)
+    ]
+  ];
+}
+
 -- into a store without cells
 pub grows_from_none : (P : Cell → Type 0) (n : Cell → ℕ) (old new : StoreView) → ((c : Cell) → tables_at old c ≡ []) → GrowsIn P n old new → (c : Cell) → length (tables_at new c) ≤ n c
 grows_from_none P n old new none g c = elim (g.each c) [
@@ -78,15 +102,20 @@ grows_from_none P n old new none g c = elim (g.each c) [
   | inr e ↦ let l : length (tables_at old c) ≡ 0 = ap length (none c) in let m : length (tables_at new c) ≤ length (tables_at old c) + n c = e.1 in omega arith
 ]
 
--- the cells of the left store that were passed
+-- the cells that lie in cells of the left store that were passed
 abbrev pub IsCellBefore : StoreView → List Cell → Cell → Type 0
-IsCellBefore left rest cell = Contains (finite.keys left.tables) cell × (Contains rest cell → ⊥)
+IsCellBefore left rest cell = Contains (finite.keys left.tables) (cell_modulo left.period cell) × (Contains rest (cell_modulo left.period cell) → ⊥)
 
-pub passed_next : (left : StoreView) (first : Cell) (rest cells : List Cell) → cells ≡ first ∷ rest → AllPairs ◌≢◌ cells → Contains (finite.keys left.tables) first → (n : Cell → ℕ) (old mid new : StoreView) → GrowsIn (IsCellBefore left cells) n old mid → GrowsByAtMost (n first) first mid new → GrowsIn (IsCellBefore left rest) n old new
-passed_next left first rest cells is apart key n old mid new g h = grows_then (IsCellBefore left cells) (λ c. c ≡ first) (IsCellBefore left rest) n old mid new g (grows_at (λ c. c ≡ first) n first mid new refl h)
-    (λ c p. (p.0, λ r. p.1 (tail_in first rest cells is c r)))
-    (λ c e. (subst (λ d. Contains (finite.keys left.tables) d) (sym e) key, λ r. first_differs first rest (subst (AllPairs ◌≢◌) is apart) c r e))
+pub passed_next : (left : StoreView) (first : Cell) (rest cells : List Cell) → cells ≡ first ∷ rest → AllPairs ◌≢◌ cells → Contains (finite.keys left.tables) first → (n : Cell → ℕ) (old mid new : StoreView)
+    → GrowsIn (IsCellBefore left cells) (λ c. n (cell_modulo left.period c)) old mid → GrowsIn (LiesInWideCell left.period first) (λ c. n first) mid new → GrowsIn (IsCellBefore left rest) (λ c. n (cell_modulo left.period c)) old new
+passed_next left first rest cells is apart key n old mid new g h = grows_then (IsCellBefore left cells) (LiesInWideCell left.period first) (IsCellBefore left rest) (λ c. n (cell_modulo left.period c)) old mid new g
+    (grows_wider (LiesInWideCell left.period first) (λ c. n first) (λ c. n (cell_modulo left.period c)) mid new (λ c e. same_le (n first) (n (cell_modulo left.period c)) (ap n (sym e))) h)
+    (λ c p. (p.0, λ r. p.1 (tail_in first rest cells is (cell_modulo left.period c) r)))
+    (λ c e. (subst (λ d. Contains (finite.keys left.tables) d) (sym e) key, λ r. first_differs first rest (subst (AllPairs ◌≢◌) is apart) (cell_modulo left.period c) r e))
     (λ c p e. p.1 (subst (λ d. Contains cells d) (sym e) (head_in first rest cells is)))
+  where
+    same_le : (a b : ℕ) → a ≡ b → a ≤ b
+    same_le a b e = omega arith
 
 pub still_apart : (first : Cell) (rest cells : List Cell) → cells ≡ first ∷ rest → AllPairs ◌≢◌ cells → AllPairs ◌≢◌ rest
 still_apart first rest cells is apart = rest_differ first rest (subst (AllPairs ◌≢◌) is apart)

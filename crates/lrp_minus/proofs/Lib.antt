@@ -9,6 +9,8 @@ pub mod EmptyCells
 pub mod Fewness
 pub mod FillingLaws
 pub mod Growth
+pub mod PartCounts
 pub mod SparedLaws
 pub mod TakenLaws
 pub mod TakingLaws
+pub mod WithinCells

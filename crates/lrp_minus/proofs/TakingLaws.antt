@@ -147,7 +147,7 @@ module _ (t : Taking) (s : StoreView) (is : IsStore s) (taking : IsSubtraction t
   front_count : length (take s.shape.times c.residues) ≡ s.shape.times
   front_count = length-take-le s.shape.times c.residues (let e : length c.residues ≡ 8 = begun.residues.size in let l : s.shape.times ≤ 8 = is.times in omega arith)
 
-  own : (q : ℕ) → q ≤ s.shape.times → target t.frame.now.order q ≡ q
+  pub own : (q : ℕ) → q ≤ s.shape.times → target t.frame.now.order q ≡ q
   own q h = taking.order.own q (let l : s.shape.times ≤ 8 = is.times in omega arith)
 
   to_front : (xs : List ℤ) → AgreesAlong s.period t.frame.now.order c.residues s.shape.times xs → HasResidues (pos s.period) (take s.shape.times c.residues) xs

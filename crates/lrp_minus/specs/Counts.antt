@@ -1,5 +1,6 @@
 -- How many zones the cells of differences and complements have at most.
-use Rattle.std.specs.Prelude.{◌≡◌, ◌⊎◌, ℕ, ◌+◌, ◌*◌, ◌<◌, ◌≤◌, List, [], ◌∷◌, length, pos, slice_index_or}
+use Rattle.std.specs.Prelude.{◌≡◌, ◌⊎◌, ℕ, ◌+◌, ◌*◌, ◌<◌, ◌≤◌, List, [], ◌∷◌, length, map, pos, slice_index_or}
+use Rattle.std.specs.Int.{int_rem_euclid}
 use Rattle.lrp_model.specs.declared.tuples.Cell.{Cell}
 use Rattle.lrp_store.specs.Stores.{StoreView, tables_at, whole_zone, zones_at}
 use Rattle.lrp_cutting.specs.declared.pairs.NodePair.{NodePair}
@@ -30,15 +31,23 @@ pub record HasFewAbsences (s made : StoreView) : Type 0 where
 abbrev pub most_spared : StoreView → ℕ → Cell → ℕ
 most_spared left n cell = length (tables_at left cell) * most_by left.shape.times n
 
--- where no cell of the right store has more than n zones, each cell has at most as many as n cutters leave of the zones that it has in the left one
+-- the cell of period k in which a cell of a multiple of k lies: it has its texts, and its residues modulo k
+abbrev pub cell_modulo : ℕ → Cell → Cell
+cell_modulo k cell = record { texts = cell.texts; residues = map (λ r. int_rem_euclid r (pos k)) cell.residues }
+
+-- where no cell of the right store has more than n zones, each cell has at most as many as n cutters leave of the zones of the left store's cell in which it lies
 pub record HasFewSpared (left right made : StoreView) : Type 0 where
-  pub each : (n : ℕ) → HasAtMost n right → (cell : Cell) → length (tables_at made cell) ≤ most_spared left n cell
+  pub each : (n : ℕ) → HasAtMost n right → (cell : Cell) → length (tables_at made cell) ≤ most_spared left n (cell_modulo left.period cell)
 
 -- ---- what functions inside say to one another
 
 -- in a cell of P the new store has at most so many zones more, and in the others it has the same ones
 pub record GrowsIn (P : Cell → Type 0) (n : Cell → ℕ) (old new : StoreView) : Type 0 where
   pub each : (cell : Cell) → (tables_at new cell ≡ tables_at old cell) ⊎ (P cell × (length (tables_at new cell) ≤ length (tables_at old cell) + n cell))
+
+-- the cell lies in this one of period k
+abbrev pub LiesInWideCell : ℕ → Cell → Cell → Type 0
+LiesInWideCell k wide cell = cell_modulo k cell ≡ wide
 
 -- the cell has these texts before a column
 abbrev pub BeginsWithTexts : ℕ → List ℕ → Cell → Type 0

@@ -10,7 +10,7 @@ use Rattle.lrp_store.specs.Growing.{GrowsByAtMost, IsAdded, IsRefused}
 use Rattle.lrp_store.specs.Settled.{InSome}
 use Rattle.lrp_store.specs.Stores.{StoreView, IsStore, IsCellOf, InCell, InStore, HasReach}
 use Rattle.lrp_minus.specs.Beneath.{ArePlacesFor, HasBeneath}
-use Rattle.lrp_minus.specs.Counts.{GrowsIn, HasAtMost, most_spared}
+use Rattle.lrp_minus.specs.Counts.{GrowsIn, HasAtMost, LiesInWideCell, cell_modulo, most_spared}
 use Rattle.lrp_cutting.specs.Differences.{greatest_reach}
 use Rattle.lrp_cutting.specs.Settling.{IsLike}
 use Rattle.lrp_minus.specs.declared.differences.Difference.{Difference}
@@ -97,13 +97,13 @@ IsSameRefused d set old new = (high : ℕ) → SidesHaveReach d.left.now d.right
 abbrev pub IsSameFew : Difference → Cell → StoreView → StoreView → Type 0
 IsSameFew d cell old new = (n : ℕ) → HasAtMost n d.right.now → GrowsByAtMost (most_spared d.left.now n cell) cell old new
 
--- so it is where the period of the left store is that of the other
+-- so it is in each cell that lies in the left store's, and in the others none is added
 abbrev pub IsCellFew : Difference → Cell → StoreView → StoreView → Type 0
-IsCellFew d cell old new = d.left.now.period ≡ old.period → IsSameFew d cell old new
+IsCellFew d cell old new = (n : ℕ) → HasAtMost n d.right.now → GrowsIn (LiesInWideCell d.left.now.period cell) (λ within. most_spared d.left.now n cell) old new
 
--- and so it is in all cells, where the period of the left store is that of the other
+-- and so it is of all cells of the left store
 abbrev pub IsDifferenceFew : Difference → StoreView → StoreView → Type 0
-IsDifferenceFew d old new = d.left.now.period ≡ old.period → (n : ℕ) → HasAtMost n d.right.now → GrowsIn (λ cell. Contains (finite.keys d.left.now.tables) cell) (most_spared d.left.now n) old new
+IsDifferenceFew d old new = (n : ℕ) → HasAtMost n d.right.now → GrowsIn (λ cell. Contains (finite.keys d.left.now.tables) (cell_modulo d.left.now.period cell)) (λ cell. most_spared d.left.now n (cell_modulo d.left.now.period cell)) old new
 
 -- the difference can be added to out, a store of the left one's shape, in cells of its period
 pub record CanSubtractIn (d : Difference) (out : StoreView) : Type 0 where

@@ -7,13 +7,14 @@ use Rattle.lrp_model.specs.declared.tuples.Shape.{Shape}
 use Rattle.lrp_zone.specs.Spread.{target}
 use Rattle.lrp_zone.specs.Zones.{ZoneView, IsZone, columns_of, reach_of}
 use Rattle.lrp_store.specs.Growing.{IsAdded, IsRefused, IsTupleOf}
-use Rattle.lrp_store.specs.Stores.{StoreView, IsStore, HasReach}
+use Rattle.lrp_store.specs.Stores.{StoreView, IsInhabitedCell, IsStore, HasReach}
 use Rattle.lrp_systems.specs.Choices.{AgreesAlong}
 use Rattle.lrp_systems.specs.Frames.{IsFrame, IsNumbered}
 use Rattle.lrp_systems.specs.Parts.{Fits, system_reach}
 use Rattle.lrp_systems.specs.Systems.{IsBranch}
 use Rattle.lrp_minus.specs.Beneath.{HasBeneath}
 use Rattle.lrp_tables.specs.Calls.{number_at}
+use Rattle.lrp_minus.specs.Counts.{GrowsIn, HasAtMost, most_by}
 use Rattle.lrp_minus.specs.Cutters.{CanCut}
 use Rattle.lrp_tables.specs.declared.names.Places.{Places}
 use Rattle.lrp_minus.specs.declared.differences.Difference.{Difference}
@@ -41,6 +42,10 @@ IsTakenAdded d z texts old new = (high : ℕ) → reach_of z ≤ high → HasRea
 abbrev pub IsTakenRefused : Difference → ZoneView → List ℕ → StoreView → StoreView → Type 0
 IsTakenRefused d z texts old new = (high : ℕ) → reach_of z ≤ high → HasReach d.right.now high → IsRefused (IsLeftOf d.places.now z (take old.shape.texts texts) d.right.now) d.cap (high + 2 * old.period) old new
 
+-- where no cell of the right store has more than n zones, each cell in which the zone has a tuple with these texts has at most as many more as n cutters leave of a zone, and the others have none more
+abbrev pub IsTakenFew : Difference → ZoneView → List ℕ → StoreView → StoreView → Type 0
+IsTakenFew d z texts old new = (n : ℕ) → HasAtMost n d.right.now → GrowsIn (IsInhabitedCell old.shape old.period (IsTupleOf z (take old.shape.texts texts))) (λ cell. most_by old.shape.times n) old new
+
 -- a solution of the system with the residues of the cell at its first p columns, and the cell's texts, that has none of the right store at the places
 pub record IsLeftIn (t : Taking) (shape : Shape) (k : ℕ) (cell : Cell) (p : ℕ) (times : List ℤ) (texts : List ℕ) : Type 0 where
   pub branch : IsBranch t.parts.now shape k t.frame.now.order cell p times texts
@@ -55,6 +60,10 @@ pub record IsSubtraction (t : Taking) (s : StoreView) : Type 0 where
   pub last : (i : ℕ) → i < length t.places.now.times → slice_index_or t.places.now.times i 0 ≤ t.last
   pub reach : system_reach s.period t.parts.now ≤ 2 ^ 62 - s.period
   pub cut : CanCut t.places.now s t.right.now
+
+-- where no cell of the right store has more than n zones, each cell in which a solution with the first p residues of the cell lies has at most as many more as n cutters leave of a zone, and the others have none more
+abbrev pub IsPartFew : Taking → Cell → ℕ → StoreView → StoreView → Type 0
+IsPartFew t cell p old new = (n : ℕ) → HasAtMost n t.right.now → GrowsIn (IsInhabitedCell old.shape old.period (IsBranch t.parts.now old.shape old.period t.frame.now.order cell p)) (λ inhabited. most_by old.shape.times n) old new
 
 -- the zones of the right store reach no farther than this, and the parts' pieces no farther than that and the period
 pub record HasPartsWithin (t : Taking) (k high : ℕ) : Type 0 where

@@ -1,5 +1,5 @@
 // Differences of tables.
-ghost use Rattle.std.specs.Prelude.{◌≡◌, pos, IfOk, OnOk, Err};
+ghost use Rattle.std.specs.Prelude.{◌≡◌, IfOk, OnOk, Err};
 ghost use Rattle.lrp_store.specs.Stores.{IsStore};
 ghost use Rattle.lrp_tables.specs.Steps.{CanMinus, IsMinusResult};
 ghost use Rattle.lrp_minus.specs.Cutters.{CanSubtractIn, CanTakeIn, IsCellFew, IsCellOfLeft, IsDifferenceAdded, IsDifferenceFew, IsDifferenceRefused, IsInDifference, IsInDifferenceAt, IsSameAdded, IsSameFew, IsSameRefused};
@@ -34,8 +34,7 @@ pub fn minus(
     requires { CanMinus period left.now right.now }
     ensures difference { IsMinusResult setting.now.cap period left.now right.now result }
     ensures valid { IfOk result (λ made. IsStore made.store) }
-    ensures few { period ≡ pos left.now.store.period
-        → IfOk result (λ made. HasFewSpared left.now.store right.now.store made.store) }
+    ensures few { IfOk result (λ made. HasFewSpared left.now.store right.now.store made.store) }
 {
     let alloc = setting.alloc;
     let vars = Vars {

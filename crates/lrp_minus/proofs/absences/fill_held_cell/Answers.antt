@@ -9,7 +9,7 @@ use Rattle.lrp_cutting.proofs.Alike.{alike_cells}
 use Rattle.lrp_cutting.proofs.Lists.{on_ok}
 use Rattle.lrp_cutting.specs.Thresholds.{most_pieces}
 use Rattle.lrp_store.specs.Growing.{GrowsByAtMost}
-use Rattle.lrp_store.specs.Stores.{whole_zone, zones_at}
+use Rattle.lrp_store.specs.Stores.{whole_zone}
 use Rattle.lrp_minus.proofs.Growth.{same_most}
 use Rattle.lrp_minus.proofs.absences.fill_held_cell.Goals as goal
 

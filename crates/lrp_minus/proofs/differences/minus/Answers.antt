@@ -9,7 +9,7 @@ use Rattle.lrp_minus.specs.Cutters.{CanSubtract, IsSpared}
 use Rattle.lrp_minus.proofs.DifferenceLaws.{all_placed, can_subtract, fresh_valid, minus_few, minus_many, minus_reach, minus_table, passed_abs, passed_pos, started, without_cells}
 use Rattle.std.specs.FinMap as finite
 use Rattle.std.specs.Prelude.{Contains}
-use Rattle.lrp_minus.specs.Counts.{most_spared}
+use Rattle.lrp_minus.specs.Counts.{cell_modulo, most_spared}
 use Rattle.lrp_minus.proofs.Growth.{grows_from_none, none_held}
 use Rattle.lrp_minus.proofs.differences.minus.Goals as goal
 
@@ -64,10 +64,6 @@ returns-in-Err-TooManyCells-clause-difference c =
     }
 
 pub returns-in-Ok-clause-few : goal.returns-in-Ok-clause-few
-returns-in-Ok-clause-few c = λ e.
+returns-in-Ok-clause-few c =
     let fresh : c.new-out.result ≡ without_cells c.args.left.now.store.shape (nat_abs c.args.period) = started c.new-out.result _ _ _ _ c.new-out.ensures c.shape-2.ensures.value (passed_abs c.args.period c.requires.low c.requires.high) in
-    let same : c.args.left.now.store.period ≡ c.new-out.result.period = sym (ap nat_abs e) ∙ sym (ap (λ s. s.period) fresh) in
-    record { each = λ n at. grows_from_none (λ cell. Contains (finite.keys c.args.left.now.store.tables) cell) (most_spared c.args.left.now.store n) c.new-out.result c.add_difference.new.out (none_held c.new-out.result (ap (λ s. s.tables) fresh)) (c.in-Ok.ensures.few same n at) }
-
-pub returns-in-Err-TooManyCells-clause-few : goal.returns-in-Err-TooManyCells-clause-few
-returns-in-Err-TooManyCells-clause-few c = λ e. tt
+    record { each = λ n at. grows_from_none (λ cell. Contains (finite.keys c.args.left.now.store.tables) (cell_modulo c.args.left.now.store.period cell)) (λ cell. most_spared c.args.left.now.store n (cell_modulo c.args.left.now.store.period cell)) c.new-out.result c.add_difference.new.out (none_held c.new-out.result (ap (λ s. s.tables) fresh)) (c.in-Ok.ensures.few n at) }

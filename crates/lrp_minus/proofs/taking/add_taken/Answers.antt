@@ -1,11 +1,16 @@
 -- With no residue chosen, the branch is the whole zone.
 use Rattle.std.proofs.Common.{ℕ, [], ◌∷◌, ◌-◌, ◌+◌, ◌*◌, ◌^◌, ◌<◌, ◌≤◌, take, refl, ap, subst, sym, ◌∙◌, arith}
-use Rattle.std.specs.Prelude.{All, length, slice_index_or}
+use Rattle.std.specs.Prelude.{All, length, pos, replicate, slice_index_or}
 use Rattle.lrp_zone.specs.Zones.{reach_of}
+use Rattle.lrp_store.specs.Growing.{IsTupleOf}
+use Rattle.lrp_store.specs.Stores.{IsInhabitedCell}
 use Rattle.lrp_systems.specs.Frames.{IsFrame}
 use Rattle.lrp_systems.specs.Parts.{Fits, system_reach}
 use Rattle.lrp_systems.proofs.LoneZones.{lone_fits, lone_within}
 use Rattle.lrp_cutting.proofs.Lists.{on_ok}
+use Rattle.lrp_minus.specs.Counts.{most_by}
+use Rattle.lrp_minus.proofs.Growth.{grows_not}
+use Rattle.lrp_minus.proofs.PartCounts.{whole_few}
 use Rattle.lrp_minus.proofs.TakingLaws.{none_left, whole_added, whole_refused, whole_within}
 use Rattle.lrp_minus.proofs.taking.add_taken.Goals as goal
 
@@ -40,3 +45,10 @@ returns-clause-ok c =
 
 pub returns-clause-refused : goal.returns-clause-refused
 returns-clause-refused c = λ e high l r. whole_refused c.args.zone.now c.in_order.result c.in_order.ensures.zone c.args.out.now c.shape.ensures.valid c.in_order.ensures.whole c.requires.split.columns _ refl _ c.args.texts.now refl c.args.difference.now.cap (high + 2 * c.args.out.now.period) c.add_part.new.out (c.add_part.ensures.refused e high (whole_within c.args.zone.now c.in_order.result c.in_order.ensures.zone c.args.out.now c.shape.ensures.valid c.in_order.ensures.whole c.requires.split.columns _ refl high c.shape.ensures.valid.period_low l r))
+
+pub returns-in_default-clause-few : goal.returns-in_default-clause-few
+returns-in_default-clause-few c = λ n at. grows_not (IsInhabitedCell c.args.out.now.shape c.args.out.now.period (IsTupleOf c.args.zone.now (take c.args.out.now.shape.texts c.args.texts.now))) (λ inhabited. most_by c.args.out.now.shape.times n) c.args.out.now
+
+pub returns-clause-few : goal.returns-clause-few
+returns-clause-few c =
+    on_ok _ _ c.add_part.result (whole_few c.args.zone.now c.in_order.result c.in_order.ensures.zone c.args.out.now c.shape.ensures.valid c.in_order.ensures.whole c.requires.split.columns c.in-Some.frame.order c.args.difference.now.right.now (record { texts = c.args.texts.now; residues = replicate 8 (pos 0) }) c.add_part.new.out) c.add_part.ensures.few
