@@ -2,14 +2,14 @@
 use Rattle.std.proofs.Common.{◌≡◌, ◌↔◌, ◌⊎◌, inl, inr, ⊎_elim, ◌≤◌, ◌<◌, ◌+◌, ◌-◌, ◌*◌, ◌^◌, ℕ, zero, suc, List, [], ◌∷◌, ◌++◌, length, Some, Contains, unwrap_or, option_map, slice_get, refl, sym, ap, ap₂, subst, ◌∙◌, arith, to_z, of_z, w64}
 use Rattle.std.proofs.lemmas.Int.{ints}
 use Rattle.std.proofs.Math.Nat.{mul-le-mul_right, mul-le-mul_left}
-use Rattle.std.specs.Prelude.{pos, nat_abs}
+use Rattle.std.specs.Prelude.{ℤ, pos, nat_abs}
 use Rattle.std.specs.List.{AllByRecursion, AllZip}
 use Rattle.lrp_theory.proofs.Multiples.{multiple_le}
 use Rattle.lrp_model.specs.Texts.{Text}
 use Rattle.lrp_model.specs.DataTexts.{IsDomain}
 use Rattle.lrp_model.specs.Rows.{Datum, texts_of, times_of}
 use Rattle.lrp_model.specs.Formulas.{Question, conjunction, no_forms}
-use Rattle.lrp_model.specs.Variables.{Variable, data_variable, free, head_variables}
+use Rattle.lrp_model.specs.Variables.{Variable, data_variable, time_variable, free, head_variables}
 use Rattle.lrp_model.specs.Satisfaction.{Assignment, HasShape, IsAnswer, Satisfies, assignment, structure}
 use Rattle.lrp_model.specs.Domains.{constants}
 use Rattle.lrp_model.specs.Caps.{ManyAt, step_variables, variables_with}
@@ -29,7 +29,10 @@ use Rattle.lrp_store.proofs.Held.{zone_held}
 use Rattle.lrp_tables.specs.declared.table.Table.{Table}
 use Rattle.lrp_tables.specs.Caps.{InhabitsMoreThan}
 use Rattle.lrp_tables.specs.Columns.{head_times, head_texts}
-use Rattle.lrp_tables.specs.Tables.{HasAssignment, named_variables}
+use Rattle.lrp_tables.specs.Tables.{HasAssignment, HasTexts, named_variables}
+use Rattle.lrp_tables.specs.Steps.{CanExtend}
+use Rattle.lrp_tables.proofs.HeadNames.{head_names_differ}
+use Rattle.lrp_tables.proofs.TableLaws.{table_texts}
 use Rattle.lrp_tables.proofs.HeadCounts.{columns_counted, times_counted}
 use Rattle.lrp_tables.proofs.Numbers.{texts_known}
 use Rattle.lrp_cutting.specs.Differences.{greatest_reach}
@@ -39,22 +42,25 @@ use Rattle.lrp_cutting.proofs.Lists.{below_or, from_map, greatest_below, in_one,
 use Rattle.lrp_periods.specs.Parts.{AreParts, HasSome, IsPeriodPart, part_texts, part_times}
 use Rattle.lrp_answers.specs.declared.answer.Answer.{Answer}
 use Rattle.lrp_plan_laws.specs.Rising.{KeepsPeriod, period_at}
+use Rattle.lrp_plan_laws.specs.Scopes.{IsNarrow}
 use Rattle.lrp_plan_laws.specs.Settled.{IsSoundPlan}
 use Rattle.lrp_plan_laws.proofs.Members.{all_by, in_left, in_one as in_either}
 use Rattle.lrp_eval.specs.Answered.{AreAnswersInParts, IsAnswerOf, IsAnswerPart}
-use Rattle.lrp_eval.specs.Ending.{AreLastHeld, AreLastParts, CanStandUnder, IsAnswerUnder}
-use Rattle.lrp_eval.specs.Grouped.{AreHeld, CanRunGroup, HaveFew, IsGroupHeld, IsNextStep, IsStepInParts, next_step_number}
+use Rattle.lrp_eval.specs.Ending.{AreLastHeld, AreLastParts, AreOverHead, CanStandOver, CanStandUnder, IsAnswerUnder}
+use Rattle.lrp_eval.specs.Grouped.{AreHeld, CanBeWhole, CanRunGroup, HaveFew, IsGroupHeld, IsNextStep, IsStepInParts, next_step_number}
 use Rattle.lrp_eval.specs.Planned.{IsPlanOf}
-use Rattle.lrp_eval.specs.Running.{HasConstants, SameVariables}
+use Rattle.lrp_eval.specs.Running.{AreRun, HasConstants, SameVariables}
 use Rattle.lrp_eval.specs.declared.groups.Group.{Group}
 use Rattle.lrp_eval.proofs.AnsweredLaws.{fewer}
 use Rattle.lrp_eval.proofs.AnswerLaws.{fits_known, shape_of}
 use Rattle.lrp_eval.proofs.Counted.{many_at}
 use Rattle.lrp_eval.proofs.GroupLaws.{of_next, parts_few}
+use Rattle.lrp_eval.proofs.GroupSteps.{held_whole}
+use Rattle.lrp_eval.proofs.Reading.{first_differ, second_differ}
 use Rattle.lrp_eval.proofs.HeadTuples.{tuple_held, tuple_known}
 use Rattle.lrp_eval.proofs.LoopLaws.{many_in, step_here, zip_length}
-use Rattle.lrp_eval.proofs.Named.{head_columns}
-use Rattle.lrp_eval.proofs.PartSteps.{at_period, period_nat}
+use Rattle.lrp_eval.proofs.Named.{are_texts, data_named, head_columns, texts_in_head, time_named, times_in_head}
+use Rattle.lrp_eval.proofs.PartSteps.{at_period, own_period, period_nat}
 use Rattle.lrp_eval.proofs.PlanEnds.{last_step, some_steps, wide_last}
 use Rattle.lrp_eval.proofs.Nexts.{half_reach}
 use Rattle.lrp_eval.proofs.ShownLaws.{reach_is}
@@ -108,9 +114,9 @@ small_within s is m R e r cell z k =
     let b : columns_of z * R ≤ m * R = mul-le-mul_right R f in
     more_small z (columns_of z * greatest_reach (z ∷ [])) (m * R) (omega (arith, a, b)) (own.small z (one_in z))
 
--- ---- the step `head` after parts that have its columns
+-- ---- the step `head` after a step that has its columns
 
-module _ {planned : Steps} {db : List Relation} {q : Question} (sound : IsSoundPlan planned db q) {parts : List Table} (held : IsStepInParts planned db q (length planned - 1) parts) (times : part_times parts ≡ head_times q.head) (texts : part_texts parts ≡ head_texts q.head) where
+module _ {planned : Steps} {db : List Relation} {q : Question} (sound : IsSoundPlan planned db q) where
   abbrev last : PlanStep
   last = (last_step sound).0
 
@@ -120,22 +126,15 @@ module _ {planned : Steps} {db : List Relation} {q : Question} (sound : IsSoundP
   abbrev names : List Variable
   names = named_variables (head_times q.head) (head_texts q.head)
 
-  names_are : named_variables (part_times parts) (part_texts parts) ≡ names
-  names_are = ap₂ named_variables times texts
-
   -- its period is that of the step before
   same_period : last.period ≡ period_at planned (length planned - 1)
   same_period = subst (λ k. KeepsPeriod (period_at planned) last.period k) (last_step sound).1.kind (sound.each (length planned) last at_last).rises.keeps
 
+  pub end_period : period_at planned (length planned - 1) ≡ period_at planned (length planned)
+  end_period = sym same_period ∙ sym (ap (λ p. unwrap_or (option_map (λ step. step.period) p) 1) at_last)
+
   formula_is : formula_at planned (length planned) ≡ last.formula
   formula_is = ap (λ p. unwrap_or (option_map (λ step. step.formula) p) (conjunction no_forms)) at_last
-
-  -- the parts have the assignments that satisfy its formula
-  pub head_means : (env : Assignment) → HasConstants (constants db q) names env → HasSome (constants db q) parts env ↔ Satisfies (formula_at planned (length planned)) (structure db q) env
-  head_means env k =
-      let m : HasSome (constants db q) parts env ↔ Satisfies (formula_at planned (length planned - 1)) (structure db q) env = held.means env (subst (λ vs. HasConstants (constants db q) vs env) (sym names_are) k) in
-      let t : Satisfies (formula_at planned (length planned - 1)) (structure db q) env ↔ Satisfies (formula_at planned (length planned)) (structure db q) env = sound.says env (λ v c. k v ((head_columns q.head (data_variable v)).1 c)) in
-      ((λ h. t.0 (m.0 h)), λ h. m.1 (t.1 h))
 
   step_is : step_variables q.head last ≡ head_variables q.head ++ free last.formula
   step_is = ap (λ k. variables_with k q.head (free last.formula)) (last_step sound).1.kind
@@ -146,103 +145,164 @@ module _ {planned : Steps} {db : List Relation} {q : Question} (sound : IsSoundP
     λ c. (head_columns q.head v).1 (⊎_elim (λ a. a) (λ b. sound.last v (subst (λ f. Contains (free f) v) (sym formula_is) b)) (in_either (head_variables q.head) (free last.formula) v (subst (λ vs. Contains vs v) step_is c))),
   )
 
-  -- it has no more cells than the parts
-  pub head_few : (cap : ℕ) → (InhabitsMoreThan cap (constants db q) (period_at planned (length planned - 1)) (part_times parts) (part_texts parts) (HasSome (constants db q) parts) → ⊥) → ManyAt planned db q cap (length planned) → ⊥
-  head_few cap few many =
-      let m : InhabitsMoreThan cap (constants db q) last.period (head_times q.head) (head_texts q.head) (HasSome (constants db q) parts) =
-      (many_at planned db q names (HasSome (constants db q) parts) last (length planned) cap at_last same_variables (λ env k. subst (λ f. HasSome (constants db q) parts env ↔ Satisfies f (structure db q) env) formula_is (head_means env k))).1 many in
-      few (subst (λ k. InhabitsMoreThan cap (constants db q) k (part_times parts) (part_texts parts) (HasSome (constants db q) parts)) same_period
-      (subst (λ ns. InhabitsMoreThan cap (constants db q) last.period ns (part_texts parts) (HasSome (constants db q) parts)) (sym times)
-      (subst (λ ns. InhabitsMoreThan cap (constants db q) last.period (head_times q.head) ns (HasSome (constants db q) parts)) (sym texts) m)))
+  -- what is the meaning of that one's formula is that of its own
+  module _ {set : Assignment → Type 0} (before : (env : Assignment) → HasConstants (constants db q) (named_variables (head_times q.head) (head_texts q.head)) env → set env ↔ Satisfies (formula_at planned (length planned - 1)) (structure db q) env) where
+    pub head_means : (env : Assignment) → HasConstants (constants db q) names env → set env ↔ Satisfies (formula_at planned (length planned)) (structure db q) env
+    head_means env k =
+        let m : set env ↔ Satisfies (formula_at planned (length planned - 1)) (structure db q) env = before env k in
+        let t : Satisfies (formula_at planned (length planned - 1)) (structure db q) env ↔ Satisfies (formula_at planned (length planned)) (structure db q) env = sound.says env (λ v c. k v ((head_columns q.head (data_variable v)).1 c)) in
+        ((λ h. t.0 (m.0 h)), λ h. m.1 (t.1 h))
 
-  -- nor has any after it, since there is none
-  pub past_few : (cap : ℕ) → (InhabitsMoreThan cap (constants db q) (period_at planned (length planned - 1)) (part_times parts) (part_texts parts) (HasSome (constants db q) parts) → ⊥) → (s : ℕ) → length planned - 1 < s → ManyAt planned db q cap s → ⊥
-  past_few cap few zero low m = absurd (omega (arith, low))
-  past_few cap few (suc j) low m =
-      let lt : j < length planned = many_in planned db q cap (slice_get planned j) j refl m in
-      let e : suc j ≡ length planned = omega (arith, low, lt) in
-      head_few cap few (subst (ManyAt planned db q cap) e m)
+    module _ (cap : ℕ) (few : InhabitsMoreThan cap (constants db q) (period_at planned (length planned - 1)) (head_times q.head) (head_texts q.head) set → ⊥) where
+      -- it has no more cells
+      head_few : ManyAt planned db q cap (length planned) → ⊥
+      head_few many =
+          let m : InhabitsMoreThan cap (constants db q) last.period (head_times q.head) (head_texts q.head) set =
+          (many_at planned db q names set last (length planned) cap at_last same_variables (λ env k. subst (λ f. set env ↔ Satisfies f (structure db q) env) formula_is (head_means env k))).1 many in
+          few (subst (λ k. InhabitsMoreThan cap (constants db q) k (head_times q.head) (head_texts q.head) set) same_period m)
 
-  -- they are parts of the whole plan's period
-  pub parts_end : AreParts (constants db q) (pos (period_at planned (length planned))) parts
-  parts_end = subst (λ k. AreParts (constants db q) (pos k) parts) (sym same_period ∙ sym (ap (λ p. unwrap_or (option_map (λ step. step.period) p) 1) at_last)) held.parts_are
+      -- nor has any after it, since there is none
+      pub past_few : (s : ℕ) → length planned - 1 < s → ManyAt planned db q cap s → ⊥
+      past_few zero low m = absurd (omega (arith, low))
+      past_few (suc j) low m =
+          let lt : j < length planned = many_in planned db q cap (slice_get planned j) j refl m in
+          let e : suc j ≡ length planned = omega (arith, low, lt) in
+          head_few (subst (ManyAt planned db q cap) e m)
 
 -- ---- the parts of a group up to the plan's end
 
-module _ {cap : ℕ} {domain : List Text} {g : Group} {made : List (List Table)} {step : Step} (can : CanRunGroup cap domain g) (all : AreHeld cap g made) (next : IsNextStep g made step) (parts : List Table) (are : IsGroupHeld cap g (next_step_number g made) parts)
-    (few : HaveFew cap domain step.period parts) (place : next_step_number g made + 1 ≡ length g.plan.now.steps) (times : part_times parts ≡ head_times g.plan.now.head.columns) (texts : part_texts parts ≡ head_texts g.plan.now.head.columns)
-    (last : Step) (at : slice_get g.plan.now.steps (length g.plan.now.steps - 1) ≡ Some last) (reach : (part : Table) → Contains parts part → HasReach part.store (nat_abs (to_z w64 (of_z w64 last.reach)))) where
-  pub last_held : AreLastHeld cap g parts
-  last_held planned q h run =
-      let size : length g.plan.now.steps ≡ length planned = zip_length g.plan.now.steps planned h.is.steps in
-      let n = of_next cap g planned q h made step next in
-      let before : next_step_number g made ≡ length planned - 1 = omega (arith, place, size) in
-      let own : IsStepInParts planned g.database.now q (next_step_number g made) parts = are planned q h run in
-      let held : IsStepInParts planned g.database.now q (length planned - 1) parts = subst (λ s. IsStepInParts planned g.database.now q s parts) before own in
-      let times_are : part_times parts ≡ head_times q.head = times ∙ ap head_times h.is.head in
-      let texts_are : part_texts parts ≡ head_texts q.head = texts ∙ ap head_texts h.is.head in
-      let period : nat_abs step.period ≡ period_at planned (length planned - 1) = period_nat n ∙ sym (at_period n) ∙ ap (period_at planned) before in
-      let told : HaveFew cap (constants g.database.now q) step.period parts = subst (λ d. HaveFew cap d step.period parts) (can.domain_is ∙ h.is.domain) few in
-      let y : (y : PlanStep) × (slice_get planned (length g.plan.now.steps - 1) ≡ Some y) × IsStep last y = step_here planned g.database.now q cap g.plan.now (length g.plan.now.steps - 1) last h at in
-      let some : 0 < length planned = some_steps h.sound in
-      let end : suc (length g.plan.now.steps - 1) ≡ length planned = omega (arith, size, some) in
-      let here : step_at planned (length planned) ≡ Some y.0 = subst (λ i. step_at planned i ≡ Some y.0) end y.1 in
-      let far : query_reach planned ≡ y.0.reach = reach_is planned g.database.now q cap (length planned) y.0 here in
-      let high : query_reach planned ≤ 2 ^ 61 = half_reach (time_count q.head) (query_reach planned) h.reach in
-      let written : last.reach ≡ pos y.0.reach = y.2.reach in
-      let small : y.0.reach ≤ 2 ^ 61 = subst (λ r. r ≤ 2 ^ 61) far high in
-      let own_word : nat_abs (to_z w64 (of_z w64 last.reach)) ≡ y.0.reach = omega (arith, ints, small, written) in
-      let word : nat_abs (to_z w64 (of_z w64 last.reach)) ≡ query_reach planned = own_word ∙ sym far in
-      record {
-        parts_are = parts_end h.sound held times_are texts_are;
-        times = times_are;
-        texts = texts_are;
-        means = head_means h.sound held times_are texts_are;
-        reach = λ part c. subst (λ r. HasReach part.store r) word (reach part c);
-        few = λ s m. elim (below_or (length g.tables.now) s) [
-          | inl after ↦ elim (below_or (length g.tables.now + length made) s) [
-            | inl more ↦ elim (below_or (next_step_number g made) s) [
-              | inl end ↦ past_few h.sound held times_are texts_are cap (λ x. told (subst (λ k. InhabitsMoreThan cap (constants g.database.now q) k (part_times parts) (part_texts parts) (HasSome (constants g.database.now q) parts)) (sym period) x)) s (let e = before in omega (arith, end, e)) m
-              | inr this ↦ (let e : s ≡ next_step_number g made = omega (arith, more, this) in parts_few cap g planned q h made step parts next own told (subst (ManyAt planned g.database.now q cap) e m))
+module _ {cap : ℕ} {domain : List Text} {g : Group} {made : List (List Table)} {step : Step} (can : CanRunGroup cap domain g) (all : AreHeld cap g made) (next : IsNextStep g made step) (parts : List Table) (are : IsGroupHeld cap g (next_step_number g made) parts) (place : next_step_number g made + 1 ≡ length g.plan.now.steps) where
+  -- the columns of the parts are the head's
+  module _ (planned : Steps) (q : Question) (h : IsPlanOf planned g.database.now q g.plan.now) (run : AreRun planned g.database.now q cap g.tables.now) where
+    before : next_step_number g made ≡ length planned - 1
+    before = let size : length g.plan.now.steps ≡ length planned = zip_length g.plan.now.steps planned h.is.steps in omega (arith, place, size)
+
+    held_before : IsStepInParts planned g.database.now q (length planned - 1) parts
+    held_before = subst (λ s. IsStepInParts planned g.database.now q s parts) before (are planned q h run)
+
+    among : (v : Variable) → Contains (named_variables (part_times parts) (part_texts parts)) v → Contains (head_variables q.head) v
+    among v c = h.sound.core v ((held_before.variables v).0 c)
+
+  pub can_stand_over : CanStandOver domain step.period g.plan.now.head.columns parts
+  can_stand_over = record {
+    ascends = whole.ascends;
+    extend = record {
+      operand = whole.operand;
+      columns_are = λ part c. subst (λ cs. CanExtend domain cs part) (sym h.is.head) (record {
+        numbered = (whole.operand.parts_are.each part c).numbered;
+        times = λ v k. (times_in_head q.head v).1 (among planned q h run (time_variable v) ((time_named (part_times parts) (part_texts parts) v).1 (subst (λ ns. Contains ns v) (whole.operand.parts_are.each part c).times_are k)));
+        texts = λ v k. (texts_in_head q.head v).1 (among planned q h run (data_variable v) ((data_named (part_times parts) (part_texts parts) v).1 (subst (λ ns. Contains ns v) (whole.operand.parts_are.each part c).texts_are k)));
+        names = h.settled.names;
+        few_times = narrow.times (head_times q.head) (first_differ (head_times q.head) (head_texts q.head) (head_names_differ q.head h.settled.names))
+            (all_by _ (head_times q.head) (λ v k. in_left (head_variables q.head) (free q.body) (time_variable v) ((times_in_head q.head v).0 k)));
+        few_texts = narrow.texts (head_texts q.head) (second_differ (head_times q.head) (head_texts q.head) (head_names_differ q.head h.settled.names))
+            (all_by _ (head_texts q.head) (λ v k. in_left (head_variables q.head) (free q.body) (data_variable v) ((texts_in_head q.head v).0 k)));
+      });
+    };
+  }
+    where
+      planned : Steps
+      planned = can.run.0
+
+      q : Question
+      q = can.run.1
+
+      h : IsPlanOf planned g.database.now q g.plan.now
+      h = can.run.2
+
+      run : AreRun planned g.database.now q cap g.tables.now
+      run = can.run.3
+
+      whole : CanBeWhole domain step.period parts
+      whole = held_whole can all next parts are
+
+      narrow : IsNarrow (head_variables q.head ++ free q.body)
+      narrow = h.settled.whole
+
+  module _ (new : List Table) (over : AreOverHead cap domain step.period g.plan.now.head.columns parts new) (own : HaveFew cap domain step.period parts)
+      (last : Step) (at : slice_get g.plan.now.steps (length g.plan.now.steps - 1) ≡ Some last) (reach : (part : Table) → Contains new part → HasReach part.store (nat_abs (to_z w64 (of_z w64 last.reach)))) where
+    pub last_held : AreLastHeld cap g new
+    last_held planned q h run =
+        let db : List Relation = g.database.now in
+        let n = of_next cap g planned q h made step next in
+        let e : next_step_number g made ≡ length planned - 1 = before planned q h run in
+        let domain_are : domain ≡ constants db q = can.domain_is ∙ h.is.domain in
+        let period : nat_abs step.period ≡ period_at planned (length planned - 1) = period_nat n ∙ sym (at_period n) ∙ ap (period_at planned) e in
+        let head : AreOverHead cap (constants db q) step.period q.head parts new = subst (λ cs. AreOverHead cap (constants db q) step.period cs parts new) h.is.head (subst (λ d. AreOverHead cap d step.period g.plan.now.head.columns parts new) domain_are over) in
+        let o = head.parts_are in
+        let means : (env : Assignment) → HasConstants (constants db q) (named_variables (head_times q.head) (head_texts q.head)) env → HasSome (constants db q) new env ↔ Satisfies (formula_at planned (length planned - 1)) (structure db q) env =
+        (λ env k.
+        let m : HasSome (constants db q) parts env ↔ Satisfies (formula_at planned (length planned - 1)) (structure db q) env =
+        (held_before planned q h run).means env (λ v c. k v ((head_columns q.head (data_variable v)).1 (among planned q h run (data_variable v) c))) in
+        ((λ x. m.0 (o.sound env x).has), λ x. o.whole env (record { known = are_texts (constants db q) (head_times q.head) (head_texts q.head) env k; has = m.1 x }))) in
+        let less : InhabitsMoreThan cap (constants db q) (period_at planned (length planned - 1)) (head_times q.head) (head_texts q.head) (HasSome (constants db q) new) → ⊥ =
+        (λ x. head.few (subst (λ k. InhabitsMoreThan cap (constants db q) k (part_times new) (part_texts new) (HasSome (constants db q) new)) (sym period)
+        (subst (λ ns. InhabitsMoreThan cap (constants db q) (period_at planned (length planned - 1)) ns (part_texts new) (HasSome (constants db q) new)) (sym o.times_are)
+        (subst (λ ns. InhabitsMoreThan cap (constants db q) (period_at planned (length planned - 1)) (head_times q.head) ns (HasSome (constants db q) new)) (sym o.texts_are) x)))) in
+        let told : HaveFew cap (constants db q) step.period parts = subst (λ d. HaveFew cap d step.period parts) domain_are own in
+        let size : length g.plan.now.steps ≡ length planned = zip_length g.plan.now.steps planned h.is.steps in
+        let y : (y : PlanStep) × (slice_get planned (length g.plan.now.steps - 1) ≡ Some y) × IsStep last y = step_here planned db q cap g.plan.now (length g.plan.now.steps - 1) last h at in
+        let some : 0 < length planned = some_steps h.sound in
+        let end : suc (length g.plan.now.steps - 1) ≡ length planned = omega (arith, size, some) in
+        let here : step_at planned (length planned) ≡ Some y.0 = subst (λ i. step_at planned i ≡ Some y.0) end y.1 in
+        let far : query_reach planned ≡ y.0.reach = reach_is planned db q cap (length planned) y.0 here in
+        let high : query_reach planned ≤ 2 ^ 61 = half_reach (time_count q.head) (query_reach planned) h.reach in
+        let written : last.reach ≡ pos y.0.reach = y.2.reach in
+        let small : y.0.reach ≤ 2 ^ 61 = subst (λ r. r ≤ 2 ^ 61) far high in
+        let own_word : nat_abs (to_z w64 (of_z w64 last.reach)) ≡ y.0.reach = omega (arith, ints, small, written) in
+        let word : nat_abs (to_z w64 (of_z w64 last.reach)) ≡ query_reach planned = own_word ∙ sym far in
+        record {
+          parts_are = subst (λ k. AreParts (constants db q) k new) (own_period n ∙ ap (λ s. pos (period_at planned s)) e ∙ ap pos (end_period h.sound)) o.parts;
+          times = o.times_are;
+          texts = o.texts_are;
+          means = head_means h.sound means;
+          reach = λ part c. subst (λ r. HasReach part.store r) word (reach part c);
+          few = λ s m. elim (below_or (length g.tables.now) s) [
+            | inl after ↦ elim (below_or (length g.tables.now + length made) s) [
+              | inl more ↦ elim (below_or (next_step_number g made) s) [
+                | inl later ↦ past_few h.sound means cap less s (omega (arith, later, e)) m
+                | inr this ↦ (let f : s ≡ next_step_number g made = omega (arith, more, this) in parts_few cap g planned q h made step parts next (are planned q h run) told (subst (ManyAt planned db q cap) f m))
+              ]
+              | inr fewer ↦ (all planned q h run).few s after fewer m
             ]
-            | inr less ↦ (all planned q h run).few s after less m
-          ]
-          | inr first ↦ run.few s first m
-        ];
-      }
+            | inr first ↦ run.few s first m
+          ];
+        }
 
--- ---- the last parts as answers
+-- parts that have the head's columns in order stand over it
+pub as_they_are : {cap : ℕ} {domain : List Text} {period : ℤ} {columns : List Column} {parts : List Table} → CanStandOver domain period columns parts → HaveFew cap domain period parts → part_times parts ≡ head_times columns → part_texts parts ≡ head_texts columns → AreOverHead cap domain period columns parts parts
+as_they_are {cap} {domain} {period} {columns} {parts} can few times texts = record {
+  parts_are = record {
+    parts = can.extend.operand.parts_are;
+    times_are = times;
+    texts_are = texts;
+    sound = λ env x. record { known = subst (λ ns. HasTexts domain ns env) ((can.extend.operand.parts_are.each x.part x.listed).texts_are ∙ texts) (table_texts domain x.part env x.has); has = x };
+    whole = λ env x. x.has;
+  };
+  few = few;
+}
 
-module _ {planned : Steps} {db : List Relation} {q : Question} {p : Plan} {cap : ℕ} {tables : List Table} (h : IsPlanOf planned db q p) (l : AreLastParts planned db q cap tables) where
-  part_of : (table : Table) → Contains tables table → IsPeriodPart (constants db q) (part_times tables) (part_texts tables) (pos (period_at planned (length planned))) table
-  part_of table c = l.parts_are.each table c
+-- ---- a last part as an answer
 
+module _ {planned : Steps} {db : List Relation} {q : Question} {p : Plan} (h : IsPlanOf planned db q p) {table : Table} (e : IsPeriodPart (constants db q) (head_times q.head) (head_texts q.head) (pos (period_at planned (length planned))) table) where
   -- its period is within the last reach
-  part_period : (table : Table) → Contains tables table → table.store.period ≤ query_reach planned
-  part_period table c =
+  part_period : table.store.period ≤ query_reach planned
+  part_period =
       let last = last_step h.sound in
       let own : period_at planned (length planned) ≡ last.0.period = ap (λ p. unwrap_or (option_map (λ step. step.period) p) 1) last.1.at in
       let low : 1 ≤ last.0.period = (h.sound.each (length planned) last.0 last.1.at).rises.positive in
       let wide : period_at planned (length planned) ≤ query_reach planned = wide_last h.sound in
-      let le : table.store.period ≤ period_at planned (length planned) = multiple_le table.store.period (period_at planned (length planned)) (omega (arith, own, low)) (part_of table c).divides in
+      let le : table.store.period ≤ period_at planned (length planned) = multiple_le table.store.period (period_at planned (length planned)) (omega (arith, own, low)) e.divides in
       omega (arith, le, wide)
 
-  part_held : (table : Table) → Contains tables table → (tuple : List Datum) → HasShape q.head tuple → HasAssignment table (constants db q) (assignment q.head tuple) ↔ StoreHolds (constants db q) table.store (times_of tuple) (texts_of tuple)
-  part_held table c tuple k = tuple_held q.head h.settled.names (constants db q) tuple k table ((part_of table c).times_are ∙ l.times) ((part_of table c).texts_are ∙ l.texts)
+  pub part_held : (tuple : List Datum) → HasShape q.head tuple → HasAssignment table (constants db q) (assignment q.head tuple) ↔ StoreHolds (constants db q) table.store (times_of tuple) (texts_of tuple)
+  part_held tuple k = tuple_held q.head h.settled.names (constants db q) tuple k table e.times_are e.texts_are
 
-  -- some part has the assignment of a tuple of constants exactly where it is an answer
-  some_holds : (tuple : List Datum) → HasShape q.head tuple → AllByRecursion (Contains (constants db q)) (texts_of tuple) → HasSome (constants db q) tables (assignment q.head tuple) ↔ IsAnswer db q tuple
-  some_holds tuple k c =
-      let m : HasSome (constants db q) tables (assignment q.head tuple) ↔ Satisfies (formula_at planned (length planned)) (structure db q) (assignment q.head tuple) = l.means (assignment q.head tuple) (tuple_known q.head h.settled.names (constants db q) tuple k c (head_times q.head) (head_texts q.head) refl) in
-      let a : Satisfies (formula_at planned (length planned)) (structure db q) (assignment q.head tuple) ↔ IsAnswer db q tuple = h.sound.answers tuple k c in
-      ((λ x. a.0 (m.0 x)), λ x. m.1 (a.1 x))
-
-  -- a part's store stands under the head
-  pub can_stand : (table : Table) → Contains tables table → CanStandUnder p table.store
-  can_stand table c =
-      let e = part_of table c in
-      let times : time_count q.head ≡ table.store.shape.times = times_counted q.head ∙ ap (λ ns. length ns) (sym (e.times_are ∙ l.times)) ∙ table.times_named in
-      let texts : length (head_texts q.head) ≡ table.store.shape.texts = ap (λ ns. length ns) (sym (e.texts_are ∙ l.texts)) ∙ table.texts_named in
+  -- its store stands under the head
+  pub part_stands : CanStandUnder p table.store
+  part_stands =
+      let times : time_count q.head ≡ table.store.shape.times = times_counted q.head ∙ ap (λ ns. length ns) (sym e.times_are) ∙ table.times_named in
+      let texts : length (head_texts q.head) ≡ table.store.shape.texts = ap (λ ns. length ns) (sym e.texts_are) ∙ table.texts_named in
       let whole : length q.head ≡ length (head_times q.head) + length (head_texts q.head) = columns_counted q.head in
       let counted : time_count q.head ≡ length (head_times q.head) = times_counted q.head in
       record {
@@ -252,40 +312,56 @@ module _ {planned : Steps} {db : List Relation} {q : Question} {p : Plan} {cap :
         numbered = subst (λ d. AreNumbered d table.store) (sym h.is.domain) e.numbered;
       }
 
-  pub all_stand : AllByRecursion (λ table. CanStandUnder p table.store) tables
-  all_stand = all_by (λ table. CanStandUnder p table.store) tables can_stand
+  module _ (a : Answer) (u : IsAnswerUnder p table.store a) where
+    -- an answer of its store is a part of the answer
+    pub answer_part : HasReach table.store (query_reach planned) → IsAnswerPart planned db q a
+    answer_part reach =
+        let times : table.store.shape.times ≡ time_count q.head = sym part_stands.times ∙ ap time_count h.is.head in
+        record {
+          head = ap (λ x. x.columns) u.head ∙ h.is.head;
+          domain = u.domain ∙ h.is.domain;
+          period = subst (λ (s : StoreView). s.period ≤ query_reach planned) (sym u.store_is) part_period;
+          small = subst (λ (s : StoreView). (cell : Cell) (z : ZoneView) → Contains (zones_at s cell) z → IsSmallZone z (time_count q.head * query_reach planned)) (sym u.store_is)
+              (small_within table.store e.valid (time_count q.head) (query_reach planned) times reach);
+        }
 
-  -- an answer of a part's store is a part of the answer
-  answer_part : (table : Table) → Contains tables table → (a : Answer) → IsAnswerUnder p table.store a → IsAnswerPart planned db q a
-  answer_part table c a u =
-      let times : table.store.shape.times ≡ time_count q.head = sym ((can_stand table c).times) ∙ ap time_count h.is.head in
-      record {
-        head = ap (λ x. x.columns) u.head ∙ h.is.head;
-        domain = u.domain ∙ h.is.domain;
-        period = subst (λ (s : StoreView). s.period ≤ query_reach planned) (sym u.store_is) (part_period table c);
-        small = subst (λ (s : StoreView). (cell : Cell) (z : ZoneView) → Contains (zones_at s cell) z → IsSmallZone z (time_count q.head * query_reach planned)) (sym u.store_is)
-            (small_within table.store (part_of table c).valid (time_count q.head) (query_reach planned) times (l.reach table c));
-      }
+    -- a tuple of it is one of the part's
+    pub to_table : (tuple : List Datum) → InAnswer a.head.columns a.domain a.store tuple ↔ InAnswer q.head (constants db q) table.store tuple
+    to_table tuple = same_in a.head.columns q.head a.domain (constants db q) a.store table.store tuple (ap (λ x. x.columns) u.head ∙ h.is.head) (u.domain ∙ h.is.domain) u.store_is
+
+-- ---- the last parts as answers
+
+module _ {planned : Steps} {db : List Relation} {q : Question} {p : Plan} {cap : ℕ} {tables : List Table} (h : IsPlanOf planned db q p) (l : AreLastParts planned db q cap tables) where
+  part_of : (table : Table) → Contains tables table → IsPeriodPart (constants db q) (head_times q.head) (head_texts q.head) (pos (period_at planned (length planned))) table
+  part_of table c =
+      subst (λ ns. IsPeriodPart (constants db q) ns (head_texts q.head) (pos (period_at planned (length planned))) table) l.times
+      (subst (λ ns. IsPeriodPart (constants db q) (part_times tables) ns (pos (period_at planned (length planned))) table) l.texts (l.parts_are.each table c))
+
+  -- some part has the assignment of a tuple of constants exactly where it is an answer
+  some_holds : (tuple : List Datum) → HasShape q.head tuple → AllByRecursion (Contains (constants db q)) (texts_of tuple) → HasSome (constants db q) tables (assignment q.head tuple) ↔ IsAnswer db q tuple
+  some_holds tuple k c =
+      let m : HasSome (constants db q) tables (assignment q.head tuple) ↔ Satisfies (formula_at planned (length planned)) (structure db q) (assignment q.head tuple) = l.means (assignment q.head tuple) (tuple_known q.head h.settled.names (constants db q) tuple k c (head_times q.head) (head_texts q.head) refl) in
+      let a : Satisfies (formula_at planned (length planned)) (structure db q) (assignment q.head tuple) ↔ IsAnswer db q tuple = h.sound.answers tuple k c in
+      ((λ x. a.0 (m.0 x)), λ x. m.1 (a.1 x))
+
+  pub all_stand : AllByRecursion (λ table. CanStandUnder p table.store) tables
+  all_stand = all_by (λ table. CanStandUnder p table.store) tables (λ table c. part_stands h (part_of table c))
 
   module _ (parts : List Answer) (are : AllZip (λ table. IsAnswerUnder p table.store) tables parts) where
-    -- a tuple of a part is one of its table's
-    to_table : (table : Table) (a : Answer) → IsAnswerUnder p table.store a → (tuple : List Datum) → InAnswer a.head.columns a.domain a.store tuple ↔ InAnswer q.head (constants db q) table.store tuple
-    to_table table a u tuple = same_in a.head.columns q.head a.domain (constants db q) a.store table.store tuple (ap (λ x. x.columns) u.head ∙ h.is.head) (u.domain ∙ h.is.domain) u.store_is
-
     pub parts_answer : AreAnswersInParts planned db q cap parts
     parts_answer = record {
       some = (let e : length tables ≡ length parts = zip_count (λ t. IsAnswerUnder p t.store) tables parts are in let low : 0 < length tables = l.parts_are.some in omega (arith, e, low));
-      each = λ a c. let t = zip_left (λ t. IsAnswerUnder p t.store) tables parts are a c in answer_part t.0 t.1 a t.2;
+      each = λ a c. let t = zip_left (λ t. IsAnswerUnder p t.store) tables parts are a c in answer_part h (part_of t.0 t.1) a t.2 (l.reach t.0 t.1);
       answers = λ tuple. (
         (λ i.
             let t = zip_left (λ t. IsAnswerUnder p t.store) tables parts are i.part i.listed in
-            let x : InAnswer q.head (constants db q) t.0.store tuple = (to_table t.0 i.part t.2 tuple).0 i.is in
-            (some_holds tuple x.shape (texts_known (constants db q) x.held.0 (texts_of tuple) x.held.1)).0 (record { part = t.0; listed = t.1; has = (part_held t.0 t.1 tuple x.shape).1 x.held })),
+            let x : InAnswer q.head (constants db q) t.0.store tuple = (to_table h (part_of t.0 t.1) i.part t.2 tuple).0 i.is in
+            (some_holds tuple x.shape (texts_known (constants db q) x.held.0 (texts_of tuple) x.held.1)).0 (record { part = t.0; listed = t.1; has = (part_held h (part_of t.0 t.1) tuple x.shape).1 x.held })),
         λ a.
             let k : HasShape q.head tuple = shape_of db q q.head tuple a.fits in
             let s : HasSome (constants db q) tables (assignment q.head tuple) = (some_holds tuple k (fits_known planned db q h.sound q.head tuple a.fits)).1 a in
             let t = zip_right (λ t. IsAnswerUnder p t.store) tables parts are s.part s.listed in
-            record { part = t.0; listed = t.1; is = (to_table s.part t.0 t.2 tuple).1 (record { shape = k; held = (part_held s.part s.listed tuple k).0 s.has }) },
+            record { part = t.0; listed = t.1; is = (to_table h (part_of s.part s.listed) t.0 t.2 tuple).1 (record { shape = k; held = (part_held h (part_of s.part s.listed) tuple k).0 s.has }) },
       );
       few = l.few;
     }

@@ -48,15 +48,15 @@ module _ {cap : ℕ} {domain : List Text} {g : Group} {made : List (List Table)}
   abbrev period : ℤ
   period = to_z w64 (of_z w64 step.period)
 
-  domain_is : (planned : Steps) (q : Question) → IsPlanOf planned g.database.now q g.plan.now → domain ≡ constants g.database.now q
+  pub domain_is : (planned : Steps) (q : Question) → IsPlanOf planned g.database.now q g.plan.now → domain ≡ constants g.database.now q
   domain_is planned q h = can.domain_is ∙ h.is.domain
 
   -- the step, by its kind
-  as_step : (planned : Steps) (q : Question) → IsPlanOf planned g.database.now q g.plan.now → (kind : StepKind) → step.kind ≡ kind → IsOfPlan planned g.database.now q (next_step_number g made) kind period
+  pub as_step : (planned : Steps) (q : Question) → IsPlanOf planned g.database.now q g.plan.now → (kind : StepKind) → step.kind ≡ kind → IsOfPlan planned g.database.now q (next_step_number g made) kind period
   as_step planned q h kind e = worded (of_plan_as kind (of_next cap g planned q h made step next) e)
 
   -- parts that it reads
-  operand_at : (planned : Steps) (q : Question) (h : IsPlanOf planned g.database.now q g.plan.now) → AreRun planned g.database.now q cap g.tables.now → (kind : StepKind) → step.kind ≡ kind → (l : ℕ) → Contains (operands kind) l → (parts : List Table) → ArePartsAt g made l parts → IsStepInParts planned g.database.now q l parts
+  pub operand_at : (planned : Steps) (q : Question) (h : IsPlanOf planned g.database.now q g.plan.now) → AreRun planned g.database.now q cap g.tables.now → (kind : StepKind) → step.kind ≡ kind → (l : ℕ) → Contains (operands kind) l → (parts : List Table) → ArePartsAt g made l parts → IsStepInParts planned g.database.now q l parts
   operand_at planned q h run kind e l reads parts at =
       let n = as_step planned q h kind e in
       parts_held cap g planned q h made run (all planned q h run) n l reads (all_of (IsEarlier (next_step_number g made)) (operands kind) l (earlier n) reads) parts at

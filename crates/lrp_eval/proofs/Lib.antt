@@ -14,6 +14,7 @@ pub mod StandingLaws
 pub mod AnsweredLaws
 pub mod HeadTuples
 pub mod EndLaws
+pub mod NearestLaws
 pub mod JoinLaws
 pub mod FreeingLaws
 pub mod GrowingLaws

@@ -144,11 +144,15 @@ module _ {planned : Steps} {db : List Relation} {q : Question} {s l : ℕ} {peri
   pub can_complement_parts : AreOperand (constants db q) period of
   can_complement_parts = record { period_is = n.small; parts_are = parts_in n h (multiples n).0 }
 
-  pub complement_held : (parts : List Table) → ArePartsOf (constants db q) (part_times of) (part_texts of) period (IsComplementOf (constants db q) (part_texts of) (HasSome (constants db q) of)) parts → IsStepInParts planned db q s parts
-  complement_held parts are = held n (λ of e. (let f : Complement l ≡ Extend of = e in cc)) (part_times of) (part_texts of) _ parts are
-      (subst (Denotes (constants db q) (structure db q) (named_variables (part_times of) (part_texts of)) (IsComplementOf (constants db q) (part_texts of) (HasSome (constants db q) of))) (sym (formula_kind n))
+  -- what the parts lack is the meaning of its formula
+  pub complement_denotes : Denotes (constants db q) (structure db q) (named_variables (part_times of) (part_texts of)) (IsComplementOf (constants db q) (part_texts of) (HasSome (constants db q) of)) n.step.formula
+  complement_denotes =
+      subst (Denotes (constants db q) (structure db q) (named_variables (part_times of) (part_texts of)) (IsComplementOf (constants db q) (part_texts of) (HasSome (constants db q) of))) (sym (formula_kind n))
       (complement_keeps (constants db q) (structure db q) (named_variables (part_times of) (part_texts of)) (HasSome (constants db q) of) (IsComplementOf (constants db q) (part_texts of) (HasSome (constants db q) of)) (formula_at planned l) (denotes_in n h)
-      (λ env. ((λ h. (texts_are (constants db q) (part_times of) (part_texts of) env h.known, h.none)), λ h. record { known = are_texts (constants db q) (part_times of) (part_texts of) env h.0; none = h.1 }))))
+      (λ env. ((λ h. (texts_are (constants db q) (part_times of) (part_texts of) env h.known, h.none)), λ h. record { known = are_texts (constants db q) (part_times of) (part_texts of) env h.0; none = h.1 })))
+
+  pub complement_held : (parts : List Table) → ArePartsOf (constants db q) (part_times of) (part_texts of) period (IsComplementOf (constants db q) (part_texts of) (HasSome (constants db q) of)) parts → IsStepInParts planned db q s parts
+  complement_held parts are = held n (λ of e. (let f : Complement l ≡ Extend of = e in cc)) (part_times of) (part_texts of) _ parts are complement_denotes
 
 -- ---- columns that go
 

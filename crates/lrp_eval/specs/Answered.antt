@@ -1,7 +1,9 @@
 -- What the answer of a plan is.
-use Rattle.std.specs.Prelude.{◌≡◌, ◌↔◌, ◌<◌, ◌≤◌, ℕ, ◌*◌, pos, List, length, Contains}
+use Rattle.std.specs.Prelude.{◌≡◌, ◌≢◌, ◌↔◌, ◌<◌, ◌≤◌, ℕ, ◌*◌, pos, List, length, Contains}
 use Rattle.std.specs.FinMap as finite
-use Rattle.lrp_model.specs.Rows.{Datum}
+use Rattle.std.specs.declared.cmp.Ordering.TheVariants.{Greater}
+use Rattle.lrp_model.specs.Order.{rank_cmp}
+use Rattle.lrp_model.specs.Rows.{Datum, Tuple}
 use Rattle.lrp_model.specs.Formulas.{Question}
 use Rattle.lrp_model.specs.Satisfaction.{IsAnswer}
 use Rattle.lrp_model.specs.Domains.{constants}
@@ -46,4 +48,14 @@ pub record AreAnswersInParts (planned : Steps) (db : List Relation) (q : Questio
   pub some : 0 < length parts
   pub each : (part : Answer) → Contains parts part → IsAnswerPart planned db q part
   pub answers : (tuple : List Datum) → IsInSomePart parts tuple ↔ IsAnswer db q tuple
+  pub few : (s : ℕ) → ManyAt planned db q cap s → ⊥
+
+-- ---- the first answer
+
+-- at least one part; each tuple of theirs is an answer of the query, no answer comes before all of theirs by ranks, and no step has more than cap cells
+pub record HaveFirstAnswer (planned : Steps) (db : List Relation) (q : Question) (cap : ℕ) (parts : List Answer) : Type 0 where
+  pub some : 0 < length parts
+  pub each : (part : Answer) → Contains parts part → IsAnswerPart planned db q part
+  pub sound : (tuple : Tuple) → IsInSomePart parts tuple → IsAnswer db q tuple
+  pub first : (tuple : Tuple) → IsAnswer db q tuple → (early : Tuple) × IsInSomePart parts early × (rank_cmp early tuple ≢ Greater)
   pub few : (s : ℕ) → ManyAt planned db q cap s → ⊥

@@ -6,12 +6,12 @@ ghost use Rattle.lrp_model.specs.Formulas.{Question};
 ghost use Rattle.lrp_model.specs.Steps.{Steps};
 ghost use Rattle.lrp_model.specs.declared.relations.Relation.{Relation};
 ghost use Rattle.lrp_store.specs.Stores.{IsStore};
-ghost use Rattle.lrp_eval.specs.Answered.{AreAnswersInParts, IsAnswerOf};
-ghost use Rattle.lrp_eval.specs.Ending.{CanStandUnder, HasAnswersOfSome, IsAnswerUnder, IsEnding, IsEndingOfSome};
+ghost use Rattle.lrp_eval.specs.Answered.{AreAnswersInParts, HaveFirstAnswer, IsAnswerOf};
+ghost use Rattle.lrp_eval.specs.Ending.{CanStandUnder, HasAnswersOfSome, IsAnswerUnder, IsEnding, IsEndingOfSome, IsOneUnder, IsWanted};
 ghost use Rattle.lrp_eval.specs.Planned.{HasAnswers, IsEvalCause, IsPlanOf, IsSomePlan};
 
-use crate::endings::{Ending, run_ending};
-use crate::evaluation::{EvalFault, run_steps};
+use crate::endings::{Ending, Wanted, run_ending, run_steps};
+use crate::evaluation::EvalFault;
 use crate::settling::settled;
 use lrp_answers::Answer;
 use lrp_database::Database;
@@ -59,7 +59,28 @@ pub fn answer_in_parts(
     ensures domain { IfOk result (AllByRecursion (λ part. IsDomain part.domain)) }
     ensures fault { IfErr result (λ fault. IsEvalCause database.now plan.now cap fault) }
 {
-    let ending = run_ending(alloc, plan, database, cap)?;
+    let ending = run_ending(alloc, plan, database, cap, Wanted::Answers)?;
+    Ok(ending_answers(alloc, plan, ending)?)
+}
+
+/// Some answers of each settled query that has the plan, of which one is the first of all, where there is one.
+///
+/// They stand in parts as those of `answer_in_parts` do, and are refused as they are.
+pub fn nearest_in_parts(
+    alloc: Global,
+    plan: &Plan,
+    database: &Database,
+    cap: u32,
+) -> Result<List<Answer>, EvalFault>
+    requires plan { IsSomePlan database.now plan.now }
+    ensures answers { IfOk result (λ parts. (planned : Steps) (q : Question)
+        → IsPlanOf planned database.now q plan.now
+        → HaveFirstAnswer planned database.now q cap parts) }
+    ensures valid { IfOk result (AllByRecursion (λ part. IsStore part.store)) }
+    ensures domain { IfOk result (AllByRecursion (λ part. IsDomain part.domain)) }
+    ensures fault { IfErr result (λ fault. IsEvalCause database.now plan.now cap fault) }
+{
+    let ending = run_ending(alloc, plan, database, cap, Wanted::First)?;
     Ok(ending_answers(alloc, plan, ending)?)
 }
 
@@ -69,13 +90,19 @@ fn ending_answers(alloc: Global, plan: &Plan, ending: Ending) -> Result<List<Ans
     ensures answers { IfOk result (λ parts. (planned : Steps) (db : ListOf Relation) (q : Question) (cap : ℕ)
         → IsPlanOf planned db q plan.now
         → IsEnding planned db q cap ending
+        → IsWanted Wanted.Answers ending
         → AreAnswersInParts planned db q cap parts) }
+    ensures first { IfOk result (λ parts. (planned : Steps) (db : ListOf Relation) (q : Question) (cap : ℕ)
+        → IsPlanOf planned db q plan.now
+        → IsEnding planned db q cap ending
+        → HaveFirstAnswer planned db q cap parts) }
     ensures valid { IfOk result (AllByRecursion (λ part. IsStore part.store)) }
     ensures domain { IfOk result (AllByRecursion (λ part. IsDomain part.domain)) }
 {
     match ending {
         Ending::Whole(table) => one_answer(alloc, plan, table),
         Ending::Parts(parts) => part_answers(alloc, plan, parts),
+        Ending::Nearest(table) => nearest_answer(alloc, plan, table),
     }
 }
 
@@ -106,6 +133,17 @@ fn one_answer(alloc: Global, plan: &Plan, table: Table) -> Result<List<Answer>, 
     ensures domain { IfOk result (AllByRecursion (λ part. IsDomain part.domain)) }
 {
     let answer = settled_answer(alloc, plan, table)?;
+    let mut parts = List::new(alloc);
+    parts.push(answer)?;
+    Ok(parts)
+}
+
+// The part with the first answer as the one part.
+fn nearest_answer(alloc: Global, plan: &Plan, table: Table) -> Result<List<Answer>, Memory>
+    requires { CanStandUnder plan.now table.store }
+    ensures { IfOk result (IsOneUnder plan.now table.store) }
+{
+    let answer = answer_with(alloc, plan, table.store)?;
     let mut parts = List::new(alloc);
     parts.push(answer)?;
     Ok(parts)

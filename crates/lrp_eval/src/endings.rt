@@ -1,32 +1,74 @@
 // The last steps of a plan in parts: these are the answer, and no cells of the query's period are made.
-ghost use Rattle.std.specs.Prelude.{◌≡◌, ◌+◌, IfErr, IfOk, IfSome, IsTrue, Contains, length};
+ghost use Rattle.std.specs.Prelude.{◌≡◌, ◌≢◌, ◌+◌, IfErr, IfOk, IfSome, IsTrue, Contains, length};
 ghost use Rattle.lrp_model.specs.Formulas.{Question};
 ghost use Rattle.lrp_model.specs.Steps.{Steps};
-ghost use Rattle.lrp_store.specs.Stores.{HasReach};
+ghost use Rattle.lrp_store.specs.Stores.{HasReach, IsStore};
 ghost use Rattle.lrp_tables.specs.declared.table.Table.{Table as TableOf};
 ghost use Rattle.lrp_tables.specs.Columns.{head_times, head_texts};
 ghost use Rattle.lrp_periods.specs.Parts.{part_times, part_texts};
-ghost use Rattle.lrp_eval.specs.Ending.{AreLastHeld, IsEnding, IsPlanEnded};
+ghost use Rattle.lrp_eval.specs.Ending.{AreLastHeld, AreOverHead, CanEndEarly, CanStandOver, IsEndedEarly, IsEndedNearest, IsEnding, IsNearestHeld, IsWanted};
 ghost use Rattle.lrp_eval.specs.Grouped.{AreHeld, CanRunGroup, HaveFew, IsGroupHeld, IsNextStep, next_step_number};
-ghost use Rattle.lrp_eval.specs.Planned.{IsEvalCause, IsPlanOf, IsSomePlan};
-ghost use Rattle.lrp_eval.specs.Running.{AreRunBySome};
+ghost use Rattle.lrp_eval.specs.Planned.{HasAnswers, IsEvalCause, IsPlanOf, IsSomePlan};
 
 use crate::evaluation::{EvalFault, last_of, run_next};
 use crate::freeing::last_readers;
-use crate::groups::{Group, bound_of, small_step, step_in_parts};
+use crate::groups::{Group, bound_of, parts_of, small_step, step_in_parts};
 use crate::heading::{has_columns, is_headed};
-use crate::worth::most_to_end;
+use crate::worth::{is_complement, most_in_parts, most_to_end};
 use lrp_database::Database;
-use lrp_model::{Head, List, Memory, Plan, Step};
-use lrp_periods::{PartsFault, has_reach};
+use lrp_model::{Head, List, Memory, Plan, Step, StepKind};
+use lrp_periods::{PartsFault, can_be_sifted, extend_in_parts, has_reach, nearest_left};
 use lrp_tables::{Setting, Table};
 use std::alloc::Global;
 
-/// What the last step of a plan has: a table, or parts.
+/// What is known of the last step of a plan: its table, its parts, or a part with its first answer.
 #[derive(Drop)]
 pub(crate) enum Ending {
     Whole(Table),
     Parts(List<Table>),
+    Nearest(Table),
+}
+
+/// What is asked for of the last step: its table, all answers, or the first one.
+#[derive(Clone, Copy)]
+pub(crate) enum Wanted {
+    Table,
+    Answers,
+    First,
+}
+
+/// A plan with its relations and the last readers of its steps, and what is asked for.
+#[derive(Clone, Copy)]
+pub(crate) struct Asked<'a> {
+    pub(crate) database: &'a Database,
+    pub(crate) plan: &'a Plan,
+    pub(crate) readers: &'a [usize],
+    pub(crate) wanted: Wanted,
+}
+
+/// The table of the last step of a plan, which has just the answers of each settled query that has the plan.
+///
+/// The steps are run one after another, and a table is kept until the last step that reads it is done. `TooManyCells`
+/// comes at the first step whose formula is inhabited in more than `cap` cells of its period.
+pub fn run_steps(
+    alloc: Global,
+    plan: &Plan,
+    database: &Database,
+    cap: u32,
+) -> Result<Table, EvalFault>
+    requires plan { IsSomePlan database.now plan.now }
+    ensures table { IfOk result (λ made. (planned : Steps) (q : Question)
+        → IsPlanOf planned database.now q plan.now
+        → HasAnswers planned database.now q cap made) }
+    ensures valid { IfOk result (λ made. IsStore made.store) }
+    ensures fault { IfErr result (λ fault. IsEvalCause database.now plan.now cap fault) }
+{
+    match run_ending(alloc, plan, database, cap, Wanted::Table) {
+        Ok(Ending::Whole(table)) => Ok(table),
+        Ok(Ending::Parts(_)) => unreachable!(),
+        Ok(Ending::Nearest(_)) => unreachable!(),
+        Err(fault) => Err(fault),
+    }
 }
 
 /// The answers of each settled query that has the plan, in parts where it is worth it to run the last steps so.
@@ -37,11 +79,13 @@ pub(crate) fn run_ending(
     plan: &Plan,
     database: &Database,
     cap: u32,
+    wanted: Wanted,
 ) -> Result<Ending, EvalFault>
     requires plan { IsSomePlan database.now plan.now }
     ensures ending { IfOk result (λ made. (planned : Steps) (q : Question)
         → IsPlanOf planned database.now q plan.now
         → IsEnding planned database.now q cap made) }
+    ensures wanted { IfOk result (IsWanted wanted) }
     ensures fault { IfErr result (λ fault. IsEvalCause database.now plan.now cap fault) }
 {
     let setting = Setting {
@@ -50,13 +94,19 @@ pub(crate) fn run_ending(
         cap,
     };
     let readers = last_readers(alloc, plan.steps.as_slice())?;
+    let asked = Asked {
+        database,
+        plan,
+        readers: &readers,
+        wanted,
+    };
     let mut tables = List::new(alloc);
     for number in 0..plan.steps.len() {
         if number < tables.len() {
             continue;
         }
-        match run_to_end(&setting, database, plan, &readers, tables.as_slice()) {
-            Ok(Some(parts)) => return Ok(Ending::Parts(parts)),
+        match run_early(&setting, &asked, tables.as_slice()) {
+            Ok(Some(ending)) => return Ok(ending),
             Ok(None) => {}
             Err(_) => return Err(EvalFault::Memory),
         }
@@ -71,58 +121,183 @@ pub(crate) fn run_ending(
     Ok(Ending::Whole(last_of(tables)))
 }
 
+// What the steps after these tables end with, where it is worth it to run them in parts. `None` says nothing.
+fn run_early(
+    setting: &Setting<'_>,
+    asked: &Asked<'_>,
+    tables: &[Table],
+) -> Result<Option<Ending>, Memory>
+    requires { CanEndEarly setting.now.cap setting.now.domain.now asked.now tables.now }
+    ensures ending { IfOk result (λ found. IfSome found
+        (IsEndedEarly asked.now.database.now asked.now.plan.now setting.now.cap tables.now)) }
+    ensures wanted { IfOk result (λ found. IfSome found (IsWanted asked.now.wanted)) }
+{
+    match asked.wanted {
+        Wanted::Table => Ok(None),
+        Wanted::Answers => run_to_end(setting, asked, tables),
+        Wanted::First => match run_to_nearest(setting, asked, tables) {
+            Ok(Some(table)) => Ok(Some(Ending::Nearest(table))),
+            Ok(None) => run_to_end(setting, asked, tables),
+            Err(fault) => Err(fault),
+        },
+    }
+}
+
 // The parts of the last steps after these tables, where it is worth it to run them in parts. `None` says nothing.
 fn run_to_end(
     setting: &Setting<'_>,
-    database: &Database,
-    plan: &Plan,
-    readers: &[usize],
+    asked: &Asked<'_>,
     tables: &[Table],
-) -> Result<Option<List<Table>>, Memory>
-    requires domain { setting.now.domain.now ≡ plan.now.domain }
-    requires plan { AreRunBySome database.now plan.now setting.now.cap tables.now }
-    ensures { IfOk result (λ found. IfSome found
-        (IsPlanEnded database.now plan.now setting.now.cap tables.now)) }
+) -> Result<Option<Ending>, Memory>
+    requires can { CanEndEarly setting.now.cap setting.now.domain.now asked.now tables.now }
+    requires wanted { asked.now.wanted ≢ Wanted.Table }
+    ensures ending { IfOk result (λ found. IfSome found
+        (IsEndedEarly asked.now.database.now asked.now.plan.now setting.now.cap tables.now)) }
+    ensures wanted { IfOk result (λ found. IfSome found (IsWanted asked.now.wanted)) }
 {
+    let (database, plan) = (asked.database, asked.plan);
     let Some(most) = most_to_end(setting.alloc, database, plan, tables, setting.cap) else {
         return Ok(None);
     };
     let group = Group {
-        database,
-        plan,
-        readers,
+        database: asked.database,
+        plan: asked.plan,
+        readers: asked.readers,
         tables,
         most,
     };
     match run_last(setting, &group) {
-        Ok(parts) => Ok(Some(parts)),
+        Ok(parts) => Ok(Some(Ending::Parts(parts))),
         Err(PartsFault::GivenUp) => Ok(None),
         Err(PartsFault::Memory) => Err(Memory),
     }
 }
 
-// The parts of the steps up to the last one, one after another. The last one is `head`.
+// The first answer of the last steps after these tables, where they are worth it to be run in parts and end with a complement
+// of which few residues are asked for. `None` says nothing.
+fn run_to_nearest(
+    setting: &Setting<'_>,
+    asked: &Asked<'_>,
+    tables: &[Table],
+) -> Result<Option<Table>, Memory>
+    requires { CanEndEarly setting.now.cap setting.now.domain.now asked.now tables.now }
+    ensures { IfOk result (λ found. IfSome found
+        (IsEndedNearest asked.now.database.now asked.now.plan.now setting.now.cap tables.now)) }
+{
+    let (database, plan) = (asked.database, asked.plan);
+    if !ends_with_complement(plan) {
+        return Ok(None);
+    }
+    let Some(most) = most_in_parts(setting.alloc, database, plan, tables, setting.cap) else {
+        return Ok(None);
+    };
+    let group = Group {
+        database: asked.database,
+        plan: asked.plan,
+        readers: asked.readers,
+        tables,
+        most,
+    };
+    match run_nearest(setting, &group) {
+        Ok(table) => Ok(Some(table)),
+        Err(PartsFault::GivenUp) => Ok(None),
+        Err(PartsFault::Memory) => Err(Memory),
+    }
+}
+
+// Whether the step before `head` is the plan's only complement, and the head has one time column and no other.
+fn ends_with_complement(plan: &Plan) -> bool {
+    let steps = plan.steps.as_slice();
+    let columns = plan.head.columns.as_slice();
+    if steps.len() < 2 || columns.len() != 1 || !columns[0].sort.is_time() {
+        return false;
+    }
+    let before = steps.len() - 2;
+    for place in 0..before {
+        if is_complement(&steps[place]) {
+            return false;
+        }
+    }
+    is_complement(&steps[before])
+}
+
+// The parts of the step before `head`, where they stand for those of `head`.
 fn run_last(setting: &Setting<'_>, group: &Group<'_>) -> Result<List<Table>, PartsFault>
     requires { CanRunGroup setting.now.cap setting.now.domain.now group.now }
     ensures { IfOk result (AreLastHeld setting.now.cap group.now) }
 {
+    let made = run_before(setting, group)?;
+    let step = small_step(group, group.tables.len() + made.len())?;
+    let parts = step_in_parts(setting, group, &made, step)?;
+    let Some(_) = bound_of(setting, parts.as_slice(), step) else {
+        return Err(PartsFault::GivenUp);
+    };
+    headed(setting, group, &made, parts, step)
+}
+
+// Of the complement before `head` a part with its first number.
+fn run_nearest(setting: &Setting<'_>, group: &Group<'_>) -> Result<Table, PartsFault>
+    requires { CanRunGroup setting.now.cap setting.now.domain.now group.now }
+    ensures { IfOk result (IsNearestHeld setting.now.cap group.now) }
+{
+    let made = run_before(setting, group)?;
+    let step = small_step(group, group.tables.len() + made.len())?;
+    nearest_of_complement(setting, group, &made, step)
+}
+
+// The parts of the steps up to the last two, one after another.
+fn run_before(setting: &Setting<'_>, group: &Group<'_>) -> Result<List<List<Table>>, PartsFault>
+    requires { CanRunGroup setting.now.cap setting.now.domain.now group.now }
+    ensures held { IfOk result (AreHeld setting.now.cap group.now) }
+    ensures place { IfOk result (λ made.
+        next_step_number group.now made + 1 ≡ length group.now.plan.now.steps) }
+{
     let mut made = List::new(setting.alloc);
     let count = group.plan.steps.len();
     for place in group.tables.len()..count {
+        if count - place == 2 {
+            return Ok(made);
+        }
         let step = small_step(group, place)?;
         let parts = step_in_parts(setting, group, &made, step)?;
         let Some(_) = bound_of(setting, parts.as_slice(), step) else {
             return Err(PartsFault::GivenUp);
         };
-        if count - place == 2 {
-            return headed(setting, group, &made, parts, step);
-        }
         made.push(parts)?;
     }
     Err(PartsFault::GivenUp)
 }
 
-// The parts of the step before the last one, where they have the head's columns in order, and no bound above the last reach.
+// A part with the first number of a complement over the head's one time column, whose period has no more residues than `cap`.
+fn nearest_of_complement(
+    setting: &Setting<'_>,
+    group: &Group<'_>,
+    made: &List<List<Table>>,
+    step: &Step,
+) -> Result<Table, PartsFault>
+    requires group { CanRunGroup setting.now.cap setting.now.domain.now group.now }
+    requires made { AreHeld setting.now.cap group.now made.now }
+    requires step { IsNextStep group.now made.now step.now }
+    requires place { next_step_number group.now made.now + 1 ≡ length group.now.plan.now.steps }
+    ensures { IfOk result (IsNearestHeld setting.now.cap group.now) }
+{
+    let StepKind::Complement { of } = &step.kind else {
+        return Err(PartsFault::GivenUp);
+    };
+    let parts = parts_of(group, made, *of)?;
+    if !can_be_sifted(parts) {
+        return Err(PartsFault::GivenUp);
+    }
+    if !have_columns(parts, &group.plan.head) {
+        return Err(PartsFault::GivenUp);
+    }
+    if step.period as u64 > u64::from(setting.cap) {
+        return Err(PartsFault::GivenUp);
+    }
+    nearest_left(setting, parts, step.period)
+}
+
+// The parts of the step before the last one over the head's columns, where no bound is above the last reach.
 fn headed(
     setting: &Setting<'_>,
     group: &Group<'_>,
@@ -138,16 +313,42 @@ fn headed(
     requires place { next_step_number group.now made.now + 1 ≡ length group.now.plan.now.steps }
     ensures { IfOk result (AreLastHeld setting.now.cap group.now) }
 {
-    let tables = parts.as_slice();
-    if !have_columns(tables, &group.plan.head) {
-        return Err(PartsFault::GivenUp);
-    }
+    let last_parts = over_head(setting, group, parts, step)?;
     let steps = &group.plan.steps;
     let last = steps.at(steps.len() - 1);
-    if !have_reach(tables, last.reach.unsigned_abs()) {
+    if !have_reach(last_parts.as_slice(), last.reach.unsigned_abs()) {
         return Err(PartsFault::GivenUp);
     }
-    Ok(parts)
+    Ok(last_parts)
+}
+
+// The parts of a step over the head's columns, in its order.
+fn over_head(
+    setting: &Setting<'_>,
+    group: &Group<'_>,
+    parts: List<Table>,
+    step: &Step,
+) -> Result<List<Table>, PartsFault>
+    requires can { CanStandOver setting.now.domain.now step.now.period
+        group.now.plan.now.head.columns parts }
+    requires few { HaveFew setting.now.cap setting.now.domain.now step.now.period parts }
+    ensures { IfOk result (AreOverHead setting.now.cap setting.now.domain.now step.now.period
+        group.now.plan.now.head.columns parts) }
+{
+    let head = &group.plan.head;
+    if have_columns(parts.as_slice(), head) {
+        return Ok(parts);
+    }
+    let few = Setting {
+        alloc: setting.alloc,
+        domain: setting.domain,
+        cap: group.most,
+    };
+    let extended = extend_in_parts(&few, parts.as_slice(), head, step.period)?;
+    let Some(_) = bound_of(setting, extended.as_slice(), step) else {
+        return Err(PartsFault::GivenUp);
+    };
+    Ok(extended)
 }
 
 // Whether the parts have the head's columns in order.

@@ -2,20 +2,16 @@
 ghost use Rattle.std.specs.Prelude.{◌≡◌, ◌<◌, ◌≤◌, ◌+◌, ◌++◌, ◌∷◌, [], ℕ, suc, length, List as ListOf, IfOk, IfErr, IfSome};
 ghost use Rattle.lrp_store.specs.Stores.{IsStore};
 ghost use Rattle.lrp_tables.specs.declared.table.Table.{Table as TableOf};
-ghost use Rattle.lrp_model.specs.Formulas.{Question};
-ghost use Rattle.lrp_model.specs.Steps.{Steps};
 ghost use Rattle.lrp_tables.specs.declared.table.StepFault.TheVariants.{TooManyCells as too_many};
 ghost use Rattle.lrp_eval.specs.Freeing.{AreLastReaders};
 ghost use Rattle.lrp_eval.specs.Grouped.{AreStepsGrouped};
-ghost use Rattle.lrp_eval.specs.Planned.{HasAnswers, IsEvalCause, IsPlanOf, IsSomePlan};
 ghost use Rattle.lrp_eval.specs.Running.{AreRunBySome, AreRunThen, NamesFirstMany};
 ghost use Rattle.lrp_eval.specs.Together.{AreInside};
 
 use crate::following::{Together, run_together};
-use crate::freeing::{give_up, last_readers, nothing};
+use crate::freeing::{give_up, nothing};
 use crate::groups::run_in_parts;
 use crate::growing::run_growing;
-use crate::heading::is_headed;
 use lrp_database::Database;
 use lrp_model::{List, Memory, Plan};
 use lrp_tables::{Setting, StepFault, Table};
@@ -40,49 +36,6 @@ impl From<Memory> for EvalFault {
     fn from(_: Memory) -> EvalFault {
         EvalFault::Memory
     }
-}
-
-/// The table of the last step of a plan, which has just the answers of each settled query that has the plan.
-///
-/// The steps are run one after another, and a table is kept until the last step that reads it is done. `TooManyCells`
-/// comes at the first step whose formula is inhabited in more than `cap` cells of its period.
-pub fn run_steps(
-    alloc: Global,
-    plan: &Plan,
-    database: &Database,
-    cap: u32,
-) -> Result<Table, EvalFault>
-    requires plan { IsSomePlan database.now plan.now }
-    ensures table { IfOk result (λ made. (planned : Steps) (q : Question)
-        → IsPlanOf planned database.now q plan.now
-        → HasAnswers planned database.now q cap made) }
-    ensures valid { IfOk result (λ made. IsStore made.store) }
-    ensures fault { IfErr result (λ fault. IsEvalCause database.now plan.now cap fault) }
-{
-    let setting = Setting {
-        alloc,
-        domain: &plan.domain,
-        cap,
-    };
-    let readers = last_readers(alloc, plan.steps.as_slice())?;
-    let mut tables = List::new(alloc);
-    for number in 0..plan.steps.len() {
-        if number < tables.len() {
-            continue;
-        }
-        if is_headed(
-            tables.as_slice(),
-            &plan.head,
-            &plan.steps.as_slice()[number],
-        ) {
-            return Ok(last_of(tables));
-        }
-        match run_next(&setting, database, plan, &readers, tables) {
-            Ok(more) => tables = more,
-            Err(fault) => return Err(fault),
-        }
-    }
-    Ok(last_of(tables))
 }
 
 /// The tables with those of the next step, or of some next steps that are run together.

@@ -280,8 +280,8 @@ fn alone(setting: &Setting<'_>, made: Result<Table, StepFault>) -> Result<List<T
     }
 }
 
-// The parts of a step by its number from 1: those that the group made, or a table from before it.
-fn parts_of<'a>(
+/// The parts of a step by its number from 1: those that the group made, or a table from before it.
+pub(crate) fn parts_of<'a>(
     group: &Group<'a>,
     made: &'a List<List<Table>>,
     number: u32,

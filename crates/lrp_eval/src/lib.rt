@@ -18,6 +18,7 @@ mod sorting;
 mod together;
 mod worth;
 
-pub use answering::{answer, answer_in_parts};
-pub use evaluation::{EvalFault, run_steps};
+pub use answering::{answer, answer_in_parts, nearest_in_parts};
+pub use endings::run_steps;
+pub use evaluation::EvalFault;
 pub use laws::{counts_are_unique, whole_pages_count_answers};

@@ -43,7 +43,7 @@ from_not_gt Equal h e = cc
 from_not_gt Greater h e = cc
 
 -- what does not come after a second one does not come after a third, where the second doesn't
-ranks_upto : (t u v : Tuple) → rank_cmp t u ≢ Greater → rank_cmp u v ≢ Greater → rank_cmp t v ≢ Greater
+pub ranks_upto : (t u v : Tuple) → rank_cmp t u ≢ Greater → rank_cmp u v ≢ Greater → rank_cmp t v ≢ Greater
 ranks_upto t u v a b = from_not_gt (rank_cmp t v) (upto ranks_total t u v (not_gt (rank_cmp t u) a) (not_gt (rank_cmp u v) b))
 
 -- spots compare like the tuples that they stand for

@@ -1,7 +1,9 @@
 -- What is proved of tables in parts, by topic.
 pub mod Brought
+pub mod Extended
 pub mod Gathering
 pub mod JoinParts
+pub mod NearestLaws
 pub mod OneByOne
 pub mod PartLaws
 pub mod PeriodLaws

@@ -20,7 +20,7 @@ residue_low r k low high = omega (arith, ints)
 residue_same : (r t : ℤ) → pos 0 ≤ℤ r → pos 0 ≤ℤ t → nat_abs r ≡ nat_abs t → r ≡ t
 residue_same r t low other e = omega (arith, ints)
 
-line_few : (domain : List Text) (k : ℕ) (times texts : List Identifier) (set : Assignment → Type 0) → length times ≡ 1 → texts ≡ [] → InhabitsMoreThan k domain k times texts set → ⊥
+pub line_few : (domain : List Text) (k : ℕ) (times texts : List Identifier) (set : Assignment → Type 0) → length times ≡ 1 → texts ≡ [] → InhabitsMoreThan k domain k times texts set → ⊥
 line_few domain k [] texts set e none m = absurd (omega (arith, e))
 line_few domain k (v ∷ w ∷ times) texts set e none m = absurd (omega (arith, e))
 line_few domain k (v ∷ []) texts set e none m =

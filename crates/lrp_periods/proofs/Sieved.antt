@@ -15,14 +15,14 @@ use Rattle.lrp_tables.specs.Tables.{HasAssignment, HasTexts, IsTableOf}
 use Rattle.lrp_tables.proofs.CellsNamed.{AreTuplesOf}
 use Rattle.lrp_algebra.proofs.Steps.{empty_store, farther, positive, step_reach, step_table}
 use Rattle.lrp_periods.specs.Operations.{AreOperand}
-use Rattle.lrp_periods.specs.Parts.{HasSome, part_texts, part_times}
+use Rattle.lrp_periods.specs.Parts.{HasSome, IsPartOfSet, part_texts, part_times}
 use Rattle.lrp_periods.specs.Sets.{IsComplementOf}
 use Rattle.lrp_periods.specs.Sieves.{AreCoversOf, CanSift, IsLeftOpen, IsLineStore, IsSifted}
 use Rattle.lrp_periods.specs.declared.sieves.Cover.{Cover}
 use Rattle.lrp_periods.proofs.PartLaws.{part_of_table}
 use Rattle.lrp_periods.proofs.PeriodLaws.{natural}
 
-single : {X : Type 0} (xs : List X) → length xs ≡ 1 → (x : X) × (xs ≡ x ∷ [])
+pub single : {X : Type 0} (xs : List X) → length xs ≡ 1 → (x : X) × (xs ≡ x ∷ [])
 single [] e = absurd (omega (arith, e))
 single (x ∷ []) e = (x, refl)
 single (x ∷ y ∷ xs) e = absurd (omega (arith, e))
@@ -40,6 +40,10 @@ module _ {domain : List Text} {period : ℤ} {parts : List Table} (can : AreOper
 
   times_is : part_times parts ≡ v ∷ []
   times_is = (single (part_times parts) one).1
+
+  -- the one variable
+  abbrev pub variable : (w : Identifier) × (part_times parts ≡ w ∷ [])
+  variable = single (part_times parts) one
 
   pub line_store : (part : Table) → Contains parts part → IsLineStore part.store
   line_store part k = let is = can.parts_are.each part k in record {
@@ -59,12 +63,50 @@ module _ {domain : List Text} {period : ℤ} {parts : List Table} (can : AreOper
       let is = can.parts_are.each part k in
       ([], subst (λ ts. AreTexts domain [] (map env.texts ts)) (sym (is.texts_are ∙ none)) tt, subst (λ ts. InStore part.store (map env.times ts) []) (sym (is.times_are ∙ times_is)) h)
 
+  times_differ : AllPairs ◌≢◌ (part_times parts)
+  times_differ = subst (λ ts. AllPairs ◌≢◌ ts) (sym times_is) (pairs_one ◌≢◌ v)
+
+  texts_differ : AllPairs ◌≢◌ (part_texts parts)
+  texts_differ = subst (λ ts. AllPairs ◌≢◌ ts) (sym none) (pairs_none ◌≢◌)
+
+  few_texts : length (part_texts parts) ≤ 8
+  few_texts = let e : length (part_texts parts) ≡ 0 = ap length none in omega (arith, e)
+
+  few_times : length (part_times parts) ≤ 8
+  few_times = omega (arith, one)
+
+  -- ---- a set of numbers
+
+  module _ (tuples : List ℤ → List ℕ → Type 0) (line : (xs : List ℤ) (ns : List ℕ) → tuples xs ns → (x : ℤ) × (xs ≡ x ∷ []) × (ns ≡ [])) where
+    abbrev numbers : Assignment → Type 0
+    numbers env = tuples (env.times v ∷ []) []
+
+    number_tuples : AreTuplesOf domain (part_times parts) (part_texts parts) tuples numbers
+    number_tuples = record {
+      to = λ env ns a h. subst (λ xs. tuples xs []) (ap (λ ts. map env.times ts) times_is) (subst (λ ms. tuples (map env.times (part_times parts)) ms) (line (map env.times (part_times parts)) ns h).2 h);
+      from = λ env m. ([], subst (λ ts. AreTexts domain [] (map env.texts ts)) (sym none) tt, subst (λ ts. tuples (map env.times ts) []) (sym times_is) m);
+      times_count = λ xs ns h. ap length (line xs ns h).1 ∙ sym one;
+      texts_count = λ xs ns h. ap length (line xs ns h).2 ∙ sym (ap length none);
+      known = λ xs ns h i d low. absurd (let e : length ns ≡ 0 = ap length (line xs ns h).2 in omega (arith, e, low));
+    }
+
+    -- a part without bounds that has just its numbers
+    pub lone_part : Ascends domain → (k cap : ℕ) → k ≡ nat_abs period → (start out : StoreView) → start ≡ empty_store (part_times parts) (part_texts parts) k → IsAdded tuples cap 0 start out → (made : Table) → made.vars.times ≡ part_times parts → made.vars.texts ≡ part_texts parts → made.store ≡ out
+        → IsPartOfSet domain (part_times parts) (part_texts parts) period numbers made × HasReach made.store 0
+    lone_part ascends k cap word start out fresh added made et ex es =
+        let low : 0 < k = subst (λ n. 0 < n) (sym word) (positive period can.period_is.low) in
+        let free : HasReach made.store 0 = subst (λ s. HasReach s 0) (sym es) (step_reach domain ascends (part_times parts) (part_texts parts) times_differ texts_differ few_times few_texts k low tuples numbers number_tuples cap start out fresh 0 added) in
+        let is : IsTableOf domain (part_times parts) (part_texts parts) k numbers made = step_table domain ascends (part_times parts) (part_texts parts) times_differ texts_differ few_times few_texts k low tuples numbers number_tuples cap start out fresh 0 added made et ex es in (
+          part_of_table (subst (λ n. IsTableOf domain (part_times parts) (part_texts parts) n numbers made) word is) (subst IsStore (sym es) added.grown.valid) (farther made.store 0 (2 ^ 59) (omega arith) free) can.period_is.low (Divides-self period),
+          free,
+        )
+
   module _ (covers : List Cover) (are : AreCoversOf parts covers) where
     abbrev set : Assignment → Type 0
     set = IsComplementOf domain (part_texts parts) (HasSome domain parts)
 
-    to : (env : Assignment) (xs : List ℤ) (ns : List ℕ) → xs ≡ env.times v ∷ [] → IsLeftOpen covers xs ns → set env
-    to env xs ns e h = record {
+    pub to_open : (env : Assignment) (xs : List ℤ) (ns : List ℕ) → xs ≡ env.times v ∷ [] → IsLeftOpen covers xs ns → set env
+    to_open env xs ns e h = record {
       known = subst (λ ts. HasTexts domain ts env) (sym none) tt;
       none = λ s.
           let c = are.of_part s.part s.listed in
@@ -73,8 +115,8 @@ module _ {domain : List Text} {period : ℤ} {parts : List Table} (can : AreOper
           h.uncovered c.0 c.1 (c.2.whole h.number (subst (λ x. InStore s.part.store (x ∷ []) []) same held));
     }
 
-    from : (env : Assignment) → set env → IsLeftOpen covers (env.times v ∷ []) []
-    from env m = record {
+    pub from_open : (env : Assignment) → set env → IsLeftOpen covers (env.times v ∷ []) []
+    from_open env m = record {
       number = env.times v;
       times_are = refl;
       none = refl;
@@ -83,24 +125,12 @@ module _ {domain : List Text} {period : ℤ} {parts : List Table} (can : AreOper
 
     are_tuples : AreTuplesOf domain (part_times parts) (part_texts parts) (IsLeftOpen covers) set
     are_tuples = record {
-      to = λ env ns a h. to env (map env.times (part_times parts)) ns (ap (λ ts. map env.times ts) times_is) h;
-      from = λ env m. ([], subst (λ ts. AreTexts domain [] (map env.texts ts)) (sym none) tt, subst (λ ts. IsLeftOpen covers (map env.times ts) []) (sym times_is) (from env m));
+      to = λ env ns a h. to_open env (map env.times (part_times parts)) ns (ap (λ ts. map env.times ts) times_is) h;
+      from = λ env m. ([], subst (λ ts. AreTexts domain [] (map env.texts ts)) (sym none) tt, subst (λ ts. IsLeftOpen covers (map env.times ts) []) (sym times_is) (from_open env m));
       times_count = λ xs ns h. ap length h.times_are ∙ sym one;
       texts_count = λ xs ns h. ap length h.none ∙ sym (ap length none);
       known = λ xs ns h i d low. absurd (let e : length ns ≡ 0 = ap length h.none in omega (arith, e, low));
     }
-
-    times_differ : AllPairs ◌≢◌ (part_times parts)
-    times_differ = subst (λ ts. AllPairs ◌≢◌ ts) (sym times_is) (pairs_one ◌≢◌ v)
-
-    texts_differ : AllPairs ◌≢◌ (part_texts parts)
-    texts_differ = subst (λ ts. AllPairs ◌≢◌ ts) (sym none) (pairs_none ◌≢◌)
-
-    few_texts : length (part_texts parts) ≤ 8
-    few_texts = let e : length (part_texts parts) ≡ 0 = ap length none in omega (arith, e)
-
-    few_times : length (part_times parts) ≤ 8
-    few_times = omega (arith, one)
 
     module _ (ascends : Ascends domain) (k cap : ℕ) (low : 0 < k) (start out : StoreView) (fresh : start ≡ empty_store (part_times parts) (part_texts parts) k) (added : IsAdded (IsLeftOpen covers) cap 0 start out) where
       pub sifted_table : (made : Table) → made.vars.times ≡ part_times parts → made.vars.texts ≡ part_texts parts → made.store ≡ out → IsTableOf domain (part_times parts) (part_texts parts) k (IsComplementOf domain (part_texts parts) (HasSome domain parts)) made

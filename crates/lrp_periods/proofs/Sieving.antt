@@ -30,7 +30,7 @@ no_bound zero i = refl
 no_bound (suc n) zero = refl
 no_bound (suc n) (suc i) = no_bound n i
 
-no_reach : (n : ℕ) → greatest_of (replicate n None) ≤ 0
+pub no_reach : (n : ℕ) → greatest_of (replicate n None) ≤ 0
 no_reach zero = omega arith
 no_reach (suc n) = let r : greatest_of (replicate n None) ≤ 0 = no_reach n in omega (arith, r)
 
@@ -69,7 +69,7 @@ line_lies shape k r x t e d = record {
     at (suc (suc i)) l = absurd (omega arith)
 
 -- an integer between is a natural number
-natural_below : (z : ℤ) (k : ℕ) → pos 0 ≤ℤ z → z <ℤ pos k → (n : ℕ) × (z ≡ pos n) × (n < k)
+pub natural_below : (z : ℤ) (k : ℕ) → pos 0 ≤ℤ z → z <ℤ pos k → (n : ℕ) × (z ≡ pos n) × (n < k)
 natural_below z k low high = (nat_abs z, (omega (arith, ints)), omega (arith, ints))
 
 -- ---- one store

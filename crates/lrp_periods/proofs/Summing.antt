@@ -139,7 +139,7 @@ pub first_all : (count period : ℕ) (parts : List Table) (n : ℕ) → length p
 first_all count period parts n high first domain ascends are m = first domain ascends are (subst (λ ps. InhabitsMoreThan count domain period (part_times parts) (part_texts parts) (HasSome domain ps)) (sym (take_all n parts high)) m)
 
 -- where no more than so many are inhabited, no more than a greater number are
-many_fewer : {C : Type 0} (differ : C → C → Type 0) (P : C → Type 0) (count cap : ℕ) → count ≤ cap → Many differ P cap → Many differ P count
+pub many_fewer : {C : Type 0} (differ : C → C → Type 0) (P : C → Type 0) (count cap : ℕ) → count ≤ cap → Many differ P cap → Many differ P count
 many_fewer differ P count cap low m = many_of differ P count m.cells m.apart m.each (let c = m.count in omega arith)
 
 pub have_fewer : (count cap period : ℕ) (parts : List Table) → count ≤ cap → HaveFewCells count period parts → HaveFewCells cap period parts

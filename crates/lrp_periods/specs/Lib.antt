@@ -2,6 +2,7 @@
 pub mod Bounding
 pub mod Combining
 pub mod Faults
+pub mod Nearest
 pub mod Operations
 pub mod Parts
 pub mod Periods

@@ -5,6 +5,7 @@ use Rattle.lrp_model.specs.Reach.{test_reach}
 use Rattle.lrp_model.specs.Texts.{Ascends, Text}
 use Rattle.lrp_model.specs.declared.formulas.Term.{Term}
 use Rattle.lrp_model.specs.declared.formulas.Test.{Test}
+use Rattle.lrp_model.specs.declared.relations.Column.{Column}
 use Rattle.lrp_model.specs.declared.relations.Relation.{Relation}
 use Rattle.lrp_store.specs.Stores.{IsStore}
 use Rattle.lrp_tables.specs.declared.table.StepFault.{StepFault}
@@ -13,7 +14,7 @@ use Rattle.lrp_tables.specs.declared.table.Table.{Table}
 use Rattle.lrp_tables.specs.Calls.{AreVariablesOf, CanBeCarried, CanMeet, tests_reach}
 use Rattle.lrp_tables.specs.Caps.{InhabitsMoreThan}
 use Rattle.lrp_tables.specs.Columns.{joint}
-use Rattle.lrp_tables.specs.Steps.{CanScan}
+use Rattle.lrp_tables.specs.Steps.{CanExtend, CanScan}
 use Rattle.lrp_tables.specs.Tables.{IsTableOf}
 use Rattle.lrp_periods.specs.Parts.{AreParts, HasSome, IsPeriodPart, IsSmallPeriod, part_times, part_texts}
 
@@ -59,6 +60,11 @@ pub record CanMinusInParts (domain : List Text) (period : ℤ) (lefts rights : L
 pub record AreOperand (domain : List Text) (period : ℤ) (parts : List Table) : Type 0 where
   pub period_is : IsSmallPeriod period
   pub parts_are : AreParts domain period parts
+
+-- parts of one table, and a head that has their variables
+pub record CanExtendInParts (domain : List Text) (period : ℤ) (parts : List Table) (columns : List Column) : Type 0 where
+  pub operand : AreOperand domain period parts
+  pub columns_are : (part : Table) → Contains parts part → CanExtend domain columns part
 
 -- a table of the parts' assignments in cells of this period, where they inhabit no more than cap cells, and `TooManyCells` where they inhabit more
 pub record IsWholeResult (cap : ℕ) (domain : List Text) (period : ℤ) (parts : List Table) (result : Result Table StepFault) : Type 0 where

@@ -196,13 +196,16 @@ fn most_over(zone: &Zone, column: usize, other: usize) -> Option<i64>
     least
 }
 
-// How far a column may be over another one by the stored bounds of both beside a third.
+// How far a column may be over another one by the stored bounds of both beside a third. Neither of them is a third one.
 fn through(zone: &Zone, column: usize, middle: usize, other: usize) -> Option<i64>
     requires column { column ≤ columns_of zone.now }
     requires middle { middle ≤ columns_of zone.now }
     requires other { other ≤ columns_of zone.now }
     ensures { IfSome result (IsMostOver zone.now column other) }
 {
+    if middle == column || middle == other {
+        return None;
+    }
     let first = zone.bound(column, middle)?;
     let second = zone.bound(middle, other)?;
     first.checked_add(second)

@@ -110,8 +110,8 @@ fn fill(covers: &[Cover], own: u64, cap: u32, out: &mut Store) -> Result<(), Sto
     Ok(())
 }
 
-// A cover for each part.
-fn covers_of(alloc: Global, parts: &[Table]) -> Result<List<Cover>, Memory>
+/// A cover for each part.
+pub(crate) fn covers_of(alloc: Global, parts: &[Table]) -> Result<List<Cover>, Memory>
     requires lines { (part : TableOf) → Contains parts.now part → IsLineStore part.store }
     requires whole { (part : TableOf) → Contains parts.now part → HasWholeCells part.store }
     ensures { IfOk result (AreCoversOf parts.now) }
@@ -136,8 +136,8 @@ fn cover_of(alloc: Global, store: &Store) -> Result<Cover, Memory>
     Ok(Cover { residues })
 }
 
-// Whether a cover has the numbers of a residue.
-fn is_covered(covers: &[Cover], residue: u64) -> bool
+/// Whether a cover has the numbers of a residue.
+pub(crate) fn is_covered(covers: &[Cover], residue: u64) -> bool
     requires { (cover : CoverOf) → Contains covers.now cover → 0 < length cover.residues }
     ensures shut { IsTrue result → IsShut covers.now (pos residue) }
     ensures none { result ≡ false → IsOpen covers.now (pos residue) }
@@ -160,8 +160,8 @@ fn is_marked(cover: &Cover, residue: u64) -> bool
     marks[(residue % marks.len() as u64) as usize]
 }
 
-// The cell of a residue of one time column.
-fn cell_at(residue: u64) -> Cell
+/// The cell of a residue of one time column.
+pub(crate) fn cell_at(residue: u64) -> Cell
     requires { residue ≤ 2 ^ 62 }
     ensures { result ≡ line_cell residue }
 {

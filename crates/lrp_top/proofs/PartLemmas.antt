@@ -33,7 +33,7 @@ use Rattle.lrp_answers.proofs.MergedPages.{merged_page, spots_rise}
 use Rattle.lrp_answers.proofs.MergeLaws.{all_by}
 use Rattle.lrp_answers.proofs.PartLaws.{none_in_none, one_more, same_shape}
 use Rattle.lrp_answer_text.specs.Lines.{is_json}
-use Rattle.lrp_eval.specs.Answered.{AreAnswersInParts}
+use Rattle.lrp_eval.specs.Answered.{AreAnswersInParts, HaveFirstAnswer, IsAnswerPart}
 use Rattle.lrp_outputs.specs.First.{least_line}
 use Rattle.lrp_outputs.specs.Outputs.{page_text, spot_text, witness_text}
 use Rattle.lrp_outputs.specs.PageLines.{listed_bytes}
@@ -42,6 +42,7 @@ use Rattle.lrp_outputs.specs.SmallAnswers.{IsSmallAnswer}
 use Rattle.lrp_outputs.specs.Spots.{answer_tuple}
 use Rattle.lrp_outputs.specs.declared.page.Page.{Page}
 use Rattle.lrp_outputs.specs.declared.witness.Witness.{Witness}
+use Rattle.lrp_outputs.proofs.PartLeasts.{ranks_upto}
 use Rattle.lrp_words.specs.declared.purpose.Paging.{Paging}
 use Rattle.lrp_top.specs.Parts.{IsPageOfParts}
 use Rattle.lrp_top.specs.Telling.{TellsPage, TellsWitness}
@@ -49,42 +50,44 @@ use Rattle.lrp_top.proofs.Answered.{same_page}
 
 -- ---- what is known of the parts
 
-module _ (planned : Steps) (db : List Relation) (q : Question) (cap : ℕ) (parts : List Answer) (are : AreAnswersInParts planned db q cap parts) where
+module _ (planned : Steps) (db : List Relation) (q : Question) (parts : List Answer) (each : (part : Answer) → Contains parts part → IsAnswerPart planned db q part) where
   -- they have the head and the constants of the query
   pub alike : AreAlike parts
   alike = record {
-    head = λ a b la lb. (are.each a la).head ∙ sym (are.each b lb).head;
-    domain = λ a b la lb. (are.each a la).domain ∙ sym (are.each b lb).domain;
+    head = λ a b la lb. (each a la).head ∙ sym (each b lb).head;
+    domain = λ a b la lb. (each a la).domain ∙ sym (each b lb).domain;
   }
 
   -- their zones are small
   pub small_part : scaled_reach planned q ≤ 2 ^ 62 → (part : Answer) → Contains parts part → IsSmallAnswer part (query_reach planned)
   small_part reach part listed =
-      let is = are.each part listed in
+      let is = each part listed in
       record {
         period = is.period;
         scaled = subst (λ cs. 2 ^ (time_count cs + 1) * query_reach planned ≤ 2 ^ 62) (sym is.head) reach;
         small = λ cell z held. subst (λ cs. IsSmallZone z (time_count cs * query_reach planned)) (sym is.head) (is.small cell z held);
       }
 
+module _ (planned : Steps) (db : List Relation) (q : Question) (cap : ℕ) (parts : List Answer) (are : HaveFirstAnswer planned db q cap parts) where
   -- the least of them is the query's
   pub told_least : (w : Witness) (dates : Bool) → w.dates ≡ dates → IfNone w.least ((tuple : Tuple) → IsInSomePart parts tuple → ⊥) → IfSome w.least (IsLeastOfParts parts w.answer) → TellsWitness dates db q (witness_text w)
   told_least w dates same none some = subst (λ d. TellsWitness d db q (witness_text w)) same (by w.least refl)
     where
       by : (o : Option Spot) → w.least ≡ o → TellsWitness w.dates db q (witness_text w)
       by None e = inl (record {
-        none = λ tuple h. subst (λ p. IfNone p ((t : Tuple) → IsInSomePart parts t → ⊥)) e none tuple ((are.answers tuple).1 h);
+        none = λ tuple h. let f = are.first tuple h in subst (λ p. IfNone p ((t : Tuple) → IsInSomePart parts t → ⊥)) e none f.0 f.1;
         spelled = ap (spot_text w.dates w.answer) e;
       })
       by (Some spot) e =
           let l : IsLeastOfParts parts w.answer spot = subst (λ p. IfSome p (IsLeastOfParts parts w.answer)) e some in
           inr (record {
             tuple = l.tuple;
-            least = record { is = (are.answers l.tuple).0 l.least.is; first = λ other h. l.least.first other ((are.answers other).1 h) };
+            least = record { is = are.sound l.tuple l.least.is; first = λ other h. let f = are.first other h in ranks_upto l.tuple f.0 other (l.least.first f.0 f.1) f.2 };
             spelled = ap (spot_text w.dates w.answer) e
                 ∙ ap (λ (t : Tuple). codes "Nonempty\n" ++ least_line w.dates t) (spot_tuple_is w.answer.head.columns w.answer.store.shape w.answer.domain spot l.tuple l.shape l.stands);
           })
 
+module _ (planned : Steps) (db : List Relation) (q : Question) (cap : ℕ) (parts : List Answer) (are : AreAnswersInParts planned db q cap parts) where
   -- a page of them is the query's
   pub told_page : (from to : ℤ) (begins : List Column → Option Tuple) (limit : ℕ) (civil json : Bool) (files : List ℕ) (page : Page)
       → Contains parts page.answer → page.civil ≡ civil → is_json page.form ≡ json → page.files ≡ files

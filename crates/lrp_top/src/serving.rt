@@ -2,7 +2,7 @@
 ghost use Rattle.std.specs.Prelude.{◌≡◌, false, true, IfOk, List, ℕ};
 ghost use Rattle.std.specs.List.{AllByRecursion};
 ghost use Rattle.lrp_answers.specs.Parts.{AreAlike};
-ghost use Rattle.lrp_eval.specs.Answered.{AreAnswersInParts, IsAnswerOf};
+ghost use Rattle.lrp_eval.specs.Answered.{AreAnswersInParts, HaveFirstAnswer, IsAnswerOf};
 ghost use Rattle.lrp_model.specs.DataTexts.{IsDomain};
 ghost use Rattle.lrp_model.specs.Formulas.{Question as Queried, question_of};
 ghost use Rattle.lrp_model.specs.Names.{IsName};
@@ -26,7 +26,7 @@ use crate::question::Question;
 use lrp_answer_text::answers_are_texts;
 use lrp_answers::Answer;
 use lrp_canon::canonical_within;
-use lrp_eval::{EvalFault, answer, answer_in_parts};
+use lrp_eval::{EvalFault, answer, answer_in_parts, nearest_in_parts};
 use lrp_model::{List, Memory, Name};
 use lrp_outputs::{
     Output, Refusal, WholeAnswer, Witness, WritablePlan, least_of_parts, small_answers_have_room,
@@ -96,6 +96,27 @@ pub fn answers_in_parts(
     ensures domains { IfOk result (AllByRecursion (λ part. IsDomain part.domain)) }
 {
     match answer_in_parts(alloc, &question.plan, &question.database.relations, cap) {
+        Ok(parts) => {
+            small_answers_have_room();
+            Ok(parts)
+        }
+        Err(EvalFault::TooManyCells { step }) => Err(Refusal::Cells { cap, step }),
+        Err(EvalFault::Memory) => Err(Refusal::Memory),
+    }
+}
+
+/// Some answers in parts, of which one is the first of all, where there is one. They are refused at the same step.
+fn first_answers(alloc: Global, question: &Question, cap: u32) -> Result<List<Answer>, Refusal>
+    requires ready { IsReady question.now }
+    ensures counted { IsCounted question.now.planning question.now.database.relations
+        (question_of question.now.query.query) cap (done_as result) }
+    ensures answers { IfOk result (HaveFirstAnswer (question_steps question.now)
+        question.now.database.relations (question_of question.now.query.query) cap) }
+    ensures alike { IfOk result AreAlike }
+    ensures room { IfOk result (AllByRecursion (λ part. HasRoom part.store)) }
+    ensures domains { IfOk result (AllByRecursion (λ part. IsDomain part.domain)) }
+{
+    match nearest_in_parts(alloc, &question.plan, &question.database.relations, cap) {
         Ok(parts) => {
             small_answers_have_room();
             Ok(parts)
@@ -217,7 +238,7 @@ pub fn witness(alloc: Global, question: &Question, cap: u32, dates: bool) -> Res
     ensures due { IsDecided question.now.planning dates cap (database_source question.now.database)
         (query_source question.now.query) question.now.plan (told result) }
 {
-    match answers_in_parts(alloc, question, cap) {
+    match first_answers(alloc, question, cap) {
         Ok(parts) => Ok(Output::Witness(least_of_parts(parts, dates))),
         Err(refusal) => Err(refusal),
     }

@@ -12,4 +12,4 @@ ending_answers-requires c = record {
 }
 
 pub returns-clause-answers : goal.returns-clause-answers
-returns-clause-answers c = λ planned q h. c.in_ok-ending_answers.ensures.answers planned c.args.database.now q c.args.cap h (c.in_ok-ending.ensures.ending planned q h)
+returns-clause-answers c = λ planned q h. c.in_ok-ending_answers.ensures.answers planned c.args.database.now q c.args.cap h (c.in_ok-ending.ensures.ending planned q h) c.in_ok-ending.ensures.wanted

@@ -2,4 +2,4 @@
 use Rattle.lrp_eval.proofs.endings.run_to_end.Goals as goal
 
 pub run_last-requires : goal.run_last-requires
-run_last-requires c = record { domain_is = c.requires.domain; run = c.requires.plan }
+run_last-requires c = record { domain_is = c.requires.can.domain_is; run = c.requires.can.run }

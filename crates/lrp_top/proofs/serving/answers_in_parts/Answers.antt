@@ -22,7 +22,7 @@ pub returns-in-Ok-clause-alike : goal.returns-in-Ok-clause-alike
 returns-in-Ok-clause-alike c =
     let question = c.args.question.now in
     let q = question_of question.query.query in
-    alike (question_steps question) question.database.relations q c.args.cap c.in-Ok.parts (c.in-Ok.ensures.answers (question_steps question) q c.requires.ready.planned)
+    alike (question_steps question) question.database.relations q c.in-Ok.parts (c.in-Ok.ensures.answers (question_steps question) q c.requires.ready.planned).each
 
 pub returns-in-Ok-clause-room : goal.returns-in-Ok-clause-room
 returns-in-Ok-clause-room c =
@@ -31,7 +31,7 @@ returns-in-Ok-clause-room c =
     let q = question_of question.query.query in
     let steps = question_steps question in
     let planned = c.requires.ready.planned in
-    all_by (λ (part : Answer). HasRoom part.store) c.in-Ok.parts (λ part listed. c.small_answers_have_room.ensures part _ (small_part steps db q c.args.cap c.in-Ok.parts (c.in-Ok.ensures.answers steps q planned) planned.reach part listed))
+    all_by (λ (part : Answer). HasRoom part.store) c.in-Ok.parts (λ part listed. c.small_answers_have_room.ensures part _ (small_part steps db q c.in-Ok.parts (c.in-Ok.ensures.answers steps q planned).each planned.reach part listed))
 
 pub returns-in-Err-TooManyCells-clause-counted : goal.returns-in-Err-TooManyCells-clause-counted
 returns-in-Err-TooManyCells-clause-counted c =

@@ -1,7 +1,7 @@
 -- The steps so far are held.
 use Rattle.std.proofs.Common.{◌≡◌, ◌+◌, length}
 use Rattle.lrp_eval.specs.Grouped.{AreHeld}
-use Rattle.lrp_eval.proofs.endings.run_last.Given as goal
+use Rattle.lrp_eval.proofs.endings.run_before.Given as goal
 
 abbrev pub invariant-loop-place : goal.invariant-loop-place
 invariant-loop-place l = record {
