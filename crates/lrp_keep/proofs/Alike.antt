@@ -5,7 +5,7 @@ use Rattle.slab.specs.Slab.{get}
 use Rattle.lrp_zone.proofs.Cases.{eq_or}
 use Rattle.lrp_kept.specs.Keys.{keys_in, keys_of}
 use Rattle.lrp_kept.specs.Keyed.{AreRelisted, AreSameRows, IsWithKeys}
-use Rattle.lrp_keep.specs.States.{IsMarked}
+use Rattle.lrp_keep.specs.States.{IsRelationMarked}
 use Rattle.lrp_keep.proofs.Lists.{none_past, past_end}
 use Rattle.lrp_kept.specs.declared.rows.HeldRelation.{HeldRelation}
 use Rattle.lrp_kept.specs.declared.rows.HeldRows.{HeldRows}
@@ -34,7 +34,7 @@ relisted_alike p n keys old new r same one = record {
 }
 
 -- one number is another
-pub marked_alike : (p : HeldRelation → HeldRelation → Type 0) (n most : ℕ) (old new : HeldRows) → IsMarked n most old new → ((h : HeldRelation) → p h h) → ((h : HeldRelation) → slice_get old.relations.items n ≡ Some h → p h (record h { most = most })) → AreAlike p old.relations.items new.relations.items
+pub marked_alike : (p : HeldRelation → HeldRelation → Type 0) (n most : ℕ) (old new : HeldRows) → IsRelationMarked n most old new → ((h : HeldRelation) → p h h) → ((h : HeldRelation) → slice_get old.relations.items n ≡ Some h → p h (record h { most = most })) → AreAlike p old.relations.items new.relations.items
 marked_alike p n most old new r same one = record {
   count = r.count;
   each = λ i h s x y. elim (eq_or i n) [
@@ -69,7 +69,7 @@ pub record AreAsHeld (old new : HeldRows) : Type 0 where
 pub as_held_then : (a b c : HeldRows) → AreAsHeld a b → AreAsHeld b c → AreAsHeld a c
 as_held_then a b c x y = record { count = y.count ∙ x.count; keys = λ i. y.keys i ∙ x.keys i; sources = λ k. y.sources k ∙ x.sources k }
 
-pub marked_as_held : (n most : ℕ) (old new : HeldRows) → IsMarked n most old new → AreAsHeld old new
+pub marked_as_held : (n most : ℕ) (old new : HeldRows) → IsRelationMarked n most old new → AreAsHeld old new
 marked_as_held n most old new r = record {
   count = r.count;
   keys = same_keys old new (marked_alike (λ h s. s.keys.items ≡ h.keys.items) n most old new r (λ h. refl) (λ h at. refl));

@@ -15,7 +15,7 @@ use Rattle.lrp_model.specs.Periods.{row_periods}
 use Rattle.lrp_kept.specs.Sizes.{is_reader, period_number}
 use Rattle.lrp_kept.specs.declared.disjuncts.Disjunct.{Disjunct}
 use Rattle.lrp_kept.specs.declared.rows.HeldRows.{HeldRows}
-use Rattle.lrp_keep.specs.States.{AreMarkedBy, IsMarked, periods_at, read_periods}
+use Rattle.lrp_keep.specs.States.{AreMarkedBy, IsRelationMarked, periods_at, read_periods}
 use Rattle.lrp_holdings.proofs.Chained.{some_is}
 
 -- ---- periods
@@ -41,7 +41,7 @@ one_read ks ds db number r o p at h was =
 pub none_marked : (db : List Relation) (rows : HeldRows) → AreMarkedBy db 0 rows rows
 none_marked db rows = record { sources = refl; count = refl; rest = λ i l. refl; at = λ i h r l. absurd (omega (arith, l)) }
 
-pub one_marked : (db : List Relation) (number : ℕ) (r : Relation) (most : ℕ) (old mid new : HeldRows) → slice_get db number ≡ Some r → most ≡ relation_bound r → AreMarkedBy db number old mid → IsMarked number most mid new → AreMarkedBy db (number + 1) old new
+pub one_marked : (db : List Relation) (number : ℕ) (r : Relation) (most : ℕ) (old mid new : HeldRows) → slice_get db number ≡ Some r → most ≡ relation_bound r → AreMarkedBy db number old mid → IsRelationMarked number most mid new → AreMarkedBy db (number + 1) old new
 one_marked db number r most old mid new at most_is a m = record {
   sources = m.sources ∙ a.sources;
   count = m.count ∙ a.count;

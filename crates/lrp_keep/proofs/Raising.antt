@@ -30,7 +30,7 @@ use Rattle.lrp_limits.specs.declared.periods.Period.{Period}
 use Rattle.lrp_parts.specs.Derivations.{CanDerive}
 use Rattle.lrp_parts.specs.declared.derivation.Derived.{Derived}
 use Rattle.lrp_keep.specs.Keeps.{CanBeHeld, raised_at, scaled_reach_of, with_added, with_row, IsPastLimit}
-use Rattle.lrp_keep.specs.States.{CanBeAddedAt, CanBeHeldIn, IsAddedAt, IsAddingCause, IsHeldAt, IsHoldingCause, IsKeeper, IsKeeping, IsMarked, IsStillState, ground_at, levels_of, period_with, keeper_view, with_held}
+use Rattle.lrp_keep.specs.States.{CanBeAddedAt, CanBeHeldIn, IsAddedAt, IsAddingCause, IsHeldAt, IsHoldingCause, IsKeeper, IsKeeping, IsRelationMarked, IsStillState, ground_at, levels_of, period_with, keeper_view, with_held}
 use Rattle.lrp_keep.specs.Unions.{AreDerived}
 use Rattle.lrp_keep.specs.declared.faults.KeepFault.{KeepFault}
 use Rattle.lrp_keep.specs.declared.faults.KeepFault.TheVariants.{PeriodLimit}
@@ -120,7 +120,7 @@ period_cause of old relation row keeper l = record {
       subst (λ b. 2 ^ 62 < (if b then raised_period old.period.number row else old.period.number)) (sym (reads (names_of old.rows) (question_of of.query.now) of.disjuncts.items keeper.keeping.state.disjuncts keeper.keeping.distinct relation name e)) l;
 }
 
-module _ (of : KeptQuery) (old : State) (keeper : IsKeeper of old) (relation : ℕ) (row : Row) (fits : CanBeAddedAt of old relation row) (new : State) (most : ℕ) (most_is : most ≡ max (row_bound row) fits.held.most) (marked : IsMarked relation most old.rows new.rows) (period_is : new.period ≡ old.period) (derived_is : new.derived ≡ old.derived) where
+module _ (of : KeptQuery) (old : State) (keeper : IsKeeper of old) (relation : ℕ) (row : Row) (fits : CanBeAddedAt of old relation row) (new : State) (most : ℕ) (most_is : most ≡ max (row_bound row) fits.held.most) (marked : IsRelationMarked relation most old.rows new.rows) (period_is : new.period ≡ old.period) (derived_is : new.derived ≡ old.derived) where
   held : AreAsHeld old.rows new.rows
   held = marked_as_held relation most old.rows new.rows marked
 
@@ -221,7 +221,7 @@ module _ (of : KeptQuery) (old : State) (keeper : IsKeeper of old) (relation : �
 
     -- ---- and put back
 
-    module _ (still : State) (back : State) (same : IsStillState of new still) (unmarked : IsMarked relation fits.held.most still.rows back.rows) (same_period : back.period ≡ still.period) (same_derived_too : back.derived ≡ still.derived) where
+    module _ (still : State) (back : State) (same : IsStillState of new still) (unmarked : IsRelationMarked relation fits.held.most still.rows back.rows) (same_period : back.period ≡ still.period) (same_derived_too : back.derived ≡ still.derived) where
       held_back : AreAsHeld old.rows back.rows
       held_back = as_held_then old.rows new.rows back.rows held (as_held_then new.rows still.rows back.rows (same_as_held new.rows still.rows same.rows) (marked_as_held relation fits.held.most still.rows back.rows unmarked))
 

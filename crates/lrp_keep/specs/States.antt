@@ -234,7 +234,7 @@ pub record IsUndone (of : KeptQuery) (key : ℕ) (old new : State) : Type 0 wher
   pub derived : RemainWithout (ground_at of old.rows old.period.number) of.disjuncts.items key (levels_of new)
 
 -- another number stands beside a relation
-pub record IsMarked (relation most : ℕ) (old new : HeldRows) : Type 0 where
+pub record IsRelationMarked (relation most : ℕ) (old new : HeldRows) : Type 0 where
   pub sources : new.sources ≡ old.sources
   pub count : length new.relations.items ≡ length old.relations.items
   pub rest : (i : ℕ) → i ≢ relation → slice_get new.relations.items i ≡ slice_get old.relations.items i

@@ -10,7 +10,7 @@ ghost use Rattle.lrp_kept.specs.Limits.{relation_bound};
 ghost use Rattle.lrp_model.specs.Periods.{row_periods};
 ghost use Rattle.lrp_kept.specs.Sizes.{period_number};
 ghost use Rattle.lrp_keep.specs.Keeps.{IsPastLimit, StaysWithinLimits};
-ghost use Rattle.lrp_keep.specs.States.{AreAllHeld, AreHeldAlso, CanBeAddedAt, CanBeHeldIn, AreDerivedIn, AreDerivedInBut, RemainInWithout, CanAllBeSketched, CanBeOpened, CanDeriveAt, CanDeriveEach, HasLargePartAt, HasSomeLargePart, IsAddedAt, IsAddingCause, IsAnswerOfState, IsDerivedAt, IsDerivedWithout, IsHeldAt, IsHoldingCause, IsKeeper, IsKeeping, IsLetGoFrom, IsMarked, IsPeriodWith, IsRaisedBy, AreMarkedBy, IsRemoved, IsStillState, IsUndone, ground_at, levels_of, opened_with, periods_at, scaled_at, keeper_view, whole_periods};
+ghost use Rattle.lrp_keep.specs.States.{AreAllHeld, AreHeldAlso, CanBeAddedAt, CanBeHeldIn, AreDerivedIn, AreDerivedInBut, RemainInWithout, CanAllBeSketched, CanBeOpened, CanDeriveAt, CanDeriveEach, HasLargePartAt, HasSomeLargePart, IsAddedAt, IsAddingCause, IsAnswerOfState, IsDerivedAt, IsDerivedWithout, IsHeldAt, IsHoldingCause, IsKeeper, IsKeeping, IsLetGoFrom, IsRelationMarked, IsPeriodWith, IsRaisedBy, AreMarkedBy, IsRemoved, IsStillState, IsUndone, ground_at, levels_of, opened_with, periods_at, scaled_at, keeper_view, whole_periods};
 ghost use Rattle.lrp_kept.specs.Sketches.{CanBeSketched};
 ghost use Rattle.lrp_packed.specs.Leading.{IsNotLater};
 ghost use Rattle.lrp_parts.specs.Firsts.{IsFirstOfHeld};
@@ -292,7 +292,7 @@ fn add_each(
 // Puts another number beside a relation.
 fn mark(rows: &mut HeldRows, relation: usize, most: u64)
     requires { relation < length rows.old.relations.items }
-    ensures { IsMarked relation most rows.old rows.new }
+    ensures { IsRelationMarked relation most rows.old rows.new }
 {
     rows.relations[relation].most = most;
 }

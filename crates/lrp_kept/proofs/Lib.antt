@@ -24,3 +24,4 @@ pub mod FirstEqual
 pub mod Zipped
 pub mod Sketched
 pub mod Spanning
+pub mod Labelled

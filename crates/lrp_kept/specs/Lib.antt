@@ -15,6 +15,7 @@ pub mod Outlines
 pub mod Sizes
 pub mod Held
 pub mod Keyed
+pub mod Labels
 pub mod Sketches
 pub mod Features
 pub mod Passing

@@ -13,6 +13,7 @@ mod passing;
 mod rows;
 mod signs;
 mod sketches;
+mod sources;
 mod spans;
 mod windows;
 
@@ -25,4 +26,5 @@ pub use limits::{is_read, scaled_reach, tested_period, with_bounds, with_periods
 pub use outlines::Outline;
 pub use passing::PlacedTest;
 pub use rows::{HeldRelation, HeldRow, HeldRows, Sketch};
+pub use sources::HeldSources;
 pub use windows::TimeWindow;

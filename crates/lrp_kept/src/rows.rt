@@ -5,13 +5,14 @@ ghost use Rattle.lrp_model.specs.Kept.{AreKept};
 ghost use Rattle.lrp_kept.specs.Keys.{IsSketchOf, keys_at, keys_of};
 ghost use Rattle.lrp_kept.specs.EqualRows.{AreEqualRows};
 ghost use Rattle.lrp_kept.specs.Held.{names_of};
+ghost use Rattle.lrp_kept.specs.Labels.{first_most};
 ghost use Rattle.lrp_kept.specs.Keyed.{AreRelisted, AreSameRows, HasNoEqualRow, IsEmptyOf, IsEmptyRelation, IsFirstEqual, IsHeldAfter, IsLetGoAt, IsUnlisted};
 
 use crate::equal_rows::are_equal;
 use crate::outlines::Outline;
+use crate::sources::{HeldSources, first_most};
 use lrp_database::Database;
 use lrp_model::{Column, Copies, List, Memory, Name, Relation, Row};
-use slab::Slab;
 use std::alloc::Global;
 
 /// What a row leaves to the variables of an atom of a disjunct, by their numbers from 0 on.
@@ -66,7 +67,7 @@ pub struct HeldRelation {
 /// The relations of a database, and the rows that they now hold by their keys.
 pub struct HeldRows {
     pub relations: Vec<HeldRelation>,
-    pub sources: Slab<HeldRow>,
+    pub sources: HeldSources,
 }
 
 // A derived drop would be proved anew, type by type, in each crate that lets one go.
@@ -94,7 +95,7 @@ impl HeldRows {
         }
         Ok(HeldRows {
             relations,
-            sources: Slab::new(alloc),
+            sources: HeldSources::new(alloc),
         })
     }
 
@@ -119,19 +120,24 @@ impl HeldRows {
             (IsFirstEqual self.now relation row.now) }
     {
         let keys = &self.relations[relation].keys;
+        let most = first_most(row.bounds.as_slice());
         for place in 0..keys.len() {
-            if self.is_equal(keys[place], row) {
+            if self.is_equal(keys[place], row, most) {
                 return Some(place);
             }
         }
         None
     }
 
-    // Whether there is a row under the key that is equal to this one.
-    fn is_equal(&self, key: usize, row: &Row) -> bool
+    // Whether there is a row under the key that is equal to this one, the first bound of which has this number.
+    fn is_equal(&self, key: usize, row: &Row, most: i64) -> bool
+        requires { most ≡ first_most row.now.bounds }
         ensures { MatchOption (get self.now.sources key) (result ≡ false)
             (λ source. IsTrue result ↔ AreEqualRows source.row row.now) }
     {
+        if self.sources.has_other_most(key, most) {
+            return false;
+        }
         match self.sources.get(key) {
             Some(source) => are_equal(&source.row, row),
             None => false,

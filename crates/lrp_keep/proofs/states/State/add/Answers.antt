@@ -3,7 +3,7 @@ use Rattle.std.proofs.Common.{◌≡◌, ◌<◌, ℕ, List, Some, length, get_o
 use Rattle.std.specs.Prelude.{slice_get}
 use Rattle.lrp_kept.specs.Limits.{row_bound}
 use Rattle.lrp_kept.specs.declared.rows.HeldRelation.{HeldRelation}
-use Rattle.lrp_keep.specs.States.{IsMarked}
+use Rattle.lrp_keep.specs.States.{IsRelationMarked}
 use Rattle.lrp_keep.proofs.Lists.{read_at}
 use Rattle.lrp_keep.proofs.Raising.{added_cause, added_view, can_be_held, keeper_back, keeping_raised, period_cause, view_back}
 use Rattle.lrp_keep.proofs.Readable.{low_periods}
@@ -65,7 +65,7 @@ returns-in-Err-clause-keeper c =
     keeper_back c.args.of.now c.args.self.now c.requires.keeper c.args.relation c.args.row.now c.requires.row _ c.with_bounds.result
     (raised_to c.args.self.now.rows.relations.items c.args.relation c.index.result.now c.requires.row.held (row_bound c.args.row.now) c.with_bounds.result c.requires.row.at c.index.ensures c.with_bounds.ensures) c.mark.ensures refl refl
     c.in-Some.period.number c.in-Some.ensures (low_periods c.args.of.now.domain c.requires.row.held.columns c.args.row.now.values c.requires.row.row_fits.values) c.add_within.new.self _ c.in-Err.ensures.same
-    (subst (λ (r : HeldRelation). IsMarked c.args.relation r.most c.add_within.new.self.rows c.mark-in-Err.new.rows) (held_is c.args.self.now.rows.relations.items c.args.relation c.index.result.now c.requires.row.held c.requires.row.at c.index.ensures) c.mark-in-Err.ensures) refl refl
+    (subst (λ (r : HeldRelation). IsRelationMarked c.args.relation r.most c.add_within.new.self.rows c.mark-in-Err.new.rows) (held_is c.args.self.now.rows.relations.items c.args.relation c.index.result.now c.requires.row.held c.requires.row.at c.index.ensures) c.mark-in-Err.ensures) refl refl
 
 pub returns-in-Err-clause-same : goal.returns-in-Err-clause-same
 returns-in-Err-clause-same c =
@@ -73,4 +73,4 @@ returns-in-Err-clause-same c =
     (raised_to c.args.self.now.rows.relations.items c.args.relation c.index.result.now c.requires.row.held (row_bound c.args.row.now) c.with_bounds.result c.requires.row.at c.index.ensures c.with_bounds.ensures) c.mark.ensures refl refl
     c.in-Some.period.number c.in-Some.ensures (low_periods c.args.of.now.domain c.requires.row.held.columns c.args.row.now.values c.requires.row.row_fits.values) c.add_within.new.self
     (record { rows = c.mark-in-Err.new.rows; period = c.add_within.new.self.period; derived = c.add_within.new.self.derived }) c.in-Err.ensures.same
-    (subst (λ (r : HeldRelation). IsMarked c.args.relation r.most c.add_within.new.self.rows c.mark-in-Err.new.rows) (held_is c.args.self.now.rows.relations.items c.args.relation c.index.result.now c.requires.row.held c.requires.row.at c.index.ensures) c.mark-in-Err.ensures) refl refl
+    (subst (λ (r : HeldRelation). IsRelationMarked c.args.relation r.most c.add_within.new.self.rows c.mark-in-Err.new.rows) (held_is c.args.self.now.rows.relations.items c.args.relation c.index.result.now c.requires.row.held c.requires.row.at c.index.ensures) c.mark-in-Err.ensures) refl refl
