@@ -1,5 +1,5 @@
 -- The first of a name among others, and what has it.
-use Rattle.std.proofs.Common.{◌≡◌, ◌<◌, ◌≤◌, ◌+◌, ℕ, zero, suc, Bool, true, false, ◌||◌, cond, List, [], ◌∷◌, ◌++◌, length, map, get_or, take, not, Bor, slice_get, find, position, Option, Some, None, option_map, refl, sym, ap, ◌∙◌, arith}
+use Rattle.std.proofs.Common.{◌≡◌, ◌<◌, ◌+◌, ℕ, zero, suc, Bool, true, false, ◌||◌, cond, List, [], ◌∷◌, ◌++◌, length, map, get_or, take, not, Bor, slice_get, find, position, Option, Some, None, option_map, refl, sym, ap, ◌∙◌, arith}
 use Rattle.std.specs.Bool.{nat_lt}
 use Rattle.std.specs.List.{position_or_len, list_any}
 use Rattle.std.specs.Option.{is_some, option_copied, option_or}
@@ -68,6 +68,15 @@ stays None n false h = refl
 pub position_again : (ns : List (List ℕ)) (k : List ℕ) → is_some (position (bytes_eq k) ns) ≡ true → (n : List ℕ) → position (bytes_eq n) ns ≡ position (bytes_eq n) (ns ++ k ∷ [])
 position_again ns k there n =
     stays (position (bytes_eq n) ns) (length ns) (bytes_eq n k) (λ e. ap (λ m. is_some (position (bytes_eq m) ns)) ((bytes_decides n k).0 e) ∙ there) ∙ sym (position_more (bytes_eq n) ns k)
+
+unchanged : (o : Option ℕ) (n : ℕ) → o ≡ after o false n
+unchanged (Some i) n = refl
+unchanged None n = refl
+
+-- another name changes no place
+pub position_other : (ns : List (List ℕ)) (k n : List ℕ) → bytes_eq n k ≡ false → position (bytes_eq n) ns ≡ position (bytes_eq n) (ns ++ k ∷ [])
+position_other ns k n other =
+    unchanged (position (bytes_eq n) ns) (length ns) ∙ ap (λ b. after (position (bytes_eq n) ns) b (length ns)) (sym other) ∙ sym (position_more (bytes_eq n) ns k)
 
 fresh : (o : Option ℕ) (b : Bool) (n : ℕ) → (b ≡ true → is_some o ≡ false) → cond b (Some n) o ≡ after o b n
 fresh (Some i) true n h = grind (arith, h refl)

@@ -59,7 +59,7 @@ head_faults-more db bs (d ∷ cs) c =
     ∙ sym (append_assoc (binder_faults db bs d) (head_faults db (d ∷ bs) cs) (binder_faults db (reverse (d ∷ cs) ++ bs) c))
 
 -- the columns before a column and it, backwards
-turned_more : (cs : List RawColumn) (i : ℕ) (c : RawColumn) → i < length cs → c ≡ get_or cs i c → reverse (take (i + 1) cs) ≡ c ∷ reverse (take i cs)
+pub turned_more : (cs : List RawColumn) (i : ℕ) (c : RawColumn) → i < length cs → c ≡ get_or cs i c → reverse (take (i + 1) cs) ≡ c ∷ reverse (take i cs)
 turned_more cs i c lt is = ap reverse (take_more cs i c lt ∙ ap (λ x. take i cs ++ x ∷ []) (sym is)) ∙ reverse-append (take i cs) (c ∷ [])
 
 -- one column more, which is bound before it or not
@@ -98,6 +98,14 @@ updated k m n w u name =
 pub sort_choice : (b : Bool) (c : RawColumn) (found : Option RawColumn) → cond b (Some c.sort) (option_map (λ (c : RawColumn). c.sort) found) ≡ option_map (λ (c : RawColumn). c.sort) (cond b (Some c) found)
 sort_choice true c found = refl
 sort_choice false c found = refl
+
+-- the sort of the last column of a name, one column more
+pub one_column_sort : (cs : List RawColumn) (i : ℕ) (c : RawColumn) (name : Identifier) (found next : Option Sort) → i < length cs → c ≡ get_or cs i c
+    → next ≡ cond (bytes_eq c.name name) (Some c.sort) found → found ≡ binder_sort (reverse (take i cs)) name → next ≡ binder_sort (reverse (take (i + 1) cs)) name
+one_column_sort cs i c name found next lt is n f =
+    n ∙ ap (λ x. cond (bytes_eq c.name name) (Some c.sort) x) f
+    ∙ sort_choice (bytes_eq c.name name) c (find (λ (b : RawColumn). bytes_eq b.name name) (reverse (take i cs)))
+    ∙ ap (λ bs. binder_sort bs name) (sym (turned_more cs i c lt is))
 
 -- the map with one column more
 pub one_column_kept : {S : Type 0} (k : Bor (List ℕ)) (s : Bor Sort) (m n : HashMap (Bor (List ℕ)) (Bor Sort) S) (cs : List RawColumn) (i : ℕ) (c : RawColumn) → i < length cs → c ≡ get_or cs i c

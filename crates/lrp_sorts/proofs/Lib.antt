@@ -19,4 +19,5 @@ pub mod Carries
 pub mod SeenTerms
 pub mod Firsts
 pub mod Numbered
+pub mod Catalogs
 pub mod Marked

@@ -1,5 +1,6 @@
 -- The map from names to sorts, as quantifiers are entered and left.
-use Rattle.std.proofs.Common.{◌≡◌, ℕ, Bool, true, false, cond, List, [], ◌∷◌, ◌++◌, map, reverse, Some, option_map, refl, ap, ◌∙◌, Bor, bytes_eq}
+use Rattle.std.proofs.Common.{◌≡◌, ℕ, Bool, true, false, cond, List, [], ◌∷◌, ◌++◌, map, reverse, Option, Some, None, option_map, refl, ap, sym, ◌∙◌, append_assoc, Bor, bytes_eq}
+use Rattle.std.proofs.lemmas.List.{append-nil}
 use Rattle.std.specs.List.{find}
 use Rattle.std.specs.HashMap.{HashMap}
 use Rattle.lrp_model.specs.Texts.{Identifier}
@@ -7,7 +8,7 @@ use Rattle.lrp_model.specs.Sorting.{Binders, binder_sort}
 use Rattle.lrp_model.specs.declared.relations.Sort.{Sort}
 use Rattle.lrp_model.specs.declared.raw.RawColumn.{RawColumn}
 use Rattle.lrp_sorts.specs.Scopes.{kept_at}
-use Rattle.lrp_sorts.specs.Nesting.{binders_with, IsNested}
+use Rattle.lrp_sorts.specs.Nesting.{apart, binders_with, first_sort, IsNested, mapped}
 use Rattle.lrp_sorts.specs.declared.scope.QuantifierBinder.{QuantifierBinder}
 use Rattle.lrp_sorts.proofs.Binding.{map_reverse}
 use Rattle.lrp_sorts.proofs.Counting.{same_name}
@@ -17,6 +18,32 @@ use Rattle.lrp_sorts.proofs.Tallies.{own_binder}
 -- the binders of a scope, from its quantifiers
 pub bound_around : (qs : List QuantifierBinder) (head : Binders) (n : Identifier) → binder_sort (binders_with (reverse qs) head) n ≡ binder_sort (reverse (map (λ (q : QuantifierBinder). q.binder.now) qs) ++ head) n
 bound_around qs head n = ap (λ l. binder_sort (l ++ head) n) (map_reverse (λ (q : QuantifierBinder). q.binder.now) qs)
+
+-- ---- a short head, whose binders aren't in the map
+
+one_first : (b : Bool) (c : RawColumn) (all found : Option RawColumn) (rest : Option Sort) → option_map (λ (c : RawColumn). c.sort) all ≡ first_sort (option_map (λ (c : RawColumn). c.sort) found) rest
+    → option_map (λ (c : RawColumn). c.sort) (cond b (Some c) all) ≡ first_sort (option_map (λ (c : RawColumn). c.sort) (cond b (Some c) found)) rest
+one_first true c all found rest e = refl
+one_first false c all found rest e = e
+
+-- of two lists of binders the first that has a name tells its sort
+first_of_two : (bs cs : Binders) (n : Identifier) → binder_sort (bs ++ cs) n ≡ first_sort (binder_sort bs n) (binder_sort cs n)
+first_of_two [] cs n = refl
+first_of_two (b ∷ bs) cs n =
+    one_first (bytes_eq b.name n) b (find (λ c. bytes_eq c.name n) (bs ++ cs)) (find (λ c. bytes_eq c.name n) bs) (binder_sort cs n) (first_of_two bs cs n)
+
+whole_head : (short : Bool) (cs : List RawColumn) → mapped short cs ++ apart short cs ≡ reverse cs
+whole_head true cs = refl
+whole_head false cs = append-nil (reverse cs)
+
+-- what the map has for a name, and else the head, is the sort of the innermost binder
+pub sort_here : {S : Type 0} (m : HashMap (Bor (List ℕ)) (Bor Sort) S) (qs : List QuantifierBinder) (short : Bool) (cs : List RawColumn) (n : Identifier) → IsNested m (reverse qs) (mapped short cs)
+    → first_sort (kept_at m n) (binder_sort (apart short cs) n) ≡ binder_sort (reverse (map (λ (q : QuantifierBinder). q.binder.now) qs) ++ reverse cs) n
+sort_here m qs short cs n k =
+    let outer : List RawColumn = reverse (map (λ (q : QuantifierBinder). q.binder.now) qs) in
+    ap (λ o. first_sort o (binder_sort (apart short cs) n)) (k.sorts n ∙ bound_around qs (mapped short cs) n)
+    ∙ sym (first_of_two (outer ++ mapped short cs) (apart short cs) n)
+    ∙ ap (λ l. binder_sort l n) (append_assoc outer (mapped short cs) (apart short cs) ∙ ap (λ l. outer ++ l) (whole_head short cs))
 
 -- a head alone
 pub nested_head : {S : Type 0} (m : HashMap (Bor (List ℕ)) (Bor Sort) S) (head : Binders) → ((n : Identifier) → kept_at m n ≡ binder_sort head n) → IsNested m [] head

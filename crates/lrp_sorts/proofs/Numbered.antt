@@ -1,14 +1,15 @@
 -- The number of the definition that a name means.
-use Rattle.std.proofs.Common.{◌≡◌, ◌<◌, ℕ, Bool, true, false, cond, not, ◌||◌, ◌&&◌, map, take, position, Option, Some, None, IfSome, refl, ap, ap₂, sym, subst, ◌∙◌, arith}
+use Rattle.std.proofs.Common.{◌≡◌, ◌<◌, ℕ, Bool, true, false, cond, not, ◌||◌, List, [], ◌∷◌, ◌++◌, length, map, take, position, Option, Some, None, IfSome, refl, ap, sym, subst, ◌∙◌, arith}
 use Rattle.std.specs.Bool.{nat_lt, then_some}
 use Rattle.std.specs.List.{list_any}
 use Rattle.std.specs.Str.{bytes_eq}
-use Rattle.std.proofs.lemmas.List.{map-append}
+use Rattle.std.specs.Cmp.Lexicographic.{bytes_decides}
+use Rattle.std.specs.Option.{is_some}
 use Rattle.std.proofs.lemmas.List.Folds.{list_any-append}
 use Rattle.lrp_model.specs.Faults.{is_named_in}
 use Rattle.lrp_model.specs.Texts.{Identifier}
-use Rattle.lrp_sorts.specs.Definitions.{Defined, definition_number, is_taken}
-use Rattle.lrp_sorts.proofs.Firsts.{among, names_taken}
+use Rattle.lrp_sorts.specs.Definitions.{Defined, definition_number}
+use Rattle.lrp_sorts.proofs.Firsts.{among, names_taken, place_within, position_again, position_new, position_other}
 
 -- there is none either way
 pub nothing : (b : Bool) → ◌≡◌ {A = Option ℕ} None (cond b None None)
@@ -19,24 +20,32 @@ nothing false = refl
 pub none_before : (d : Defined) (before : ℕ) (n : Identifier) → before ≡ 0 → None ≡ definition_number d before n
 none_before d before n e = subst (λ k. None ≡ definition_number d k n) (sym e) (nothing (is_named_in (map (λ r. r.name) d.relations) n))
 
-denied : (b : Bool) → not b ≡ false → b ≡ true
+pub denied : (b : Bool) → not b ≡ false → b ≡ true
 denied true e = refl
 denied false e = sym e
 
-allowed : (b : Bool) → not b ≡ true → b ≡ false
+pub allowed : (b : Bool) → not b ≡ true → b ≡ false
 allowed true e = sym e
 allowed false e = refl
 
--- a relation has the name
-pub none_related : (d : Defined) (before : ℕ) (n : Identifier) (apart : Bool) → apart ≡ not (is_named_in (map (λ r. r.name) d.relations) n) → apart ≡ false → None ≡ definition_number d before n
-none_related d before n apart e f = sym (ap (λ b. cond b None (position (bytes_eq n) (map (λ r. r.name) (take before d.definitions)))) (denied (is_named_in (map (λ r. r.name) d.relations) n) (sym e ∙ f)))
+-- by the number that is kept
+pub number_of : (d : Defined) (before : ℕ) (n : Identifier) (o : Option ℕ) → o ≡ cond (is_named_in (map (λ r. r.name) d.relations) n) None (position (bytes_eq n) (map (λ r. r.name) d.definitions)) → among before o ≡ definition_number d before n
+number_of d before n o e =
+    let place : Option ℕ = position (bytes_eq n) (map (λ r. r.name) d.definitions) in
+    let related : Bool = is_named_in (map (λ r. r.name) d.relations) n in
+    ap (among before) e ∙ by related place ∙ ap (cond related None) (sym (names_taken (λ r. r.name) d.definitions before n))
+  where
+    by : (b : Bool) (p : Option ℕ) → among before (cond b None p) ≡ cond b None (among before p)
+    by true p = refl
+    by false p = refl
 
--- no relation has it
-pub number_of : (d : Defined) (before : ℕ) (n : Identifier) (apart : Bool) (o : Option ℕ) → apart ≡ not (is_named_in (map (λ r. r.name) d.relations) n) → apart ≡ true → position (bytes_eq n) (map (λ r. r.name) d.definitions) ≡ o
-    → among before o ≡ definition_number d before n
-number_of d before n apart o e f p =
-    sym (ap (λ b. cond b None (position (bytes_eq n) (map (λ r. r.name) (take before d.definitions)))) (allowed (is_named_in (map (λ r. r.name) d.relations) n) (sym e ∙ f))
-    ∙ names_taken (λ r. r.name) d.definitions before n ∙ ap (among before) p)
+-- it is one of theirs
+pub number_there : (d : Defined) (n : Identifier) (i : ℕ) → Some i ≡ cond (is_named_in (map (λ r. r.name) d.relations) n) None (position (bytes_eq n) (map (λ r. r.name) d.definitions)) → i < length d.definitions
+number_there d n i e = by (is_named_in (map (λ r. r.name) d.relations) n) e
+  where
+    by : (b : Bool) → Some i ≡ cond b None (position (bytes_eq n) (map (λ r. r.name) d.definitions)) → i < length d.definitions
+    by true e = absurd cc
+    by false e = place_within (λ r. r.name) d.definitions n i (sym e)
 
 -- the number, if it is below a bound
 pub below_is : (i before : ℕ) → then_some (nat_lt i before) i ≡ among before (Some i)
@@ -53,17 +62,47 @@ below_some i before P r e h = subst (λ o. IfSome o P) (sym e) (by (nat_lt i bef
     by true f = h (grind (arith, f))
     by false f = tt
 
--- a name is new where no definition and no relation has it
-pub new_name : (d : Defined) (n : Identifier) (first apart : Bool) → first ≡ not (is_named_in (map (λ r. r.name) d.definitions) n) → apart ≡ not (is_named_in (map (λ r. r.name) d.relations) n) → (first && apart) ≡ not (is_taken d n)
-new_name d n first apart e f =
-    ap₂ (λ a b. a && b) e f ∙ by (list_any (bytes_eq n) (map (λ r. r.name) d.relations)) (list_any (bytes_eq n) (map (λ r. r.name) d.definitions))
-    ∙ ap not (sym (ap (list_any (bytes_eq n)) (map-append (λ r. r.name) d.relations d.definitions) ∙ list_any-append (bytes_eq n) (map (λ r. r.name) d.relations) (map (λ r. r.name) d.definitions)))
-  where
-    by : (a b : Bool) → (not b && not a) ≡ not (a || b)
-    by true true = refl
-    by true false = refl
-    by false true = refl
-    by false false = refl
+-- ---- one name more
+
+module _ (taken names : List Identifier) (k : Identifier) where
+  other : is_named_in taken k ≡ true → (n : Identifier) → is_named_in taken n ≡ false → bytes_eq n k ≡ false
+  other t n f = by (bytes_eq n k) refl
+    where
+      by : (b : Bool) → bytes_eq n k ≡ b → b ≡ false
+      by true e = let same : is_named_in taken n ≡ is_named_in taken k = ap (is_named_in taken) ((bytes_decides n k).0 e) in grind (arith, same, t, f)
+      by false e = refl
+
+  -- one that is taken changes no number
+  pub taken_stays : is_named_in taken k ≡ true → (n : Identifier) → cond (is_named_in taken n) None (position (bytes_eq n) names) ≡ cond (is_named_in taken n) None (position (bytes_eq n) (names ++ k ∷ []))
+  taken_stays t n = by (is_named_in taken n) refl
+    where
+      by : (b : Bool) → is_named_in taken n ≡ b → cond b None (position (bytes_eq n) names) ≡ cond b None (position (bytes_eq n) (names ++ k ∷ []))
+      by true e = refl
+      by false e = position_other names k n (other t n e)
+
+  -- nor does one that is there
+  pub numbered_stays : is_some (position (bytes_eq k) names) ≡ true → (n : Identifier) → cond (is_named_in taken n) None (position (bytes_eq n) names) ≡ cond (is_named_in taken n) None (position (bytes_eq n) (names ++ k ∷ []))
+  numbered_stays there n = ap (cond (is_named_in taken n) None) (position_again names k there n)
+
+  -- a new one has the number after the others
+  pub new_number : is_named_in taken k ≡ false → is_some (position (bytes_eq k) names) ≡ false → (n : Identifier)
+      → cond (bytes_eq k n) (Some (length names)) (cond (is_named_in taken n) None (position (bytes_eq n) names)) ≡ cond (is_named_in taken n) None (position (bytes_eq n) (names ++ k ∷ []))
+  new_number f new n = by (is_named_in taken n) refl
+    where
+      apart : (b : Bool) → bytes_eq k n ≡ b → is_named_in taken n ≡ true → b ≡ false
+      apart true e t = let same : is_named_in taken k ≡ is_named_in taken n = ap (is_named_in taken) ((bytes_decides k n).0 e) in grind (arith, same, t, f)
+      apart false e t = refl
+
+      by : (b : Bool) → is_named_in taken n ≡ b → cond (bytes_eq k n) (Some (length names)) (cond b None (position (bytes_eq n) names)) ≡ cond b None (position (bytes_eq n) (names ++ k ∷ []))
+      by true e = ap (λ b. cond b (Some (length names)) None) (apart (bytes_eq k n) refl e)
+      by false e = position_new names k new n
+
+  -- whether it is new, where it isn't taken
+  pub new_name : (new : Bool) → is_named_in taken k ≡ false → new ≡ not (list_any (bytes_eq k) names) → new ≡ not (is_named_in (taken ++ names) k)
+  new_name new f e = e ∙ ap (λ b. not (b || list_any (bytes_eq k) names)) (sym f) ∙ ap not (sym (list_any-append (bytes_eq k) taken names))
+
+  pub taken_name : is_named_in taken k ≡ true → false ≡ not (is_named_in (taken ++ names) k)
+  taken_name t = ap (λ b. not (b || list_any (bytes_eq k) names)) (sym t) ∙ ap not (sym (list_any-append (bytes_eq k) taken names))
 
 -- what one test denies denies it
 pub turned : (a b : Bool) → a ≡ not b → b ≡ not a

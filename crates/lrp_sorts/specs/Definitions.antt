@@ -13,9 +13,9 @@ pub record Defined : Type 0 where
   pub relations : List Relation
   pub definitions : List Relation
 
--- each name has the number of the first of these that is that name
-abbrev pub AreNamesNumbered : {S : Type 0} → HashMap Identifier ℕ S → List Identifier → Type 0
-AreNamesNumbered m names = (n : Identifier) → get_by (bytes_eq n) m ≡ position (bytes_eq n) names
+-- each name that isn't taken has the number of the first of these that is that name
+abbrev pub AreNamesNumbered : {S : Type 0} → HashMap Identifier ℕ S → List Identifier → List Identifier → Type 0
+AreNamesNumbered m taken names = (n : Identifier) → get_by (bytes_eq n) m ≡ cond (is_named_in taken n) None (position (bytes_eq n) names)
 
 -- whether the first byte of a name is marked
 abbrev pub is_marked : List Bool → Identifier → Bool
@@ -26,9 +26,9 @@ pub record AreMarked (marks : List Bool) (names : List Identifier) : Type 0 wher
   pub size : length marks ≡ 256
   pub each : (n : Identifier) → list_any (bytes_eq n) names ≡ true → is_marked marks n ≡ true
 
--- the names of definitions, as they are kept
-pub record IsNumberingOf {S : Type 0} (numbers : HashMap Identifier ℕ S) (marks : List Bool) (names : List Identifier) : Type 0 where
-  pub numbered : AreNamesNumbered numbers names
+-- the names of definitions, as they are kept beside those of relations
+pub record IsNumberingOf {S : Type 0} (numbers : HashMap Identifier ℕ S) (marks : List Bool) (taken names : List Identifier) : Type 0 where
+  pub numbered : AreNamesNumbered numbers taken names
   pub marked : AreMarked marks names
 
 -- a relation without rows

@@ -5,6 +5,7 @@ pub mod Definitions
 pub mod Nesting
 pub mod Carried
 -- What functions inside say to one another.
+pub mod Catalogs
 pub mod Terms
 pub mod Widths
 pub mod Leaves

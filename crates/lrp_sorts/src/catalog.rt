@@ -1,5 +1,5 @@
-// The relations and the named sorts of a database, looked up by their names.
-ghost use Rattle.std.specs.Prelude.{◌≡◌, ◌||◌, ◌++◌, List, [], ◌∷◌, IfOk, OnOk, length, option_map};
+// The relations, the definitions and the named sorts of a database, looked up by their names.
+ghost use Rattle.std.specs.Prelude.{◌≡◌, ◌<◌, ◌≤◌, ◌-◌, ◌||◌, ◌++◌, IfOk, OnOk, length, option_map, take};
 ghost use Rattle.std.specs.List.{list_any};
 ghost use Rattle.lrp_model.specs.Sorts.{same_sort};
 ghost use Rattle.lrp_model.specs.Faults.{earliest};
@@ -7,21 +7,28 @@ ghost use Rattle.lrp_model.specs.Rows.{relation_named};
 ghost use Rattle.lrp_model.specs.Sorting.{query_standing, has_sort, sort_faults};
 ghost use Rattle.lrp_model.specs.declared.relations.Sort.TheVariants.{Named};
 ghost use Rattle.lrp_model.specs.Texts.{Identifier};
-ghost use Rattle.lrp_sorts.specs.Scopes.{AreScopeNumbers, holds};
+ghost use Rattle.lrp_sorts.specs.Scopes.{holds};
 
+use crate::definitions::Definitions;
 use crate::earliest::fault_where;
 use lrp_database::Database;
 use lrp_model::{Column, Memory, Name, Place, QueryFault, QueryKind, Relation, Sort};
 use std::alloc::Global;
-use std::collections::{HashMap, HashSet};
+use std::collections::HashSet;
 use std::marker::Model;
 
-/// The relations of a database with the names of their named sorts, and relations that were added.
+/// The relations of a database with the names of their named sorts, and beside them the first definitions of some.
 pub struct Catalog<'a> {
     db: &'a Database,
-    added: Vec<&'a Relation>,
-    numbers: HashMap<&'a [u8], usize>,
+    beside: Option<First<'a>>,
     sorts: HashSet<&'a [u8]>,
+}
+
+// This many of the first definitions.
+#[derive(Clone, Copy)]
+struct First<'a> {
+    definitions: &'a Definitions<'a>,
+    count: usize,
 }
 
 // It is let go by one call, which is proved once.
@@ -29,8 +36,7 @@ impl<'a> Drop for Catalog<'a> {
     fn drop(self) {
         let Catalog {
             db: _db,
-            added: _added,
-            numbers: _numbers,
+            beside: _beside,
             sorts: _sorts,
         } = self;
     }
@@ -39,13 +45,13 @@ impl<'a> Drop for Catalog<'a> {
 impl<'a> Model for Catalog<'a> {
     ghost use Rattle.std.specs.Prelude.{◌++◌, List};
     ghost use Rattle.lrp_model.specs.declared.relations.Relation.{Relation};
-    ghost use Rattle.lrp_sorts.specs.Scopes.{IsCatalog, added_of};
+    ghost use Rattle.lrp_sorts.specs.Catalogs.{IsCatalog, first_definitions};
 
     ghost Value = { List Relation };
 
-    ghost view = { λ a. a.db.now ++ added_of a.added.items };
+    ghost view = { λ a. a.db.now ++ first_definitions a.beside };
 
-    ghost invariant = { λ a. IsCatalog a.db.now (added_of a.added.items) a.numbers a.sorts };
+    ghost invariant = { λ a. IsCatalog a.db.now a.beside a.sorts };
 }
 
 impl<'a> Catalog<'a> {
@@ -56,32 +62,32 @@ impl<'a> Catalog<'a> {
         let sorts = named_sorts(alloc, db)?;
         Ok(Catalog {
             db,
-            added: Vec::new(alloc),
-            numbers: HashMap::new(alloc),
+            beside: None,
             sorts,
         })
     }
 
-    /// The catalog with one relation more, after the others. Of two relations of one name the first is found.
-    pub fn with(self, relation: &'a Relation) -> Result<Self, Memory>
-        ensures { IfOk result (λ made. made ≡ self.entry ++ relation.now ∷ []) }
+    /// The catalog of a database and this many of the first definitions, from that without the last of these. They are looked up
+    /// where they stand.
+    pub fn with(self, definitions: &'a Definitions<'a>, count: usize) -> Result<Self, Memory>
+        requires some { 0 < count }
+        requires there { count ≤ length definitions.now.definitions }
+        requires before { self
+            ≡ definitions.now.relations ++ take (count - 1) definitions.now.definitions }
+        ensures { IfOk result (λ made. made
+            ≡ definitions.now.relations ++ take count definitions.now.definitions) }
     {
         let Catalog {
-            db,
-            added,
-            numbers,
+            db: _db,
+            beside: _beside,
             sorts,
         } = self;
-        let mut added = added;
-        let mut numbers = numbers;
         let mut sorts = sorts;
-        add_number(&mut numbers, relation.name.as_bytes(), added.len())?;
-        added.push(relation)?;
-        add_sorts(&mut sorts, relation.columns.as_slice())?;
+        add_sorts(&mut sorts, definitions.at(count - 1).columns.as_slice())?;
+        let first = First { definitions, count };
         Ok(Catalog {
-            db,
-            added,
-            numbers,
+            db: definitions.database(),
+            beside: Some(first),
             sorts,
         })
     }
@@ -90,15 +96,12 @@ impl<'a> Catalog<'a> {
     pub fn relation(&self, name: &Name) -> Option<&Relation>
         ensures { option_map (λ r. r.now) result ≡ relation_named self.now name.now }
     {
-        let relation = self.db.relation(name);
-        if relation.is_some() {
-            return relation;
+        if let Some(first) = self.beside {
+            if let Some(number) = first.definitions.number(name, first.count) {
+                return Some(first.definitions.at(number));
+            }
         }
-        if self.added.is_empty() {
-            return None;
-        }
-        let number = *self.numbers.get(&name.as_bytes())?;
-        Some(self.added[number])
+        self.db.relation(name)
     }
 
     /// The fault of a named sort that no column has.
@@ -113,21 +116,6 @@ impl<'a> Catalog<'a> {
             }
         }
     }
-}
-
-// The number of a name that is new; one that is there has its number.
-fn add_number<'a>(
-    numbers: &mut HashMap<&'a [u8], usize>,
-    name: &'a [u8],
-    number: usize,
-) -> Result<(), Memory>
-    ensures { OnOk result ((names : List Identifier) → number ≡ length names
-        → AreScopeNumbers numbers.old names → AreScopeNumbers numbers.new (names ++ name.now ∷ [])) }
-{
-    if !numbers.contains_key(&name) {
-        numbers.insert(name, number)?;
-    }
-    Ok(())
 }
 
 // The names of the named sorts that columns of the database have.

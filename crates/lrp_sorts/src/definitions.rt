@@ -39,21 +39,22 @@ impl<'a> Model for Definitions<'a> {
 
     ghost view = { λ d. record { relations = d.db.now; definitions = d.all.items } };
 
-    // The number of a name is that of the first definition which has it, and its first byte is known.
-    ghost invariant = { λ d. IsNumberingOf d.numbers d.initials (map (λ r. r.name) d.all.items) };
+    // The number of a name that is no relation's is that of the first definition which has it, and its first byte is known.
+    ghost invariant = { λ d. IsNumberingOf d.numbers d.initials (map (λ r. r.name) d.db.now)
+        (map (λ r. r.name) d.all.items) };
 }
 
 impl<'a> Definitions<'a> {
-    /// None yet.
-    pub fn new(alloc: Global, db: &'a Database) -> Self
-        ensures { result ≡ record { relations = db.now; definitions = [] } }
+    /// None yet, with room for this many.
+    pub fn with_room(alloc: Global, db: &'a Database, count: usize) -> Result<Self, Memory>
+        ensures { IfOk result (λ made. made ≡ record { relations = db.now; definitions = [] }) }
     {
-        Definitions {
+        Ok(Definitions {
             db,
-            all: Vec::new(alloc),
-            numbers: HashMap::new(alloc),
+            all: Vec::with_capacity(alloc, count)?,
+            numbers: HashMap::with_capacity(alloc, count)?,
             initials: [false; 256],
-        }
+        })
     }
 
     /// The database.
@@ -81,9 +82,6 @@ impl<'a> Definitions<'a> {
             return None;
         }
         if !may_begin(&self.initials, name) {
-            return None;
-        }
-        if !is_apart(self.db, name) {
             return None;
         }
         let number = *self.numbers.get(name)?;
@@ -119,10 +117,9 @@ impl<'a> Definitions<'a> {
         let mut all = all;
         let mut numbers = numbers;
         let mut initials = initials;
-        let is_first = add_number(alloc, &mut numbers, name, all.len())?;
+        let is_new = add_number(alloc, db, &mut numbers, name, all.len())?;
         mark(&mut initials, name);
         all.push(rowless(alloc, name, columns)?)?;
-        let is_new = both(is_first, is_apart(db, name));
         let made = Definitions {
             db,
             all,
@@ -131,12 +128,6 @@ impl<'a> Definitions<'a> {
         };
         Ok((made, is_new))
     }
-}
-
-fn both(one: bool, other: bool) -> bool
-    ensures { result ≡ (one && other) }
-{
-    one && other
 }
 
 // The first byte of a name, or 0 where it has none.
@@ -171,18 +162,24 @@ fn is_apart(db: &Database, name: &Name) -> bool
     db.relation(name).is_none()
 }
 
-// The number of a name that is new; one that is there has its number. Whether it is new.
+// The number of a name that is new; one that is there has its number, and a relation's has none. Whether it is new.
 fn add_number(
     alloc: Global,
+    db: &Database,
     numbers: &mut HashMap<Name, usize>,
     name: &Name,
     number: usize,
 ) -> Result<bool, Memory>
     ensures new { IfOk result (λ is_new. (names : ListOf Identifier)
-        → AreNamesNumbered numbers.old names → is_new ≡ not (is_named_in names name.now)) }
+        → AreNamesNumbered numbers.old (map (λ r. r.name) db.now) names
+        → is_new ≡ not (is_named_in (map (λ r. r.name) db.now ++ names) name.now)) }
     ensures numbers { OnOk result ((names : ListOf Identifier) → number ≡ length names
-        → AreNamesNumbered numbers.old names → AreNamesNumbered numbers.new (names ++ name.now ∷ [])) }
+        → AreNamesNumbered numbers.old (map (λ r. r.name) db.now) names
+        → AreNamesNumbered numbers.new (map (λ r. r.name) db.now) (names ++ name.now ∷ [])) }
 {
+    if !is_apart(db, name) {
+        return Ok(false);
+    }
     let is_new = !numbers.contains_key(name);
     if is_new {
         numbers.insert(name.copy(alloc)?, number)?;

@@ -8,7 +8,7 @@ ghost use Rattle.lrp_model.specs.declared.faults.QueryKind.TheVariants.{Wide as 
 use crate::catalog::Catalog;
 use crate::earliest::{fault_where, sooner_of};
 use crate::finding::binder_fault;
-use crate::scope::Scope;
+use crate::scope::{Scope, last_sort};
 use crate::width::MOST;
 use lrp_model::{Memory, QueryFault, QueryKind, RawColumn, Sort};
 use std::alloc::Global;
@@ -21,8 +21,41 @@ pub struct OpenedHead<'a> {
     pub scope: Scope<'a>,
 }
 
-// The binders of a head, each among those before it. A map from names keeps it linear in the number of columns.
+// The binders of a head, each among those before it.
 pub fn open<'a>(
+    alloc: Global,
+    catalog: &Catalog<'_>,
+    columns: &'a [RawColumn],
+) -> Result<OpenedHead<'a>, Memory>
+    ensures fault { IfOk result (λ made. made.fault
+        ≡ earliest query_standing (head_faults catalog.now [] columns.now)) }
+    ensures scope { IfOk result (λ made. made.scope
+        ≡ record { quantifiers = []; head = columns.now }) }
+{
+    if columns.len() > MOST {
+        return open_long(alloc, catalog, columns);
+    }
+    Ok(OpenedHead {
+        fault: short_fault(catalog, columns),
+        scope: Scope::short(alloc, columns),
+    })
+}
+
+// The first fault of a binder of a head of few columns.
+fn short_fault(catalog: &Catalog<'_>, columns: &[RawColumn]) -> Option<QueryFault>
+    ensures { result ≡ earliest query_standing (head_faults catalog.now [] columns.now) }
+{
+    let mut found = None;
+    for i in 0..columns.len() {
+        let column = &columns[i];
+        let bound = last_sort(&columns[..i], &column.name).is_some();
+        found = sooner_of(found, binder_fault(catalog, bound, column));
+    }
+    found
+}
+
+// The binders of a long head. A map from names keeps it linear in the number of columns.
+fn open_long<'a>(
     alloc: Global,
     catalog: &Catalog<'_>,
     columns: &'a [RawColumn],

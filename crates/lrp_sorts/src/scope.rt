@@ -1,6 +1,7 @@
 // The binders around a formula, looked up by their names.
 ghost use Rattle.std.specs.Prelude.{◌≡◌, ◌∷◌, IfOk, OnOk, OnErr, IsSome, Some, option_map, reverse, length, [], if◌then◌else◌, bytes_eq};
 ghost use Rattle.lrp_model.specs.Sorting.{binder_sort};
+ghost use Rattle.lrp_sorts.specs.Nesting.{apart, first_sort};
 ghost use Rattle.lrp_sorts.specs.Scopes.{Around, binders, kept_at};
 ghost use Rattle.lrp_model.specs.Texts.{Identifier};
 
@@ -16,9 +17,11 @@ pub struct QuantifierBinder<'a> {
     pub outer: Option<&'a Sort>,
 }
 
-/// The head's columns, and the quantifiers around a formula. A map has the sort of each name's innermost binder.
+/// The head's columns, and the quantifiers around a formula. A map has the sort of each name's innermost binder, but for the
+/// columns of a short head, which are looked up where they stand.
 pub struct Scope<'a> {
     columns: &'a [RawColumn],
+    is_short: bool,
     sorts: HashMap<&'a [u8], &'a Sort>,
     quantifiers: Vec<QuantifierBinder<'a>>,
 }
@@ -28,6 +31,7 @@ impl<'a> Drop for Scope<'a> {
     fn drop(self) {
         let Scope {
             columns: _columns,
+            is_short: _is_short,
             sorts: _sorts,
             quantifiers: _quantifiers,
         } = self;
@@ -37,13 +41,13 @@ impl<'a> Drop for Scope<'a> {
 impl<'a> Model for Scope<'a> {
     ghost use Rattle.std.specs.Prelude.{reverse, map};
     ghost use Rattle.lrp_sorts.specs.Scopes.{Around};
-    ghost use Rattle.lrp_sorts.specs.Nesting.{IsNested};
+    ghost use Rattle.lrp_sorts.specs.Nesting.{IsNested, mapped};
 
     ghost Value = { Around };
 
     ghost view = { λ a. record { quantifiers = reverse (map (λ q. q.binder.now) a.quantifiers.items); head = a.columns.now } };
 
-    ghost invariant = { λ a. IsNested a.sorts (reverse a.quantifiers.items) (reverse a.columns.now) };
+    ghost invariant = { λ a. IsNested a.sorts (reverse a.quantifiers.items) (mapped a.is_short a.columns.now) };
 }
 
 impl<'a> Scope<'a> {
@@ -54,7 +58,20 @@ impl<'a> Scope<'a> {
     {
         Scope {
             columns,
+            is_short: false,
             sorts,
+            quantifiers: Vec::new(alloc),
+        }
+    }
+
+    // The binders of a head of few columns.
+    pub fn short(alloc: Global, columns: &'a [RawColumn]) -> Self
+        ensures { result ≡ record { quantifiers = []; head = columns.now } }
+    {
+        Scope {
+            columns,
+            is_short: true,
+            sorts: HashMap::new(alloc),
             quantifiers: Vec::new(alloc),
         }
     }
@@ -67,8 +84,11 @@ impl<'a> Scope<'a> {
             if last.binder.name == *name {
                 return Some(&last.binder.sort);
             }
+        } else if self.is_short {
+            return last_sort(self.columns, name);
         }
-        self.sorts.get(name.as_bytes()).copied()
+        let kept = self.sorts.get(name.as_bytes()).copied();
+        or_apart(kept, self.is_short, self.columns, name)
     }
 
     // How many quantifiers there are.
@@ -91,7 +111,7 @@ impl<'a> Scope<'a> {
         let outer = bind_name(&mut self.sorts, binder.name.as_bytes(), &binder.sort)?;
         self.quantifiers
             .push_reserved(QuantifierBinder { binder, outer });
-        Ok(outer)
+        Ok(or_apart(outer, self.is_short, self.columns, &binder.name))
     }
 
     // Out of the innermost quantifier.
@@ -104,6 +124,47 @@ impl<'a> Scope<'a> {
         };
         restore(&mut self.sorts, last.binder.name.as_bytes(), last.outer);
     }
+}
+
+// The sort of the last column of a name, where it has one.
+pub fn last_sort<'a>(columns: &'a [RawColumn], name: &Name) -> Option<&'a Sort>
+    ensures { option_map (λ s. s.now) result ≡ binder_sort (reverse columns.now) name.now }
+{
+    let mut found = None;
+    for column in columns {
+        found = sort_beside(column, name, found);
+    }
+    found
+}
+
+// The sort of a name, a further column being the innermost binder.
+fn sort_beside<'a>(column: &'a RawColumn, name: &Name, before: Option<&'a Sort>) -> Option<&'a Sort>
+    ensures { option_map (λ s. s.now) result
+        ≡ (if bytes_eq column.now.name name.now then Some column.now.sort else option_map
+        (λ s. s.now) before.entry) }
+{
+    if column.name == *name {
+        Some(&column.sort)
+    } else {
+        before
+    }
+}
+
+// The sort that is kept for a name, and else that of the last column of a short head.
+fn or_apart<'a>(
+    kept: Option<&'a Sort>,
+    is_short: bool,
+    columns: &'a [RawColumn],
+    name: &Name,
+) -> Option<&'a Sort>
+    ensures { option_map (λ s. s.now) result
+        ≡ first_sort (option_map (λ s. s.now) kept.entry)
+        (binder_sort (apart is_short columns.now) name.now) }
+{
+    if kept.is_some() || !is_short {
+        return kept;
+    }
+    last_sort(columns, name)
 }
 
 // A name, bound to a sort from now on; and the sort that it had before.

@@ -17,11 +17,11 @@ use Rattle.lrp_wide.proofs.InlineKnown.{known-length, known-names}
 use Rattle.lrp_wide.proofs.MeantNames.{number_nowhere, number_there}
 use Rattle.lrp_wide.proofs.NumberKnown.{at_below}
 
-names_again : (ds : List RawDefinitionView) → map (λ (r : Relation). r.name) (map (λ (w : RawDefinitionView). rowless w.name w.columns) ds) ≡ map (λ (w : RawDefinitionView). w.name) ds
+pub names_again : (ds : List RawDefinitionView) → map (λ (r : Relation). r.name) (map (λ (w : RawDefinitionView). rowless w.name w.columns) ds) ≡ map (λ (w : RawDefinitionView). w.name) ds
 names_again [] = refl
 names_again (d ∷ ds) = ap (λ l. d.name ∷ l) (names_again ds)
 
-among_first : {X : Type 0} (xs : List X) (n before : ℕ) → n < before → slice_get (take before xs) n ≡ slice_get xs n
+pub among_first : {X : Type 0} (xs : List X) (n before : ℕ) → n < before → slice_get (take before xs) n ≡ slice_get xs n
 among_first [] n zero lt = refl
 among_first [] n (suc before) lt = refl
 among_first (x ∷ xs) n zero lt = absurd (omega (arith, lt))

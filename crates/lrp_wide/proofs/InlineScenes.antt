@@ -13,7 +13,7 @@ use Rattle.lrp_model.specs.declared.relations.Column.{Column}
 use Rattle.lrp_model.specs.declared.relations.Relation.{Relation}
 use Rattle.lrp_model.specs.declared.tokens.Place.{Place}
 use Rattle.lrp_wide.specs.Inlining.{Counted, Known, Passed, UseSetting, compared_form, counted_from, counted_in, inlined, inlined_atom, known_of, known_with, meant_by, passed, passed_name, some_each, star_total, use_form}
-use Rattle.lrp_wide.specs.Inside.{AreArguments, AreBeside, AreWritten, HasPlainBody, IsAround, IsUsedBody, IsInsideBody, IsMeant, IsNamedIn, IsNextBody, IsPlainUse, IsUsed, body_setting, inlined_here, known_by, known_here, met_form}
+use Rattle.lrp_wide.specs.Inside.{AreArguments, AreBeside, AreWritten, HasPlainBody, IsAround, IsUsedBody, IsInsideBody, IsNamedIn, IsUsed, body_setting, inlined_here, known_by, known_here, met_form}
 use Rattle.lrp_wide.specs.Counts.{stopped_counts}
 use Rattle.lrp_wide.specs.Limits.{depth_of}
 use Rattle.lrp_wide.specs.Settings.{and_after, name_passed, setting_of}
@@ -33,7 +33,7 @@ use Rattle.lrp_wide.proofs.NumberKnown.{at_below}
 
 -- ---- the definition that is named
 
-get_of : {X : Type 0} (xs : List X) (i : ℕ) (x : X) → slice_get xs i ≡ Some x → x ≡ get_or xs i x
+pub get_of : {X : Type 0} (xs : List X) (i : ℕ) (x : X) → slice_get xs i ≡ Some x → x ≡ get_or xs i x
 get_of [] i x e = absurd cc
 get_of (y ∷ xs) zero x e = let h : Some y ≡ Some x = e in cc
 get_of (y ∷ xs) (suc i) x e = get_of xs i x e
@@ -69,24 +69,6 @@ plain-setting : (s : UseSetting) (d : Named) (met : Met) (a : Arguments) (k : Kn
     ≡ record { name = passed_name (passed s met.place met.number (suc met.number) k.columns met.terms.now) met.number; place = λ q. met.place; number = counted_from (suc met.number + star_total k.columns met.terms.now) k.counted }
 plain-setting s d met a k own =
     use-setting met.place met.number a.next a.passed.items (passed s met.place met.number (suc met.number) k.columns met.terms.now) (suc met.number + star_total k.columns met.terms.now) k.counted k.counted own.passed own.next refl
-
-pub none_in : {X : Type 0} (xs : List X) → length xs ≡ 0 → xs ≡ []
-none_in [] e = refl
-none_in (x ∷ xs) e = absurd (omega (arith, e))
-
--- a use that brings no quantifier becomes what its body becomes
-pub plain-use : (s : UseSetting) (d : Named) (met : Met) (a : Arguments) (cs : List Column) (r : Relation) → slice_get d.written.definitions.now.definitions d.number ≡ Some r → cs ≡ r.columns → AreArguments s met cs a
-    → a.stars.items ≡ [] → a.columns.items ≡ [] → IsPlainUse s met d (record { named = d; number = met.number; place = met.place; first = a.next; passed = a.passed })
-plain-use s d met a cs r er ec args none alone = record {
-  named = refl;
-  form = λ k q eq columns.
-      let both : Some r ≡ Some q = sym er ∙ eq in
-      let same : r ≡ q = cc in
-      let own : AreArguments s met k.columns a = subst (λ l. AreArguments s met l a) (ec ∙ ap (λ (y : Relation). y.columns) same ∙ columns) args in
-      let ps : List Passed = passed s met.place met.number (suc met.number) k.columns met.terms.now in
-      let inner : UseSetting = record { name = passed_name ps met.number; place = λ o. met.place; number = counted_from (suc met.number + star_total k.columns met.terms.now) k.counted } in
-      ap k.form (plain-setting s d met a k own) ∙ ap₂ (λ x y. some_each met.place x (compared_form met.place y ps (k.form inner))) (sym none ∙ own.stars) (sym alone ∙ own.columns);
-}
 
 -- what stands around a use stands around its body
 pub around_inside : (s : Scene) (b : UsedBody) (inner : Scene) (file : RawFileView) → IsInsideBody s b inner → IsAround s file → IsAround inner file
@@ -153,50 +135,3 @@ module _ (s : Scene) (file : RawFileView) (w : Written) (is : s.written ≡ Some
         let b : UsedBody = record { named = d; number = met.number; place = met.place; first = a.next; passed = a.passed } in
         em ∙ used-form S met k cs a of (body_setting b k.counted) columns args (plain-setting S d met a k own) (h.body k e);
   }
-
--- ---- the body of a use that is all of a body's text
-
--- the definition that is named is an earlier one, and the scene may name it
-next-named : (s inner : Scene) (b : UsedBody) (found : Named) → IsNamedIn s b.named → IsInsideBody s b inner → IsNamedIn inner found → IsNamedIn s (record { written = b.named.written; number = found.number })
-next-named s inner b found named h m =
-    let less : found.number < b.named.number = subst (λ i. found.number < i) h.setting.before m.before in
-    record {
-      whole = named.whole;
-      written = named.written;
-      before = omega (arith, less, named.before);
-      there = omega (arith, less, named.there);
-    }
-
--- all of its text stands at the place of the use
-inside-place : (s inner : Scene) (b : UsedBody) (q : Place) → IsInsideBody s b inner → b.place ≡ (setting_of inner.setting).place q
-inside-place s inner b q h = sym (h.setting.place q)
-
-pub next-is : (s inner : Scene) (b next : UsedBody) (found : Named) (f : RawFormula) (x : RawDefinition) (n : Identifier) (terms : List RawTerm) (met : Met) → IsNamedIn s b.named → IsInsideBody s b inner → IsMeant inner n (Some found)
-    → slice_get b.named.written.plain.now b.named.number ≡ Some x → f ≡ x.body → f.kind ≡ Atom n terms → met.name.now ≡ n → met.terms.now ≡ terms → met.place ≡ b.place → met.number ≡ (setting_of inner.setting).number f.place
-    → IsPlainUse (setting_of inner.setting) met (record { written = b.named.written; number = found.number }) next → IsNextBody s b next
-next-is s inner b next found f x n terms met named h m ex ef kind en et ep ek u =
-    let w : Written = b.named.written in
-    let meant : IsNamedIn inner found = m.named in
-    let less : found.number < b.named.number = subst (λ i. found.number < i) h.setting.before meant.before in
-    let d : Named = record { written = w; number = found.number } in
-    record {
-      earlier = subst (λ (y : Named). y.number < b.named.number) (sym u.named) less;
-      passed_on = record {
-        named = subst (IsNamedIn s) (sym u.named) (next-named s inner b found named h meant);
-        same = λ file around form of. record {
-          body = λ k e.
-              let inside : IsAround inner file = around_inside s b inner file h around in
-              let used : IsUsed inner file met found.number form = record {
-                used = λ y ey.
-                    let there : slice_get (known_of s.catalog.now [] file.definitions) found.number ≡ Some y = ap (λ l. slice_get (known_of l [] file.definitions) found.number) (sym h.catalog) ∙ ey in
-                    let r = at_below w.definitions.now.definitions found.number (omega (arith, less, named.there, named.whole.definitions)) in
-                    of.body y (ap (λ (z : Named). slice_get (known_of s.catalog.now [] file.definitions) z.number) u.named ∙ there)
-                    ∙ u.form y r.entry r.is (known-columns s file w named.written around found.number y there r.entry r.is);
-              } in
-              let met_is : form ≡ met_form inner file met = atom-used inner found file met form meant inside (subst (λ i. meant_by inner.catalog.now (known_by inner file) i ≡ slice_get (known_of inner.catalog.now [] file.definitions) found.number) (sym en) (m.meaning file inside)) used in
-              atom_step inner f file b.place (inside-place s inner b f.place h) form n terms met.terms.now met.place met.number kind ep ek et (met_is ∙ ap (λ i. inlined_atom (setting_of inner.setting) met.place met.number i (columns_in (relation_named inner.catalog.now i)) met.terms.now (meant_by inner.catalog.now (known_by inner file) i)) en)
-              ∙ ap (λ (y : RawFormula). inlined_here inner file (raw_form_of y)) ef
-              ∙ body-is s file w named.written around b inner refl named h x ex k e;
-        };
-      };
-    }

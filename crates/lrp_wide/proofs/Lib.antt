@@ -59,3 +59,9 @@ pub mod InlineAtoms
 pub mod InlineSteps
 pub mod NumberSteps
 pub mod InPlace
+pub mod PlainTexts
+pub mod ChainTerms
+pub mod ChainSteps
+pub mod ChainLinks
+pub mod ChainBodies
+pub mod ChainEnds

@@ -49,6 +49,18 @@ through p q r (inl a) (inr b) = inl (let e : q.line ≡ r.line = b.0 in omega ar
 through p q r (inr a) (inl b) = inl (let e : p.line ≡ q.line = a.0 in omega arith)
 through p q r (inr a) (inr b) = let c : p.column < q.column = a.1 in let d : q.column < r.column = b.1 in inr (a.0 ∙ b.0, omega arith)
 
+not_earlier : (p : Place) → IsEarlier p p → ⊥
+not_earlier p (inl lt) = omega (arith, lt)
+not_earlier p (inr h) = let lt : p.column < p.column = h.1 in omega (arith, lt)
+
+-- no place is before itself
+pub before-itself : (p : Place) → is_before p p ≡ false
+before-itself p = at_test (is_before p p) refl
+  where
+    at_test : (b : Bool) → is_before p p ≡ b → b ≡ false
+    at_test false e = refl
+    at_test true e = absurd (not_earlier p (earlier p p e))
+
 -- a place before one that is before another is before that one
 pub before-through : (p q r : Place) → is_before p q ≡ true → is_before q r ≡ true → is_before p r ≡ true
 before-through p q r a b = before p r (through p q r (earlier p q a) (earlier q r b))

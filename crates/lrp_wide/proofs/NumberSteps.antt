@@ -15,8 +15,8 @@ use Rattle.lrp_model.specs.declared.relations.RowPoint.{RowPoint}
 use Rattle.lrp_model.specs.declared.tokens.Place.{Place}
 use Rattle.lrp_model.proofs.RawViews.{raw_kind-Paired, raw_kind-Ranged}
 use Rattle.lrp_wide.specs.Counts.{kept_each, kept_in, stopped, stopped_counts}
-use Rattle.lrp_wide.specs.Inlining.{Counted, Known, atom_numbers, counted_in, meant_by}
-use Rattle.lrp_wide.proofs.NumberStops.{stopped-append}
+use Rattle.lrp_wide.specs.Inlining.{Counted, Known, atom_numbers, counted_atom, counted_in, meant_by}
+use Rattle.lrp_wide.proofs.NumberStops.{stopped-append, stopped-atom}
 use Rattle.lrp_wide.proofs.InlineNodes.{and_node, atom_node, compare_node, exists_node, forall_node, group_node, implies_node, member_node, not_node, or_node}
 
 module _ (db : List Relation) (ks : List Known) (f : RawFormula) (old new : List Counted) where
@@ -24,9 +24,9 @@ module _ (db : List Relation) (ks : List Known) (f : RawFormula) (old new : List
   is : (g : RawForm) → raw_form_of f ≡ g → new ≡ old ++ kept_in db ks g → new ≡ old ++ kept_in db ks (raw_form_of f)
   is g e h = h ∙ ap (λ x. old ++ kept_in db ks x) (sym e)
 
-  pub atom_counted : (n : Identifier) (ts : List RawTerm) (taken : ℕ) → f.kind ≡ Atom n ts → new ≡ old ++ record { place = f.place; numbers = taken } ∷ []
+  pub atom_counted : (n : Identifier) (ts : List RawTerm) (taken : ℕ) → f.kind ≡ Atom n ts → new ≡ old ++ counted_atom f.place taken
       → taken ≡ stopped (atom_numbers (columns_in (relation_named db n)) ts (meant_by db ks n)) → new ≡ old ++ kept_in db ks (raw_form_of f)
-  atom_counted n ts taken e h t = is _ (atom_node f n ts e) (h ∙ ap (λ (x : ℕ). old ++ record { place = f.place; numbers = x } ∷ []) t)
+  atom_counted n ts taken e h t = is _ (atom_node f n ts e) (h ∙ ap (λ (x : ℕ). old ++ counted_atom f.place x) t ∙ ap (λ l. old ++ l) (stopped-atom f.place (atom_numbers (columns_in (relation_named db n)) ts (meant_by db ks n))))
 
   pub compare_counted : (op : Op) (l r : RawTerm) → f.kind ≡ Compare op l r → new ≡ old → new ≡ old ++ kept_in db ks (raw_form_of f)
   compare_counted op l r e h = is _ (compare_node f op l r e) (h ∙ sym (append-nil old))

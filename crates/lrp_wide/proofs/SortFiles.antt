@@ -1,7 +1,6 @@
 -- The sort faults of a file's own texts, one text after the other.
-use Rattle.std.proofs.Common.{◌≡◌, ◌<◌, ◌+◌, ℕ, Bool, true, false, not, Some, option_map, slice_get, List, [], ◌∷◌, ◌++◌, length, map, take, get_or, Option, refl, ap, ap₂, sym, ◌∙◌, append_assoc}
-use Rattle.std.proofs.lemmas.List.{append-nil, map-append, take_more}
-use Rattle.std.proofs.lemmas.Option.{same_Some, slice_get-map, slice_get_read}
+use Rattle.std.proofs.Common.{◌≡◌, ◌<◌, ◌+◌, ℕ, Bool, true, false, not, List, [], ◌∷◌, ◌++◌, length, map, take, get_or, Option, refl, ap, ap₂, sym, ◌∙◌, append_assoc}
+use Rattle.std.proofs.lemmas.List.{append-nil, length-map, map-append, take-map, take_more}
 use Rattle.lrp_model.specs.Faults.{earliest, fault_if, is_named_in}
 use Rattle.lrp_model.specs.Sooner.{sooner}
 use Rattle.lrp_model.specs.Sorting.{query_fault, query_faults, query_standing}
@@ -112,9 +111,10 @@ pub denied_twice : (b : Bool) → not (not b) ≡ b
 denied_twice true = refl
 denied_twice false = refl
 
--- a definition as a relation, at its number
-pub relation_at : (ds : List Relation) (xs : List RawDefinition) (i : ℕ) (x : RawDefinition) (r : Relation) → i < length xs → x ≡ get_or xs i x → ds ≡ map defined_relation (map raw_definition_of xs) → slice_get ds i ≡ Some r → r ≡ defined_relation (raw_definition_of x)
-relation_at ds xs i x r lt is e at =
-    let here : slice_get xs i ≡ Some x = slice_get_read xs (length xs) i x refl lt is in
-    same_Some r (defined_relation (raw_definition_of x))
-    (sym at ∙ ap (λ l. slice_get l i) e ∙ slice_get-map defined_relation (map raw_definition_of xs) i ∙ ap (option_map defined_relation) (slice_get-map raw_definition_of xs i ∙ ap (option_map raw_definition_of) here))
+-- the first definitions as relations
+pub first_relations : (ds : List Relation) (xs : List RawDefinition) (i : ℕ) → ds ≡ map defined_relation (map raw_definition_of xs) → map defined_relation (map raw_definition_of (take i xs)) ≡ take i ds
+first_relations ds xs i e = sym (ap (take i) e ∙ take-map defined_relation i (map raw_definition_of xs) ∙ ap (map defined_relation) (take-map raw_definition_of i xs))
+
+-- there are as many of them
+pub as_many : (ds : List Relation) (xs : List RawDefinition) → ds ≡ map defined_relation (map raw_definition_of xs) → length ds ≡ length xs
+as_many ds xs e = ap length e ∙ length-map (map raw_definition_of xs) defined_relation ∙ length-map xs raw_definition_of

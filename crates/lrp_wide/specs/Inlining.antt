@@ -1,5 +1,5 @@
 -- The query of first-order logic that stands for a file: operators are written out in each text by itself, and then each use of a definition and each `*`.
-use Rattle.std.specs.Prelude.{◌≡◌, ◌+◌, ℕ, suc, pos, Bool, true, false, Option, Some, None, find, List, [], ◌∷◌, ◌++◌, map, sum_by, cond, if◌then◌else◌}
+use Rattle.std.specs.Prelude.{◌≡◌, ◌+◌, ℕ, zero, suc, pos, Bool, true, false, Option, Some, None, find, List, [], ◌∷◌, ◌++◌, map, sum_by, cond, if◌then◌else◌}
 use Rattle.std.specs.Str.{bytes_eq}
 use Rattle.std.specs.Fmt.{decimal}
 use Rattle.lrp_model.specs.Texts.{Identifier}
@@ -187,11 +187,16 @@ without_relation (Some r) d = None
 abbrev pub meant_by : List Relation → List Known → Identifier → Option Known
 meant_by db ks n = without_relation (relation_named db n) (known_named ks n)
 
+-- an atom that takes so many numbers, where it takes some
+abbrev pub counted_atom : Place → ℕ → List Counted
+counted_atom p zero = []
+counted_atom p (suc n) = record { place = p; numbers = suc n } ∷ []
+
 module _ (db : List Relation) (ks : List Known) where
-  -- the atoms of a text as it is written, with the numbers that each takes
+  -- the atoms of a text as it is written that take numbers, with how many each takes
   abbrev mutual
     pub counted_in : RawForm → List Counted
-    counted_in (raw_atom p n ts) = record { place = p; numbers = atom_numbers (columns_in (relation_named db n)) ts (meant_by db ks n) } ∷ []
+    counted_in (raw_atom p n ts) = counted_atom p (atom_numbers (columns_in (relation_named db n)) ts (meant_by db ks n))
     counted_in (raw_compare p l op r) = []
     counted_in (raw_member p t point) = []
     counted_in (raw_not p f) = counted_in f

@@ -18,6 +18,7 @@ use Rattle.lrp_model.specs.declared.relations.Relation.{Relation}
 use Rattle.lrp_model.specs.declared.tokens.Place.{Place}
 use Rattle.lrp_tense.specs.Expanding.{name_term}
 use Rattle.lrp_wide.specs.Inlining.{Counted, Known, Passed, UseSetting, column_added, counted_from, inlined_atom, compared_columns, inlined, inlined_each, itself, equal, known_of, meant_by, passed, plain_definition, star_columns, star_total, star_variable, use_form}
+use Rattle.lrp_wide.specs.Chains.{AreChains}
 use Rattle.lrp_wide.specs.Counts.{AreRowless, file_numbers, stopped_counts}
 use Rattle.lrp_wide.specs.Settings.{IsPassedToo, name_passed, passed_of, setting_of}
 use Rattle.lrp_wide.specs.declared.atoms.Met.{Met}
@@ -33,11 +34,13 @@ use Rattle.lrp_wide.specs.declared.uses.UseSetting.{UseSetting as SettingOf}
 abbrev pub HasPlainBody : RawDefinition → Type 0
 HasPlainBody d = HasNoOperator (raw_form_of d.body)
 
--- no definition has an operator, and each has its name and its numbers, the query beside them too
+-- no definition has an operator, and each has its name, its numbers, the query beside them too, and its chain if it begins one
 pub record IsWholeWritten (w : Written) : Type 0 where
   pub operators : AllByRecursion HasPlainBody w.plain.now
   pub definitions : length w.definitions.now.definitions ≡ length w.plain.now
   pub numbers : length w.numbers.now ≡ suc (length w.plain.now)
+  pub each_chain : length w.chains.now ≡ length w.plain.now
+  pub chains : AreChains w.definitions.now w.plain.now w.chains.now
 
 abbrev pub IsWholeIfAny : Option Written → Type 0
 IsWholeIfAny None = Unit {0}
@@ -157,6 +160,7 @@ body_setting b counted = record { name = name_passed b.passed.items b.number; pl
 -- a setting is the one that a body is read by
 pub record IsBodySetting (b : UsedBody) (made : SettingOf) : Type 0 where
   pub before : made.before ≡ b.named.number
+  pub name : (v : Identifier) → (setting_of made).name v ≡ name_passed b.passed.items b.number v
   pub place : (q : Place) → (setting_of made).place q ≡ b.place
   pub reads : (counted : List Counted) → slice_get b.named.written.numbers.now b.named.number ≡ Some (stopped_counts counted) → setting_of made ≡ body_setting b counted
 
@@ -174,16 +178,6 @@ pub record IsUsedBody (s : Scene) (f : RawFileView) (b : UsedBody) (form : RawFo
 pub record IsPassedOn (s : Scene) (b last : UsedBody) : Type 0 where
   pub named : IsNamedIn s last.named
   pub same : (f : RawFileView) → IsAround s f → (form : RawForm) → IsUsedBody s f last form → IsUsedBody s f b form
-
--- and it is an earlier one
-pub record IsNextBody (s : Scene) (b next : UsedBody) : Type 0 where
-  pub earlier : next.named.number < b.named.number
-  pub passed_on : IsPassedOn s b next
-
--- the body of a use that brings no quantifier: it alone is what the use becomes
-pub record IsPlainUse (s : UseSetting) (met : Met) (d : Named) (b : UsedBody) : Type 0 where
-  pub named : b.named ≡ d
-  pub form : (k : Known) (r : Relation) → slice_get d.written.definitions.now.definitions d.number ≡ Some r → r.columns ≡ k.columns → k.form (body_setting b k.counted) ≡ use_form s met.place met.number k met.terms.now
 
 -- ---- the query's own text, written out where it stands
 

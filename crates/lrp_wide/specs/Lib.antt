@@ -10,5 +10,6 @@ pub mod Outcomes
 pub mod Counts
 pub mod Settings
 pub mod Sizes
+pub mod Chains
 pub mod Inside
 pub mod Narrow

@@ -1,5 +1,5 @@
 // The query that stands for a file within its limits, whose own texts are well-sorted.
-ghost use Rattle.std.specs.Prelude.{◌≡◌, ◌≤◌, [], map, IfErr, IfOk, OnOk};
+ghost use Rattle.std.specs.Prelude.{◌≡◌, ◌≤◌, [], map, IfErr, IfOk, IsTrue, OnOk};
 ghost use Rattle.std.specs.List.{AllByRecursion};
 ghost use Rattle.lrp_model.specs.Faults.{earliest};
 ghost use Rattle.lrp_model.specs.RawQueries.{HasNoOperator, RawFileView, raw_definition_of, raw_file_of, raw_form_of, raw_question_of};
@@ -12,16 +12,18 @@ ghost use Rattle.lrp_wide.specs.Counts.{AreRowless};
 ghost use Rattle.lrp_wide.specs.WideSorting.{name_faults, own_faults, defined_relation, starred_plain, text_faults};
 ghost use Rattle.lrp_wide.specs.declared.checking.WideRead.{WideRead as WideReadOf};
 
+use crate::chains::chains_of;
 use crate::inlining::{Written, expand, starred};
-use crate::measures::{Size, measure};
+use crate::measures::Size;
 use crate::narrow::is_narrow;
-use crate::numbering::number_file;
-use crate::plain::plain;
+use crate::plain::{is_plain_file, plain};
+use crate::surveying::survey_file;
 use lrp_database::Database;
 use lrp_model::{
     List, Memory, QueryFault, QueryKind, RawColumn, RawDefinition, RawFile, RawFormula, RawQuery,
 };
 use lrp_sorts::{Catalog, Definitions, fault_where, sooner_of, sort_fault};
+use lrp_tense::expansion_leaves_plain_queries;
 use std::alloc::Global;
 use thiserror::Error;
 
@@ -90,20 +92,54 @@ fn answer(alloc: Global, file: RawFile, db: &Database) -> Result<RawQuery, WideR
     ensures refused { IfErr result (IsFileRefused db.now (raw_file_of file)) }
 {
     let (definitions, defined) = definitions_of(alloc, db, file.definitions.as_slice())?;
-    limited(measure(alloc, &definitions, &file)?)?;
-    let numbers = number_file(alloc, &definitions, &file)?;
-    let plain = plain(alloc, file)?;
-    let own = own_fault(alloc, &definitions, &plain)?;
+    let is_plain = is_plain_file(&file);
+    let found = survey_file(alloc, &definitions, &file, is_plain)?;
+    limited(found.size)?;
+    let (plain, own) = plain_checked(alloc, &definitions, file, is_plain, found.fault)?;
     if let Some(fault) = sooner_of(defined, own) {
         return Err(WideRead::Fault { fault });
     }
     let (texts, query) = plain.into_parts();
+    let bodies = texts.as_slice();
+    let chains = chains_of(alloc, &definitions, bodies)?;
     let written = Written {
         definitions: &definitions,
-        plain: texts.as_slice(),
-        numbers: numbers.as_slice(),
+        plain: bodies,
+        numbers: found.numbers.as_slice(),
+        chains: chains.as_slice(),
     };
     Ok(expand(alloc, written, query)?)
+}
+
+// The file without operators, and the first sort fault of its own texts, which is known of one that has none.
+fn plain_checked(
+    alloc: Global,
+    definitions: &Definitions<'_>,
+    file: RawFile,
+    is_plain: bool,
+    known: Option<QueryFault>,
+) -> Result<(RawFile, Option<QueryFault>), Memory>
+    requires expandable { IsExpandableFile (raw_file_of file) }
+    requires rowless { AreRowless definitions.now (raw_file_of file) }
+    requires query { IsTrue is_plain → HasNoOperator (raw_form_of file.query.body) }
+    requires operators { IsTrue is_plain → AllByRecursion HasPlainBody file.definitions.items }
+    requires known { IsTrue is_plain → (written : RawFileView)
+        → raw_file_of file ≡ plain_file written
+        → known ≡ earliest query_standing (text_faults definitions.now.relations written) }
+    ensures tree { IfOk result (λ made. raw_file_of made.0 ≡ plain_file (raw_file_of file)) }
+    ensures query { IfOk result (λ made. HasNoOperator (raw_form_of made.0.query.body)) }
+    ensures definitions { IfOk result (λ made. AllByRecursion HasPlainBody
+        made.0.definitions.items) }
+    ensures fault { IfOk result (λ made. made.1
+        ≡ earliest query_standing (text_faults definitions.now.relations (raw_file_of file))) }
+{
+    if is_plain {
+        expansion_leaves_plain_queries();
+        return Ok((file, known));
+    }
+    let plain = plain(alloc, file)?;
+    let own = own_fault(alloc, definitions, &plain)?;
+    Ok((plain, own))
 }
 
 // A size that is above a limit is refused.
@@ -133,7 +169,7 @@ fn definitions_of<'a>(
     ensures fault { IfOk result (λ made. made.1
         ≡ earliest query_standing (name_faults db.now (map raw_definition_of written.now))) }
 {
-    let mut definitions = Definitions::new(alloc, db);
+    let mut definitions = Definitions::with_room(alloc, db, written.len())?;
     let mut fault = None;
     for definition in written {
         let columns = definition.columns.as_slice();
@@ -165,14 +201,14 @@ fn own_fault(
         let text = &texts[i];
         let own = text_fault(alloc, &catalog, &text.columns, &text.body)?;
         fault = sooner_of(fault, own);
-        catalog = catalog.with(definitions.at(i))?;
+        catalog = catalog.with(&*definitions, i + 1)?;
     }
     let own = text_fault(alloc, &catalog, &file.query.head, &file.query.body)?;
     Ok(sooner_of(fault, own))
 }
 
-// The first sort fault of one text, in which each `*` is written out and uses of definitions stay atoms.
-fn text_fault(
+/// The first sort fault of one text, in which each `*` is written out and uses of definitions stay atoms.
+pub fn text_fault(
     alloc: Global,
     catalog: &Catalog<'_>,
     head: &List<RawColumn>,

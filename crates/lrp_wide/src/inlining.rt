@@ -1,34 +1,38 @@
 // The query of first-order logic that stands for a file: in its texts without operators each use of a definition and each `*` is written out.
 //
 // A function clears its locals when it begins. So each kind of formula has a function of its own, and a formula pays for its own kind alone.
-ghost use Rattle.std.specs.Prelude.{◌≡◌, ◌<◌, [], None, IfOk, IfSome, OnOk, length};
+ghost use Rattle.std.specs.Prelude.{◌≡◌, [], None, IfOk, OnOk};
 ghost use Rattle.lrp_model.specs.RawQueries.{HasNoOperator, HaveNoOperator, RawFileView, raw_form_of, raw_forms_of, raw_group, raw_implies, raw_not, raw_question_of};
 ghost use Rattle.lrp_wide.specs.Inlining.{expanded_file, inlined, own_setting, set_column};
-ghost use Rattle.lrp_wide.specs.Inside.{AreBeside, IsWholeIfAny, AreOwnNumbers, AreWrittenBy, AreWrittenIn, IsAround, IsAtomWritten, IsUsedBody, IsMeant, IsNamedIn, IsNextBody, IsPassedOn, IsPlainUse, IsUsed, IsWholeWritten, IsWrittenIn, each_inlined_here, inlined_here, met_form};
+ghost use Rattle.lrp_wide.specs.Inside.{AreBeside, IsWholeIfAny, AreOwnNumbers, AreWrittenBy, AreWrittenIn, IsAround, IsAtomWritten, IsUsedBody, IsMeant, IsNamedIn, IsPassedOn, IsUsed, IsWholeWritten, IsWrittenIn, each_inlined_here, inlined_here, met_form};
 ghost use Rattle.lrp_tense.specs.Expanding.{expanded_question};
 ghost use Rattle.lrp_tense.specs.Written.{joined_form, quantified_form};
-ghost use Rattle.lrp_wide.specs.Settings.{setting_of};
+ghost use Rattle.lrp_wide.specs.Settings.{passed_of, setting_of};
+ghost use Rattle.lrp_wide.specs.Chains.{IsChain, as_themselves};
 
 use crate::atoms::{Met, comparison, membership, starred_atom};
+use crate::chains::Chain;
 use crate::names::NameText;
 use crate::narrow::has_no_star;
-use crate::numbering::Numbers;
+use crate::numbering::{Numbers, plus};
 use crate::passing::{Arguments, arguments_of};
 use crate::uses::{Passed, Use, UseSetting, some_each, with_comparisons};
 use lrp_model::{
-    Copies, List, Memory, Name, Place, RawColumn, RawDefinition, RawFormula, RawKind, RawQuery,
-    RawTerm, Relation,
+    Column, Copies, List, Memory, Name, Place, RawColumn, RawDefinition, RawFormula, RawKind,
+    RawQuery, RawTerm, Relation,
 };
 use lrp_sorts::{Catalog, Definitions};
 use lrp_tense::{Connective, QuantifierKind, boxed, denied, grouped, implied, joined, quantified};
 use std::alloc::Global;
 
-/// Definitions that are written out: by their names, without operators, and with the numbers of their texts.
+/// Definitions that are written out: by their names, without operators, with the numbers of their texts, and with the chains
+/// that they begin.
 #[derive(Clone, Copy)]
 pub struct Written<'a> {
     pub definitions: &'a Definitions<'a>,
     pub plain: &'a [RawDefinition],
     pub numbers: &'a [Numbers],
+    pub chains: &'a [Option<Chain>],
 }
 
 // What stands around a formula: where columns of atoms that stay are looked up, the definitions that are written out, and
@@ -48,7 +52,8 @@ struct Named<'a> {
 }
 
 impl<'a> Named<'a> {
-    ghost use Rattle.std.specs.Prelude.{◌≡◌, ◌<◌, List, Some, IfOk, length, slice_get};
+    ghost use Rattle.std.specs.Prelude.{◌≡◌, ◌<◌, List, Some, IfOk, IfSome, length, slice_get};
+    ghost use Rattle.lrp_wide.specs.Chains.{IsChain};
     ghost use Rattle.lrp_wide.specs.Counts.{stopped_counts};
     ghost use Rattle.lrp_wide.specs.Inlining.{Counted as CountedOf};
     ghost use Rattle.lrp_wide.specs.Inside.{IsWholeWritten};
@@ -70,6 +75,19 @@ impl<'a> Named<'a> {
         ensures { slice_get self.entry.written.plain.now self.entry.number ≡ Some result.now }
     {
         &self.written.plain[self.number]
+    }
+
+    // The chain that it begins.
+    fn chain(self) -> Option<&'a Chain>
+        requires written { IsWholeWritten self.written }
+        requires there { self.number < length self.written.plain.now }
+        ensures { IfSome result (λ c. IsChain self.entry.written.definitions.now
+            self.entry.written.plain.now self.entry.number c.now) }
+    {
+        match &self.written.chains[self.number] {
+            Some(chain) => Some(chain),
+            None => None,
+        }
     }
 
     // How the atoms of its text are numbered.
@@ -492,8 +510,8 @@ fn inline_body(
     inline(alloc, text, &around, &last.named.text().body)
 }
 
-// The body that a body comes to along uses that are its whole formula and bring nothing of their own. So a chain of definitions
-// that each only name the one before takes no stack, however long it is.
+// The body at the end of the chain that a body's definition begins. So a chain of definitions that each only name the one before
+// takes one step, however long it is.
 fn last_body<'a>(
     alloc: Global,
     text: &mut NameText,
@@ -504,81 +522,60 @@ fn last_body<'a>(
     requires definitions { IsWholeIfAny scene.now.written }
     ensures { IfOk result (IsPassedOn scene.now body.entry) }
 {
-    let mut last = body;
-    while let Some(next) = next_body(alloc, text, scene, &last)? {
-        last = next;
+    match body.named.chain() {
+        Some(chain) => body_at_end(alloc, text, scene, &body, chain),
+        None => Ok(body),
     }
-    Ok(last)
 }
 
-// The body of the use that a body is, where it is one that brings no quantifier.
-fn next_body<'a>(
+// The body at the end of a chain.
+fn body_at_end<'a>(
     alloc: Global,
     text: &mut NameText,
-    scene: &Scene<'_>,
+    _scene: &Scene<'_>,
     body: &UsedBody<'a>,
-) -> Result<Option<UsedBody<'a>>, Memory>
-    requires named { IsNamedIn scene.now body.now.named }
-    requires definitions { IsWholeIfAny scene.now.written }
-    ensures { IfOk result (λ next. IfSome next (IsNextBody scene.now body.now)) }
+    chain: &Chain,
+) -> Result<UsedBody<'a>, Memory>
+    requires named { IsNamedIn _scene.now body.now.named }
+    requires chain { IsChain body.now.named.written.definitions.now body.now.named.written.plain.now
+        body.now.named.number chain.now }
+    ensures { IfOk result (IsPassedOn _scene.now body.now) }
 {
-    let f = &body.named.text().body;
-    let RawKind::Atom { relation, terms } = &f.kind else {
-        return Ok(None);
-    };
-    let around = Scene {
-        catalog: scene.catalog,
-        written: scene.written,
-        setting: body.setting()?,
-    };
-    let Some(found) = meaning_of(&around, relation) else {
-        return Ok(None);
-    };
-    let met = Met {
-        place: body.place,
-        name: relation,
-        terms: terms.as_slice(),
-        number: around.setting.number(f.place)?,
-    };
+    let setting = body.setting()?;
     let named = Named {
         written: body.named.written,
-        number: found.number,
+        number: chain.end,
     };
-    plain_use(alloc, text, &around.setting, met, named)
+    let columns = named.relation().columns.as_slice();
+    let passed = passed_on(alloc, text, &setting, columns, chain.names.as_slice())?;
+    let first = plus(body.first, chain.steps)?;
+    Ok(UsedBody {
+        named,
+        number: first - 1,
+        place: body.place,
+        first,
+        passed,
+    })
 }
 
-// The body of a use that brings no quantifier.
-fn plain_use<'a>(
+// Columns that are these variables of a setting.
+fn passed_on<'a>(
     alloc: Global,
     text: &mut NameText,
     setting: &UseSetting<'_>,
-    met: Met<'_>,
-    named: Named<'a>,
-) -> Result<Option<UsedBody<'a>>, Memory>
-    requires written { IsWholeWritten named.written }
-    requires there { named.number < length named.written.plain.now }
-    ensures { IfOk result (λ body. IfSome body
-        (IsPlainUse (setting_of setting.now) met.entry named.entry)) }
+    columns: &'a [Column],
+    variables: &[Name],
+) -> Result<Vec<Passed<'a>>, Memory>
+    ensures { IfOk result (λ made. passed_of
+        (as_themselves (setting_of setting.now).name columns.now variables.now) made.items) }
 {
-    let columns = named.relation().columns.as_slice();
-    let given = arguments_of(alloc, text, setting, met, columns)?;
-    let Arguments {
-        next,
-        stars,
-        columns,
-        comparisons: _comparisons,
-        passed,
-    } = given;
-    if !stars.is_empty() || !columns.is_empty() {
-        return Ok(None);
+    let mut all = Vec::with_capacity(alloc, columns.len())?;
+    for i in 0..columns.len().min(variables.len()) {
+        let name = setting.name(alloc, text, &variables[i])?;
+        let column = &columns[i].name;
+        all.push(Passed { column, name })?;
     }
-    Ok(Some(UsedBody {
-        named,
-        number: met.number,
-        place: met.place,
-        first: next,
-        passed,
-    }))
+    Ok(all)
 }
 
 // The query whose own text a scene has, written out where it stands.

@@ -2,6 +2,7 @@
 #![tactic(auto)]
 
 mod atoms;
+mod chains;
 mod checking;
 mod inlining;
 mod laws;
@@ -11,6 +12,7 @@ mod narrow;
 mod numbering;
 mod passing;
 mod plain;
+mod surveying;
 mod uses;
 
 pub use checking::{WideRead, expand_file};

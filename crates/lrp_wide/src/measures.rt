@@ -1,23 +1,18 @@
 // How large the expanded query of a file is, counted before any of it is made.
-ghost use Rattle.std.specs.Prelude.{◌≡◌, ℕ, ℤ, List as ListOf, not, IfOk};
-ghost use Rattle.lrp_model.specs.RawQueries.{Operator, RawForm, raw_atom, raw_file_of, raw_form_of, raw_forms_of};
+ghost use Rattle.std.specs.Prelude.{◌≡◌, ℕ, ℤ, List as ListOf, not};
+ghost use Rattle.lrp_model.specs.RawQueries.{Operator, RawForm, raw_atom, raw_form_of, raw_forms_of};
 ghost use Rattle.lrp_model.specs.Rows.{columns_in, relation_named};
 ghost use Rattle.lrp_model.specs.Texts.{Identifier};
 ghost use Rattle.lrp_model.specs.declared.raw.RawTerm.{RawTerm as RawTermOf};
 ghost use Rattle.lrp_model.specs.declared.tokens.Place.{Place as PlaceOf};
 ghost use Rattle.lrp_tense.specs.Expanding.{form_of_pair, form_of_range};
-ghost use Rattle.lrp_wide.specs.Inlining.{Known, UseSetting as SettingOf, expanded_file, star_total, use_form};
-ghost use Rattle.lrp_wide.specs.Counts.{AreRowless};
-ghost use Rattle.lrp_wide.specs.Stars.{NamesNoStar};
+ghost use Rattle.lrp_wide.specs.Inlining.{Known, UseSetting as SettingOf, star_total, use_form};
 ghost use Rattle.lrp_wide.specs.Sizes.{AreTermsCounted, AreMeasured, IsKnownSize, IsSizeIn, IsSizeInEach, IsSizeOf, is_compared};
 
 use crate::names::is_star;
 use crate::narrow::has_no_star;
-use lrp_model::{
-    Column, Memory, Name, Paired, Ranged, RawFile, RawFormula, RawKind, RawTerm, RawTermKind,
-};
+use lrp_model::{Column, Name, Paired, Ranged, RawFormula, RawKind, RawTerm, RawTermKind};
 use lrp_sorts::Definitions;
-use std::alloc::Global;
 
 /// How many formulas stand in a formula, itself among them, and how deep it is; counts stop at 2^64.
 #[derive(Clone, Copy)]
@@ -136,25 +131,9 @@ pub fn is_variable(term: &RawTerm) -> bool
     }
 }
 
-/// The size of the expanded query.
-pub fn measure(alloc: Global, definitions: &Definitions<'_>, file: &RawFile) -> Result<Size, Memory>
-    requires rowless { AreRowless definitions.now (raw_file_of file.now) }
-    requires stars { NamesNoStar (raw_file_of file.now) }
-    ensures { IfOk result (λ size. IsSizeOf size
-        (expanded_file definitions.now.relations (raw_file_of file.now)).body) }
-{
-    let mut known = Vec::with_capacity(alloc, file.definitions.len())?;
-    let texts = file.definitions.as_slice();
-    for definition in texts {
-        let size = size_of(definitions, known.as_slice(), &definition.body);
-        known.push(size)?;
-    }
-    Ok(size_of(definitions, known.as_slice(), &file.query.body))
-}
-
-// The size of a formula, where those of the definitions before are known.
+/// The size of a formula, where those of the definitions before are known.
 #[cycle(measuring)]
-fn size_of(definitions: &Definitions<'_>, known: &[Size], f: &RawFormula) -> Size
+pub fn size_of(definitions: &Definitions<'_>, known: &[Size], f: &RawFormula) -> Size
     ensures { (ks : ListOf Known) → AreMeasured ks definitions.now.definitions known.now
         → IsSizeIn definitions.now.relations ks result (raw_form_of f.now) }
 {

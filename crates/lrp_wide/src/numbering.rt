@@ -1,13 +1,13 @@
 // How uses of definitions and `*` are numbered: by the places of their atoms, in each text by itself.
 ghost use Rattle.std.specs.Prelude.{◌≡◌, ◌<◌, ◌+◌, ◌-◌, ◌++◌, ◌^◌, List as ListOf, IfOk, IsTrue, OnOk, cond};
-ghost use Rattle.lrp_model.specs.RawQueries.{raw_file_of, raw_form_of, raw_forms_of};
+ghost use Rattle.lrp_model.specs.RawQueries.{raw_form_of, raw_forms_of};
 ghost use Rattle.lrp_model.specs.Rows.{columns_in, relation_named};
 ghost use Rattle.lrp_wide.specs.Inlining.{Known, atom_numbers as numbers_of_atom, meant_by, numbers_before};
-ghost use Rattle.lrp_wide.specs.Counts.{AreAscending, AreRelationsNumbered, AreRowless, IsFirstAfter, counted_of, end_before, file_numbers, kept_each, kept_in, stopped};
+ghost use Rattle.lrp_wide.specs.Counts.{AreAscending, AreRelationsNumbered, IsFirstAfter, counted_of, end_before, kept_each, kept_in, stopped};
 ghost use Rattle.lrp_tense.specs.Expanding.{is_before as is_before_of};
 
 use crate::measures::{stars_of, terms_of};
-use lrp_model::{Memory, Name, Place, RawFile, RawFormula, RawKind, RawTerm};
+use lrp_model::{Memory, Name, Place, RawFormula, RawKind, RawTerm};
 use lrp_sorts::Definitions;
 use std::alloc::Global;
 use std::marker::Model;
@@ -91,8 +91,8 @@ fn ascends(is_ascending: bool, atoms: &[Counted], place: Place) -> bool
 }
 
 impl Numbers {
-    ghost use Rattle.std.specs.Prelude.{◌≡◌, ◌++◌, [], ◌∷◌, List, IfOk, OnOk};
-    ghost use Rattle.lrp_wide.specs.Inlining.{Counted as CountedOf, numbers_before, numbers_of};
+    ghost use Rattle.std.specs.Prelude.{◌≡◌, ◌++◌, [], List, IfOk, OnOk};
+    ghost use Rattle.lrp_wide.specs.Inlining.{Counted as CountedOf, counted_atom, numbers_before, numbers_of};
     ghost use Rattle.lrp_wide.specs.Counts.{stopped, stopped_counts};
 
     // None yet.
@@ -106,11 +106,13 @@ impl Numbers {
         }
     }
 
-    // One atom more.
+    // One atom more, where it takes numbers.
     fn count(&mut self, place: Place, numbers: u64) -> Result<(), Memory>
-        ensures { OnOk result (self.new
-            ≡ self.old ++ record { place = place; numbers = numbers } ∷ []) }
+        ensures { OnOk result (self.new ≡ self.old ++ counted_atom place numbers) }
     {
+        if numbers == 0 {
+            return Ok(());
+        }
         let before = self.total;
         let is_ascending = ascends(self.is_ascending, self.atoms.as_slice(), place);
         self.atoms.push(Counted {
@@ -194,28 +196,8 @@ fn taken_before(atom: Counted, place: Place) -> u64
     }
 }
 
-/// The numbers of a file's definitions, in order, and last those of its query, as they are written.
-pub fn number_file(
-    alloc: Global,
-    definitions: &Definitions<'_>,
-    file: &RawFile,
-) -> Result<Vec<Numbers>, Memory>
-    requires { AreRowless definitions.now (raw_file_of file.now) }
-    ensures { IfOk result (λ made. made.items
-        ≡ file_numbers definitions.now.relations (raw_file_of file.now)) }
-{
-    let mut known = Vec::with_capacity(alloc, file.definitions.len().saturating_add(1))?;
-    for definition in file.definitions.as_slice() {
-        let numbers = number_text(alloc, definitions, known.as_slice(), &definition.body)?;
-        known.push(numbers)?;
-    }
-    let numbers = number_text(alloc, definitions, known.as_slice(), &file.query.body)?;
-    known.push(numbers)?;
-    Ok(known)
-}
-
-// The numbers of a text, where those of the definitions before are known.
-fn number_text(
+/// The numbers of a text, where those of the definitions before are known.
+pub fn number_text(
     alloc: Global,
     definitions: &Definitions<'_>,
     known: &[Numbers],

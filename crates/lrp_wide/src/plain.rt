@@ -48,8 +48,8 @@ fn query_without_operators(alloc: Global, query: RawQuery) -> Result<RawQuery, M
     expand(alloc, &query)
 }
 
-// Whether no operator stands in a file.
-fn is_plain_file(file: &RawFile) -> bool
+/// Whether no operator stands in a file.
+pub fn is_plain_file(file: &RawFile) -> bool
     ensures definitions { IsTrue result
         → AllByRecursion HasPlainBody file.now.definitions.items }
     ensures query { IsTrue result → HasNoOperator (raw_form_of file.now.query.body) }
@@ -68,7 +68,7 @@ fn are_plain_definitions(definitions: &[RawDefinition]) -> bool
     true
 }
 
-/// The file without operators. One that has none stays where it is.
+/// The file without operators.
 pub fn plain(alloc: Global, file: RawFile) -> Result<RawFile, Memory>
     requires { IsExpandableFile (raw_file_of file) }
     ensures tree { IfOk result (λ made. raw_file_of made ≡ plain_file (raw_file_of file)) }
@@ -76,10 +76,6 @@ pub fn plain(alloc: Global, file: RawFile) -> Result<RawFile, Memory>
     ensures definitions { IfOk result (λ made. AllByRecursion HasPlainBody
         made.definitions.items) }
 {
-    if is_plain_file(&file) {
-        expansion_leaves_plain_queries();
-        return Ok(file);
-    }
     let (written, query) = file.into_parts();
     let mut definitions = Vec::with_capacity(alloc, written.len())?;
     for definition in written {

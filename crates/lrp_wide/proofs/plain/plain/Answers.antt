@@ -8,6 +8,7 @@ use Rattle.lrp_tense.specs.Expanding.{expanded_question}
 use Rattle.lrp_wide.specs.Inlining.{plain_definition}
 use Rattle.lrp_wide.specs.Inside.{HasPlainBody}
 use Rattle.lrp_wide.specs.Outcomes.{IsExpandableDefinition}
+use Rattle.lrp_wide.proofs.PlainTexts.{whole_is}
 use Rattle.lrp_wide.proofs.plain.plain.Goals as goal
 
 -- what holds of all definitions holds of each
@@ -23,30 +24,6 @@ map_same (x ∷ xs) = ap (λ l. x ∷ l) (map_same xs)
 map_twice : (ds : List RawDefinition) → map (λ d. plain_definition (raw_definition_of d)) ds ≡ map plain_definition (map raw_definition_of ds)
 map_twice [] = refl
 map_twice (d ∷ ds) = ap (λ l. plain_definition (raw_definition_of d) ∷ l) (map_twice ds)
-
-whole_is : (ds es : List RawDefinitionView) (q r : RawQuestion) → ds ≡ es → q ≡ r → ◌≡◌ {A = RawFileView} (record { definitions = ds; query = q }) (record { definitions = es; query = r })
-whole_is ds es q r e f = ap₂ (λ x y. record { definitions = x; query = y }) e f
-
--- definitions without operators stay
-all_plain : ((q : RawQuestion) → HasNoOperator q.body → expanded_question q ≡ q) → (ds : List RawDefinition) → AllByRecursion HasPlainBody ds → map raw_definition_of ds ≡ map plain_definition (map raw_definition_of ds)
-all_plain law [] h = refl
-all_plain law (d ∷ ds) h =
-    let view : RawDefinitionView = raw_definition_of d in
-    let as_definition : RawQuestion → RawDefinitionView = λ q. record view { body = q.body } in
-    ap₂ (λ x l. x ∷ l) (sym (ap as_definition (law (record { head = view.columns; body = view.body }) h.0))) (all_plain law ds h.1)
-
-pub returns-then-is_plain_file-clause-tree : goal.returns-then-is_plain_file-clause-tree
-returns-then-is_plain_file-clause-tree c =
-    let holds = c.if-is_plain_file.true in
-    let law = c.expansion_leaves_plain_queries.ensures in
-    let q = raw_question_of c.args.file.query in
-    whole_is _ _ _ _ (all_plain law c.args.file.definitions.items (c.is_plain_file.ensures.definitions holds)) (sym (law q (c.is_plain_file.ensures.query holds)))
-
-pub returns-then-is_plain_file-clause-query : goal.returns-then-is_plain_file-clause-query
-returns-then-is_plain_file-clause-query c = let holds = c.if-is_plain_file.true in c.is_plain_file.ensures.query holds
-
-pub returns-then-is_plain_file-clause-definitions : goal.returns-then-is_plain_file-clause-definitions
-returns-then-is_plain_file-clause-definitions c = let holds = c.if-is_plain_file.true in c.is_plain_file.ensures.definitions holds
 
 pub without_operators-requires : goal.without_operators-requires
 without_operators-requires c =

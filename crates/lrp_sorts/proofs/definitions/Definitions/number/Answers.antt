@@ -1,9 +1,9 @@
-use Rattle.std.proofs.Common.{◌≡◌, true, false, map, position, Some, None, ap, sym, ◌∙◌, arith}
+use Rattle.std.proofs.Common.{◌≡◌, ◌<◌, true, false, map, position, Some, None, ap, subst, sym, ◌∙◌, arith}
 use Rattle.std.specs.Option.{option_copied}
 use Rattle.std.specs.Str.{bytes_eq}
 use Rattle.lrp_sorts.specs.Definitions.{Defined, definition_number, is_marked}
 use Rattle.lrp_sorts.proofs.Marked.{unmarked_none, unnumbered}
-use Rattle.lrp_sorts.proofs.Numbered.{below_is, none_before, number_of}
+use Rattle.lrp_sorts.proofs.Numbered.{below_is, below_some, none_before, number_of, number_there}
 use Rattle.lrp_sorts.proofs.definitions.Definitions.number.Goals as goal
 
 pub returns-then-before-eq0-clause-number : goal.returns-then-before-eq0-clause-number
@@ -22,15 +22,11 @@ pub returns-in_err-number-clause-number : goal.returns-in_err-number-clause-numb
 returns-in_err-number-clause-number c =
     let n = c.args.name.now in
     let d : Defined = record { relations = c.self.inside.db.now; definitions = c.self.inside.all.items } in
-    let apart : c.is_apart.result ≡ true = grind (arith, c.if-not-is_apart.false) in
-    let place : position (bytes_eq n) (map (λ r. r.name) d.definitions) ≡ None = sym (c.self.invariant.numbered n) ∙ sym c.get.ensures.value ∙ ap option_copied c.in_err-number.was in
-    c.from_residual.ensures ∙ number_of d c.args.before n c.is_apart.result None c.is_apart.ensures apart place ∙ ap (λ e. definition_number e c.args.before n) c.self.view_is
+    c.from_residual.ensures ∙ number_of d c.args.before n None (sym (sym (c.self.invariant.numbered n) ∙ sym c.get.ensures.value ∙ ap option_copied c.in_err-number.was)) ∙ ap (λ e. definition_number e c.args.before n) c.self.view_is
 
 pub returns-clause-number : goal.returns-clause-number
 returns-clause-number c =
     let n = c.args.name.now in
     let i = c.in_ok-number.field-0.now in
     let d : Defined = record { relations = c.self.inside.db.now; definitions = c.self.inside.all.items } in
-    let apart : c.is_apart.result ≡ true = grind (arith, c.if-not-is_apart.false) in
-    let place : position (bytes_eq n) (map (λ r. r.name) d.definitions) ≡ Some i = sym (c.self.invariant.numbered n) ∙ sym c.get.ensures.value ∙ ap option_copied c.in_ok-number.was in
-    c.then_some.ensures ∙ below_is i c.args.before ∙ number_of d c.args.before n c.is_apart.result (Some i) c.is_apart.ensures apart place ∙ ap (λ e. definition_number e c.args.before n) c.self.view_is
+    c.then_some.ensures ∙ below_is i c.args.before ∙ number_of d c.args.before n (Some i) (sym (sym (c.self.invariant.numbered n) ∙ sym c.get.ensures.value ∙ ap option_copied c.in_ok-number.was)) ∙ ap (λ e. definition_number e c.args.before n) c.self.view_is

@@ -1,17 +1,16 @@
 use Rattle.std.proofs.Common.{◌≡◌, ◌++◌, List, [], ◌∷◌, length, map, not, ap, subst, sym, ◌∙◌, arith}
 use Rattle.std.proofs.lemmas.List.{length-map, map-append}
+use Rattle.lrp_model.specs.Faults.{is_named_in}
 use Rattle.lrp_model.specs.Texts.{Identifier}
 use Rattle.lrp_model.specs.declared.relations.Relation.{Relation}
 use Rattle.lrp_sorts.specs.Definitions.{AreMarked, AreNamesNumbered, Defined, is_taken}
-use Rattle.lrp_sorts.proofs.Numbered.{new_name}
 use Rattle.lrp_sorts.proofs.definitions.Definitions.with.Goals as goal
 
 pub returns-clause-new : goal.returns-clause-new
 returns-clause-new c =
     let n = c.args.name.now in
     let d : Defined = record { relations = c.self.inside.db.now; definitions = c.self.inside.all.items } in
-    c.both-is_new.ensures
-    ∙ new_name d n c.in_ok-is_first.is_first c.is_apart.result (c.in_ok-is_first.ensures.new (map (λ r. r.name) d.definitions) c.self.invariant.numbered) c.is_apart.ensures ∙ ap (λ e. not (is_taken e n)) c.self.view_is
+    c.in_ok-is_new.ensures.new (map (λ r. r.name) d.definitions) c.self.invariant.numbered ∙ ap (λ l. not (is_named_in l n)) (sym (map-append (λ r. r.name) d.relations d.definitions)) ∙ ap (λ e. not (is_taken e n)) c.self.view_is
 
 pub invariant_of-made : goal.invariant_of-made
 invariant_of-made c =
@@ -23,6 +22,6 @@ invariant_of-made c =
     ap added c.in_ok-push.ensures.items ∙ map-append (λ r. r.name) all (c.in_ok-rowless.field-0 ∷ []) ∙ ap (λ (r : Relation). names ++ r.name ∷ []) c.in_ok-rowless.ensures in
     let size : c.len.result ≡ length names = omega (arith, c.len.ensures, length-map all (λ r. r.name)) in
     record {
-      numbered = subst (AreNamesNumbered c.add_number.new.numbers) (sym more) (c.in_ok-is_first.ensures.numbers names size c.self.invariant.numbered);
+      numbered = subst (AreNamesNumbered c.add_number.new.numbers (map (λ r. r.name) c.self.inside.db.now)) (sym more) (c.in_ok-is_new.ensures.numbers names size c.self.invariant.numbered);
       marked = subst (AreMarked c.mark.new.initials) (sym more) (c.mark.ensures names c.self.invariant.marked);
     }

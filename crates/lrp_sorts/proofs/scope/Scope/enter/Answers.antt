@@ -3,28 +3,23 @@ use Rattle.std.proofs.lemmas.List.{reverse-append}
 use Rattle.lrp_model.specs.Texts.{Identifier}
 use Rattle.lrp_model.specs.Sorting.{binder_sort}
 use Rattle.lrp_sorts.specs.Scopes.{binders, kept_at}
-use Rattle.lrp_sorts.specs.Nesting.{binders_with, IsNested}
+use Rattle.lrp_sorts.specs.Nesting.{apart, binders_with, first_sort, IsNested, mapped}
 use Rattle.lrp_sorts.specs.declared.scope.QuantifierBinder.{QuantifierBinder}
-use Rattle.lrp_sorts.proofs.Nested.{bound_around, entered}
-use Rattle.lrp_sorts.proofs.scope.Scope.enter.Goals.{After-push_reserved}
+use Rattle.lrp_sorts.proofs.Nested.{entered, sort_here}
 use Rattle.lrp_sorts.proofs.scope.Scope.enter.Goals as goal
 
--- what the map had at the name is what the name is bound to outside
-outer_sort : (c : After-push_reserved) → option_map (λ s. s.now) c.in_ok-outer.outer ≡ binder_sort (binders c.args.self.now) c.args.binder.now.name
-outer_sort c =
-    c.in_ok-outer.ensures.outer
-    ∙ ap (kept_at c.self.inside.sorts) c.as_bytes.ensures
-    ∙ c.self.invariant.sorts c.args.binder.now.name
-    ∙ bound_around c.self.inside.quantifiers.items (reverse c.self.inside.columns.now) c.args.binder.now.name
-    ∙ ap (λ a. binder_sort (binders a) c.args.binder.now.name) c.self.view_is
-
+-- what the map had at the name, and else the head, is what the name is bound to outside
 pub returns-clause-outer : goal.returns-clause-outer
-returns-clause-outer c = outer_sort (goal.at.returns-clause-outer c).After-push_reserved
+returns-clause-outer c =
+    c.or_apart.ensures
+    ∙ ap (λ o. first_sort o (binder_sort (apart c.self.inside.is_short c.self.inside.columns.now) c.args.binder.now.name)) (c.in_ok-outer.ensures.outer ∙ ap (kept_at c.self.inside.sorts) c.as_bytes.ensures)
+    ∙ sort_here c.self.inside.sorts c.self.inside.quantifiers.items c.self.inside.is_short c.self.inside.columns.now c.args.binder.now.name c.self.invariant
+    ∙ ap (λ a. binder_sort (binders a) c.args.binder.now.name) c.self.view_is
 
 pub invariant_of-self-2 : goal.invariant_of-self-2
 invariant_of-self-2 c =
     let before = c.self.inside.quantifiers.items in
-    let head = reverse c.self.inside.columns.now in
+    let head = mapped c.self.inside.is_short c.self.inside.columns.now in
     let binder = c.args.binder.now in
     let one : QuantifierBinder = record { binder = c.args.binder; outer = c.in_ok-outer.outer } in
     let items : c.push_reserved.new.self.items ≡ before ++ one ∷ [] = c.push_reserved.ensures.items ∙ ap (λ l. l ++ one ∷ []) c.in_ok-reserve.ensures.items in

@@ -1,8 +1,13 @@
-use Rattle.std.proofs.Common.{◌∷◌, ◌++◌, [], refl, ap, subst, sym, ◌∙◌, rules}
-use Rattle.lrp_wide.specs.Counts.{AreAscending, SumTo, end_before}
+use Rattle.std.proofs.Common.{◌≡◌, ◌<◌, ◌∷◌, ◌++◌, [], ℕ, refl, ap, subst, sym, ◌∙◌, append-nil, arith, rules}
+use Rattle.lrp_wide.specs.Counts.{AreAscending, SumTo, counted_of, end_before}
+use Rattle.lrp_wide.specs.Inlining.{counted_atom}
 use Rattle.lrp_wide.specs.declared.numbering.Counted.{Counted}
 use Rattle.lrp_wide.proofs.NumberOrder.{ascending-more, sums-more}
+use Rattle.lrp_wide.proofs.NumberStops.{counted-none, counted-some}
 use Rattle.lrp_wide.proofs.numbering.Numbers.count.Goals as goal
+
+pub returns-then-numbers-eq0 : goal.returns-then-numbers-eq0
+returns-then-numbers-eq0 c = sym (ap (λ l. c.args.self.now ++ l) (counted-none c.args.place c.args.numbers (omega (arith, c.if-numbers-eq0.true))) ∙ append-nil c.args.self.now)
 
 pub invariant_of-self-2 : goal.invariant_of-self-2
 invariant_of-self-2 c =

@@ -4,7 +4,7 @@ use Rattle.std.specs.HashMap.{get_by}
 use Rattle.lrp_sorts.specs.Scopes.{kept_at}
 use Rattle.lrp_sorts.proofs.Heads.{one_column_faults, one_column_kept}
 use Rattle.lrp_sorts.proofs.Binding.{there_after}
-use Rattle.lrp_sorts.proofs.head.open.Goals as goal
+use Rattle.lrp_sorts.proofs.head.open_long.Goals as goal
 
 pub loop-column-preserved : goal.loop-column-preserved
 loop-column-preserved c =

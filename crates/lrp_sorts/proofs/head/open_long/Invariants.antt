@@ -3,7 +3,7 @@ use Rattle.lrp_model.specs.Texts.{Identifier}
 use Rattle.lrp_model.specs.Faults.{earliest}
 use Rattle.lrp_model.specs.Sorting.{query_standing, binder_sort, head_faults}
 use Rattle.lrp_sorts.specs.Scopes.{kept_at}
-use Rattle.lrp_sorts.proofs.head.open.Given as goal
+use Rattle.lrp_sorts.proofs.head.open_long.Given as goal
 
 -- the columns so far
 abbrev pub invariant-loop-column : goal.invariant-loop-column
