@@ -91,7 +91,7 @@ struct NextSpot {
     right: usize,
 }
 
-/// The first spot of two lists after so many of each, if there is one. Where both have it, it is taken from both.
+/// The first spot of two lists after these counts of each, if there is one. Where both have it, it is taken from both.
 fn next_of_both(left: &[Spot], i: usize, right: &[Spot], j: usize) -> Option<NextSpot>
     requires left { i ≤ length left.now }
     requires right { j ≤ length right.now }

@@ -102,7 +102,7 @@ fn exact(terms: List<RawTerm>) -> List<RawTerm>
     List::from_vec(items)
 }
 
-// One term, with room for so many.
+// One term, with room for the number of terms that are to come.
 fn terms_from(alloc: Global, first: RawTerm, room: usize) -> Result<List<RawTerm>, Memory>
     ensures { IfOk result (λ made. made ≡ first ∷ []) }
 {

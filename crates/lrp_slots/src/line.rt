@@ -159,7 +159,7 @@ impl Line {
     }
 }
 
-// How many cells have come late, with one more that moves so many entries.
+// How many cells have come late, with one more that moves these entries.
 fn late_with(late: u32, moved: usize) -> u32 {
     if moved > FEW {
         late.saturating_add(1)

@@ -65,7 +65,7 @@ impl Remembered {
         self.places[place_of(&key, self.places.len())] == key
     }
 
-    /// Remembers a cell of so many that are held, as far as there is memory.
+    /// Remembers a cell among those that are held, as far as there is memory.
     pub fn put(&mut self, cell: &Cell, held: usize)
         ensures { (other : CellValue) → Contains self.new other → (other ≡ cell.now)
             ⊎ Contains self.old other }

@@ -79,14 +79,14 @@ impl<V: Drop> Slots<V> {
         self.links.len()
     }
 
-    /// How many more values held cells can take in without memory.
+    /// How many more values held cells can take in without memory, for those who have reserved slots.
     pub fn spare(&self) -> usize
         ensures { result ≡ self.now.spare }
     {
         self.links.capacity() - self.links.len()
     }
 
-    /// Makes at least so many slots spare.
+    /// Makes this number of slots spare, or more, for callers that append to held cells where no memory may be refused.
     pub fn reserve(&mut self, slots: usize) -> Result<(), Memory>
         ensures room { OnOk result (slots ≤ self.new.spare) }
         ensures succeeds { slots ≤ self.old.spare → IsOk result }

@@ -24,7 +24,7 @@ pub fn least_period(residues: &[u64], period: u64) -> u64
     period
 }
 
-// Whether the residues move so by so many places.
+// Whether the residues move so by this number of places.
 //
 // The last one is tried first: where all but a few numbers are in the set, it mostly tells that they don't.
 fn moves(residues: &[u64], period: u64, places: usize) -> bool

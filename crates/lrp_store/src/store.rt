@@ -143,14 +143,15 @@ impl Store {
         self.slots.values()
     }
 
-    /// How many more zones of at most eight stored bounds the held cells can take in without memory.
+    /// How many more zones of at most eight stored bounds the held cells can take in without memory: what `reserve`
+    /// made, less what was added after it.
     pub fn spare(&self) -> usize
         ensures { result ≡ self.now.spare }
     {
         self.slots.spare()
     }
 
-    /// Makes at least so many slots spare.
+    /// Makes this number of slots spare, or more. For callers that add zones to held cells where no memory may be refused.
     pub fn reserve(&mut self, slots: usize) -> Result<(), Memory>
         ensures room { OnOk result (slots ≤ self.new.spare) }
         ensures same { self.new ≡ record self.old { spare = self.new.spare } }
@@ -418,7 +419,7 @@ impl Store {
     }
 }
 
-// Remembers a cell of so many that are held, if some are remembered.
+// Remembers a cell among those that are held, if some are remembered.
 fn follow(whole: &mut Remembered, cell: &Cell, held: usize)
     ensures { (other : CellValue) → Contains whole.new other → (other ≡ cell.now)
         ⊎ Contains whole.old other }

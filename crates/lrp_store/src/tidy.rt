@@ -10,6 +10,8 @@ use lrp_model::Cell;
 
 impl Store {
     /// Drops the zones of a cell that lie within another one of its list. Of equal ones the last stays, and the order does.
+    ///
+    /// For callers that fill a cell by `add` and want no zone of it twice; the evaluator settles whole tables instead.
     pub fn tidy(&mut self, cell: &Cell)
         ensures tidied { IsTidied self.old cell.now (tables_at self.old cell.now)
             (tables_at self.new cell.now) }

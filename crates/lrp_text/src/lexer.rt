@@ -56,6 +56,8 @@ impl<'a> Lexer<'a> {
     /// of more than 255 bytes without its escapes, at its opening quote; the lexer goes on after them.
     /// `LexKind::BadByte` stands at a character that begins no token, at one that may not stand in a text, or at the
     /// end inside a text, and comes again for ever, as the end does.
+    ///
+    /// For callers that want tokens alone. The parsers read by `TokenCursor`, which also knows the wide language's tokens.
     pub fn next(&mut self) -> Result<Token<'a>, LexFault>
         ensures step { GivesNext self.old self.new result }
         ensures order { IsNextToken result (tokens_left false self.old) (tokens_left false self.new) }
