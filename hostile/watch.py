@@ -117,8 +117,13 @@ class Kept:
         return None
 
     def all_parts(self):
-        """Each part of each choice, with its rows; a part that choices share comes once."""
+        """Each part of each choice, with its rows; a part that choices share comes once.
+
+        A choice has a row for each atom, so a disjunct that names a relation without rows has none.
+        """
         for it in self.disjuncts:
+            if not all(self.relations[atom.name].rows for atom in it.atoms):
+                continue
             for atoms, tests in it.parts():
                 for rows in itertools.product(*(self.relations[atom.name].rows for atom in atoms)):
                     yield atoms, tests, rows
