@@ -29,7 +29,7 @@ pub use laws::{
 };
 pub use limits::LIMIT;
 pub use list::{Copies, List};
-pub use memory::Memory;
+pub use memory::{Memory, numbered};
 pub use names::{DataText, Name};
 pub use plans::{Plan, Planning, Step, StepKind};
 pub use raw::{

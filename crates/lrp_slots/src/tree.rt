@@ -177,18 +177,17 @@ fn lengthen_at<K: Ord + Drop>(
     ensures absent { OnErr result (get K.cmp chains.old at ≡ None) }
     ensures err { OnErr result (chains.new.entries ≡ chains.old.entries) }
 {
-    match chains.entry(at) {
-        Ok(Entry::Occupied(entry)) => {
+    match chains.entry(at)? {
+        Entry::Occupied(entry) => {
             let chain = entry.into_mut();
             let held = *chain;
             *chain = extended(Some(held), key);
             Ok(Some(held))
         }
-        Ok(Entry::Vacant(entry)) => {
+        Entry::Vacant(entry) => {
             entry.insert(extended(None, key));
             Ok(None)
         }
-        Err(_) => Err(Memory),
     }
 }
 
@@ -204,19 +203,18 @@ fn hold_at<K: Ord + Drop>(
     ensures err { OnErr result (chains.new.entries ≡ chains.old.entries) }
     ensures ordered { IsOrdered K.cmp chains.old }
 {
-    match chains.entry(at) {
-        Ok(Entry::Occupied(entry)) => {
+    match chains.entry(at)? {
+        Entry::Occupied(entry) => {
             // The chain is written as it was, since only of an entry that is written it is known what it leaves.
             let chain = entry.into_mut();
             let held = *chain;
             *chain = held;
             Ok(Some(held))
         }
-        Ok(Entry::Vacant(entry)) => {
+        Entry::Vacant(entry) => {
             entry.insert(fresh);
             Ok(None)
         }
-        Err(_) => Err(Memory),
     }
 }
 

@@ -48,6 +48,13 @@ module _ (s : StoreView) (is : IsStore s) (c : Cell) (z : ZoneView) where
     pub zone_refused : OnErr r (new.tables ≡ s.tables) → r ≡ Err TooManyCells → IsRefused tuples cap (greatest_of z.bounds) s new
     zone_refused err e = refused s is c z zone period residues texts times cap (greatest_of z.bounds) tuples of (omega arith) new valid rest r exact err e
 
+  -- where no fault tells of a cap, all were added on success
+  pub zone_put : {T E : Type 0} → IsZone z → z.period ≡ s.period → z.residues ≡ take s.shape.times c.residues → IsPadded 0 s.shape.texts c.texts → IsPadded (pos 0) s.shape.times c.residues
+      → (cap : ℕ) (new : StoreView) → IsStore new → new ≡ record s { tables = new.tables; spare = new.spare } → (r : Result T E) → OnOk r ((get s.tables c ≡ None) × (cap ≤ len s.tables) → ⊥)
+      → OnOk r (new.tables ≡ finite.insert s.tables c (tables_at s c ++ z.bounds ∷ [])) → OnOk r (IsAdded tuples cap (greatest_of z.bounds) s new)
+  zone_put zone period residues texts times cap new valid rest (Ok x) room ok = zone_added zone period residues texts times cap new valid rest (Ok x) ((λ e. absurd cc), (λ m. absurd (room m))) ok
+  zone_put zone period residues texts times cap new valid rest (Err x) room ok = tt
+
 -- the zone of a cell without bounds
 module _ (s : StoreView) (is : IsStore s) (c : Cell) (proper : IsCellOf s.shape s.period c) where
   -- no bound stands at any place

@@ -1,14 +1,12 @@
 -- By how many zones the list of a cell grows.
-use Rattle.std.proofs.Common.{◌≡◌, ◌≢◌, ℕ, ◌+◌, ◌-◌, ◌≤◌, List, [], ◌∷◌, ◌++◌, length, take, None, Ok, Err, Result, OnOk, OnErr, inl, inr, refl, sym, ap, subst, ◌∙◌, arith, length-append}
+use Rattle.std.proofs.Common.{◌≡◌, ℕ, ◌+◌, ◌-◌, ◌≤◌, List, [], ◌∷◌, ◌++◌, length, take, Ok, Err, Result, OnOk, inl, inr, refl, ap, ◌∙◌, arith, length-append}
 use Rattle.std.specs.FinMap as finite
-use Rattle.std.specs.FinMap.{get}
 use Rattle.std.proofs.lemmas.List.{length-take-le}
 use Rattle.lrp_model.specs.declared.tuples.Cell.{Cell}
 use Rattle.lrp_slots.specs.Lists.{list_at, with_last}
 use Rattle.lrp_store.specs.Stores.{StoreView, tables_at}
 use Rattle.lrp_store.specs.Growing.{GrowsByAtMost}
 use Rattle.lrp_store.proofs.Held.{Table, list_put}
-use Rattle.lrp_store.proofs.Remembered.{begun_as}
 
 -- where no list changes, none grows
 pub grows_none : (n : ℕ) (c : Cell) (old new : StoreView) → new.tables ≡ old.tables → GrowsByAtMost n c old new

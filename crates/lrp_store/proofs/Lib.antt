@@ -22,3 +22,4 @@ pub mod LineBounds
 pub mod Unions
 pub mod LastJoined
 pub mod ZoneCounts
+pub mod Reaches

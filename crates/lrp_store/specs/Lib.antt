@@ -13,3 +13,4 @@ pub mod Settled
 -- What functions inside say to one another.
 pub mod Joined
 pub mod Remembered
+pub mod Reaching

@@ -4,6 +4,7 @@
 mod least;
 mod line;
 mod nearest;
+mod reach;
 mod reading;
 mod store;
 mod stored;

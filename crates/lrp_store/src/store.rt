@@ -1,5 +1,5 @@
 // Zones by cell, each zone in a slot of one vector.
-ghost use Rattle.std.specs.Prelude.{◌≡◌, ◌≢◌, ◌⊎◌, ◌+◌, ◌<◌, ◌≤◌, ◌^◌, ◌≤ℤ◌, ◌↔◌, ℕ, ℤ, List, Option, pos, take, nat_abs, replicate, IsTrue, Ok, true, false, Some, None, [], ◌∷◌, ◌++◌, length, map, slice_get, IsSome, IsOk, IfOk, IfErr, OnOk, OnErr, OnSome, IfNone};
+ghost use Rattle.std.specs.Prelude.{◌≡◌, ◌≢◌, ◌⊎◌, ◌+◌, ◌-◌, ◌<◌, ◌≤◌, ◌^◌, ◌≤ℤ◌, ◌↔◌, ℕ, ℤ, List, Option, pos, take, nat_abs, replicate, IsTrue, Ok, true, false, Some, None, [], ◌∷◌, ◌++◌, length, map, slice_get, IsSome, IsOk, IfOk, IfErr, OnOk, OnErr, OnSome, IfNone};
 ghost use Rattle.std.specs.List.{remove};
 ghost use Rattle.lrp_model.specs.declared.tuples.Cell.{Cell as CellValue};
 ghost use Rattle.std.specs.FinMap as finite;
@@ -12,7 +12,7 @@ ghost use Rattle.lrp_store.specs.Stores.{IsStore, IsCellOf, IsPadded, IsOneTooMa
 ghost use Rattle.lrp_store.specs.Growing.{GrowsByAtMost, IsCellAdded, IsCellRefused, IsWhole, IsZoneAdded, IsZoneRefused, tuples_in};
 
 use crate::stored::StoredBounds;
-use lrp_model::{Cell, Copies, Memory, Shape};
+use lrp_model::{Cell, Copies, Memory, Shape, numbered};
 use lrp_slots::{Cells, Remembered, Slots};
 use lrp_zone::Zone;
 use std::alloc::Global;
@@ -191,6 +191,40 @@ impl Store {
         if self.is_one_too_many(cell, cap) {
             return Err(StoreFault::TooManyCells);
         }
+        self.put(cell, zone)?;
+        Ok(())
+    }
+
+    /// Appends a zone to a cell's list, for callers whose cells no cap counts. Memory is refused where a store has as many
+    /// cells as 32 bits number.
+    ///
+    /// The zone has the store's period, the cell's residues and one column for each time.
+    pub fn put(&mut self, cell: &Cell, zone: &Zone) -> Result<(), Memory>
+        requires period { zone.now.period ≡ self.old.period }
+        requires residues { zone.now.residues ≡ take self.old.shape.times cell.now.residues }
+        requires texts { IsPadded 0 self.old.shape.texts cell.now.texts }
+        requires times { IsPadded (pos 0) self.old.shape.times cell.now.residues }
+        ensures ok { OnOk result (self.new.tables
+            ≡ finite.insert self.old.tables cell.now
+            (tables_at self.old cell.now ++ zone.now.bounds ∷ [])) }
+        ensures err { OnErr result (self.new.tables ≡ self.old.tables) }
+        ensures rest { ChangesTablesAlone self.old self.new }
+        ensures room { OnOk result (IsOneTooMany self.old cell.now (2 ^ 32 - 1) → ⊥) }
+
+        // A caller learns here that it is still a store.
+        ensures valid { IsStore self.new }
+
+        // A spare slot serves each held cell.
+        ensures succeeds { 0 < self.old.spare → IsSome (finite.get self.old.tables cell.now)
+            → count_of zone.now.bounds ≤ 8 → IsOk result }
+        ensures taken { 0 < self.old.spare → IsSome (finite.get self.old.tables cell.now)
+            → count_of zone.now.bounds ≤ 8 → self.new.spare + 1 ≡ self.old.spare }
+        ensures lowered { self.old.spare ≤ self.new.spare + 1 }
+        ensures kept { OnErr result (self.old.spare ≤ self.new.spare) }
+    {
+        if self.is_one_too_many(cell, u32::MAX) {
+            return Err(beyond(self.len()));
+        }
         let bounds = StoredBounds::of(self.alloc, zone)?;
         self.slots.append(cell, bounds)?;
         Ok(())
@@ -216,13 +250,51 @@ impl Store {
         ensures one { OnOk result (GrowsByAtMost 1 cell.now self.old self.new) }
         ensures lowered { self.old.spare ≤ self.new.spare + 1 }
     {
+        if self.takes_in(cell, zone) {
+            return Ok(());
+        }
+        self.add(cell, zone, cap)
+    }
+
+    /// As `add_new`, for callers whose cells no cap counts. Memory is refused where a store has as many cells as 32 bits number.
+    pub fn put_new(&mut self, cell: &Cell, zone: &Zone) -> Result<(), Memory>
+        requires period { zone.now.period ≡ self.old.period }
+        requires residues { zone.now.residues ≡ take self.old.shape.times cell.now.residues }
+        requires texts { IsPadded 0 self.old.shape.texts cell.now.texts }
+        requires times { IsPadded (pos 0) self.old.shape.times cell.now.residues }
+        ensures ok { OnOk result (IsZoneAdded zone.now cell.now (2 ^ 32 - 1) self.old self.new) }
+        ensures err { OnErr result (self.new.tables ≡ self.old.tables) }
+        ensures rest { ChangesTablesAlone self.old self.new }
+        ensures one { OnOk result (GrowsByAtMost 1 cell.now self.old self.new) }
+        ensures lowered { self.old.spare ≤ self.new.spare + 1 }
+    {
+        if self.takes_in(cell, zone) {
+            return Ok(());
+        }
+        self.put(cell, zone)
+    }
+
+    // Takes in a zone whose tuples are held, or that is joined to the last one of its cell, and tells whether it was so.
+    fn takes_in(&mut self, cell: &Cell, zone: &Zone) -> bool
+        requires period { zone.now.period ≡ self.old.period }
+        requires residues { zone.now.residues ≡ take self.old.shape.times cell.now.residues }
+        ensures taken { IsTrue result → (cap : ℕ)
+            → IsZoneAdded zone.now cell.now cap self.old self.new }
+        ensures held { IsTrue result → IsSome (finite.get self.old.tables cell.now) }
+        ensures left { result ≡ false → self.new ≡ self.old }
+        ensures rest { ChangesTablesAlone self.old self.new }
+        ensures spare { self.new.spare ≡ self.old.spare }
+        ensures one { IsTrue result → GrowsByAtMost 1 cell.now self.old self.new }
+        ensures store { IsStore self.old }
+        ensures zone { IsZone zone.now }
+    {
         match self.place_of(cell, zone) {
-            PlaceInCell::Held => Ok(()),
+            PlaceInCell::Held => true,
             PlaceInCell::Joined(both) => {
                 self.replace_last(cell, both);
-                Ok(())
+                true
             }
-            PlaceInCell::Apart => self.add(cell, zone, cap),
+            PlaceInCell::Apart => false,
         }
     }
 
@@ -329,7 +401,8 @@ impl Store {
 
     // Whether a cell is not held, and there are cap cells or more.
     fn is_one_too_many(&self, cell: &Cell, cap: u32) -> bool
-        ensures { IsTrue result ↔ IsOneTooMany self.now cell.now cap }
+        ensures many { IsTrue result ↔ IsOneTooMany self.now cell.now cap }
+        ensures valid { IsStore self.now }
     {
         self.slots.len() >= cap as usize && self.slots.count(cell) == 0
     }
@@ -416,6 +489,16 @@ impl Store {
             slots: self.slots.copy(alloc)?,
             whole: Remembered::new(alloc),
         })
+    }
+}
+
+// The refusal of one cell more than there are numbers of 32 bits.
+fn beyond(held: u32) -> Memory
+    requires { 2 ^ 32 - 1 ≤ held }
+{
+    match numbered(held as usize + 1) {
+        Ok(_) => unreachable!(),
+        Err(memory) => memory,
     }
 }
 

@@ -80,6 +80,7 @@ fn some_columns(alloc: Global, tokens: &mut TokenCursor<'_>) -> Result<List<RawC
         let column = column(alloc, tokens)?;
         found.push(column)?;
         if !tokens.eat(Symbol::Comma) {
+            found.shrink_to_fit();
             return Ok(found);
         }
     }

@@ -17,7 +17,7 @@ pub returns-then-not-eat-clause-value : goal.returns-then-not-eat-clause-value
 returns-then-not-eat-clause-value c = λ turns lt.
     let kept = c.loop-found.invariant.same turns lt in
     let stops : eat (is_symbol Comma) c.column.new.tokens ≡ Ok (false, c.eat.new.self) = c.eat.ensures.value ∙ ap (λ b. Ok (b, c.eat.new.self)) c.if-not-eat.true in
-    sym kept.2 ∙ last_below column (is_symbol Comma) kept.0 _ _ _ _ _ _ kept.1 c.in_ok-column.ensures.value stops ∙ ap (λ x. Ok (x, c.eat.new.self)) (sym c.in_ok-push.ensures.ok)
+    sym kept.2 ∙ last_below column (is_symbol Comma) kept.0 _ _ _ _ _ _ kept.1 c.in_ok-column.ensures.value stops ∙ ap (λ x. Ok (x, c.eat.new.self)) (sym (c.shrink_to_fit.ensures ∙ c.in_ok-push.ensures.ok))
 
 pub loop-found-preserved : goal.loop-found-preserved
 loop-found-preserved c = record {

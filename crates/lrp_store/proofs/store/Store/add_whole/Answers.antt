@@ -9,7 +9,7 @@ use Rattle.lrp_store.proofs.store.Store.add_whole.Goals as goal
 
 pub returns-then-is_one_too_many-clause-too_many : goal.returns-then-is_one_too_many-clause-too_many
 returns-then-is_one_too_many-clause-too_many c = λ e.
-    let many = c.is_one_too_many.ensures.0 c.if-is_one_too_many.true in
+    let many = c.is_one_too_many.ensures.many.0 c.if-is_one_too_many.true in
     free_refused c.args.self.now c.is_remembered.ensures.valid c.args.cell.now c.requires.proper c.args.cap many.0 many.1
 
 pub returns-clause-ok : goal.returns-clause-ok
