@@ -67,10 +67,8 @@ fn add_row(row: &MaximalRow, group: &Cell, period: u64, out: &mut Store) -> Resu
 {
     let zone = zone_of(row, period);
     let cell = cell_of(group, row.residue);
-    match out.add(&cell, &zone, u32::MAX) {
-        Ok(()) => Ok(()),
-        Err(_) => Err(Memory),
-    }
+    out.put(&cell, &zone)?;
+    Ok(())
 }
 
 // The cell of a residue with the texts of the group.

@@ -128,8 +128,6 @@ fn add_span(
     ensures { OnOk result (AddsSpan cell.now zone.now interval made.old made.new) }
 {
     let span = zone_of(alloc, zone, interval)?;
-    match made.add(cell, &span, u32::MAX) {
-        Ok(()) => Ok(()),
-        Err(_) => Err(Memory),
-    }
+    made.put(cell, &span)?;
+    Ok(())
 }

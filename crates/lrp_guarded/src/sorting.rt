@@ -1,5 +1,5 @@
 // The elements of an `and` by what they are.
-ghost use Rattle.std.specs.Prelude.{◌≡◌, ◌+◌, ℕ, [], Some, List as ListOf, slice_get, IfOk, OnOk};
+ghost use Rattle.std.specs.Prelude.{◌≡◌, ℕ, [], Some, List as ListOf, slice_get, IfOk, OnOk};
 ghost use Rattle.lrp_core.specs.Cores.{core_of, cores_of, test_of};
 ghost use Rattle.lrp_core.specs.declared.core_forms.Core.{Core as CoreForm};
 ghost use Rattle.lrp_core.specs.declared.variable_trees.VariableTree.{VariableTree as TreeOf};
@@ -12,7 +12,7 @@ ghost use Rattle.lrp_guarded.specs.Sorting.{SortsElements as SortsOut, AddsCheck
 
 use crate::elements::{Elements, Part, RankedAtom, RankedSort};
 use lrp_core::{Core, TermTest, VariableTree};
-use lrp_model::{List, Memory};
+use lrp_model::{List, Memory, numbered};
 use lrp_plan::sources::Sources;
 use std::alloc::Global;
 
@@ -55,14 +55,15 @@ impl<'a> Elements<'a> {
         Ok(all)
     }
 
-    /// How many there are; memory is refused at 2^64 of them.
+    /// How many there are; memory is refused at 2^32 of them.
     pub(crate) fn count(&self) -> Result<usize, Memory>
         ensures { IfOk result (λ count. count ≡ count_of self.now) }
     {
-        let checks = plus(self.tests.len(), self.negations.len())?;
-        let parts = plus(self.others.len(), checks)?;
-        let elements = plus(self.sorts.len(), parts)?;
-        plus(self.atoms.len(), elements)
+        let checks = self.tests.len().saturating_add(self.negations.len());
+        let parts = self.others.len().saturating_add(checks);
+        let elements = self.sorts.len().saturating_add(parts);
+        let count = numbered(self.atoms.len().saturating_add(elements))?;
+        Ok(count as usize)
     }
 
     // The element at this place, with the tree at this place.
@@ -132,10 +133,4 @@ impl<'a> Elements<'a> {
         }
         Ok(())
     }
-}
-
-fn plus(left: usize, right: usize) -> Result<usize, Memory>
-    ensures { IfOk result (λ sum. sum ≡ left + right) }
-{
-    left.checked_add(right).ok_or(Memory)
 }

@@ -8,7 +8,7 @@ ghost use Rattle.lrp_holdings.specs.Winners.{IsFirstHeld};
 use crate::chains::{Holding, Owner, OwnerLink, link_all, make_room, release};
 use crate::ranked::Ranked;
 use crate::winners::{make_room_for_match, replay, winner};
-use lrp_model::Memory;
+use lrp_model::{Memory, numbered};
 use slab::Slab;
 use smallvec::SmallVec;
 use std::alloc::Global;
@@ -122,9 +122,7 @@ impl<V: Ranked + Drop> Holdings<V> {
         ensures held { OnOk result (IsHeldToo numbers.now value self.old self.new) }
         ensures same { OnErr result (self.new ≡ self.old) }
     {
-        if self.slots.vacant_key() > u32::MAX as usize {
-            return Err(Memory);
-        }
+        numbered(self.slots.vacant_key())?;
         make_room(&mut self.chains, numbers)?;
         make_room_for_match(&mut self.winners, self.slots.vacant_key())?;
         let owners = loose(self.alloc, numbers)?;
@@ -147,16 +145,11 @@ fn loose(alloc: Global, numbers: &[usize]) -> Result<SmallVec<Owner, 2>, Memory>
     ensures made { IfOk result (λ made. made.items ≡ map loose_owner numbers.now) }
     ensures short { IfOk result (λ made. length made.items < 2 ^ 32) }
 {
-    if numbers.len() > u32::MAX as usize {
-        return Err(Memory);
-    }
+    numbered(numbers.len())?;
     let mut owners = SmallVec::with_capacity(alloc, numbers.len())?;
     for number in numbers {
-        let Ok(number) = u32::try_from(*number) else {
-            return Err(Memory);
-        };
         owners.push(Owner {
-            number,
+            number: numbered(*number)?,
             before: None,
             next: None,
         })?;

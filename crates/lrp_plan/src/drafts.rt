@@ -18,7 +18,7 @@ use lrp_limits::reaches::{
     capped, doubled, greatest_offset, scan_reach, test_reach, tests_reach, with_period,
     with_two_periods,
 };
-use lrp_model::{DataText, List, Memory, Name, Sort, Step, StepKind, Term, Test};
+use lrp_model::{DataText, List, Memory, Name, Sort, Step, StepKind, Term, Test, numbered};
 use std::alloc::Global;
 
 /// What later steps read of a step: its number, its period, and its reach up to 2^62 + 1.
@@ -84,7 +84,7 @@ impl Draft {
     fn add(&mut self, kind: StepKind, period: Period, reach: u128) -> Result<(), Memory>
         ensures { OnOk result (AddsStep kind period.number (capped_at reach) self.old self.new) }
     {
-        let number = self.last.number.checked_add(1).ok_or(Memory)?;
+        let number = numbered(self.last.number as usize + 1)?;
         let reach = capped(reach);
         self.steps.push(Step {
             kind,

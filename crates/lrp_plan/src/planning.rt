@@ -31,7 +31,7 @@ use lrp_core::{Core, core_form, query_texts, variable_tree};
 use lrp_database::Database;
 use lrp_limits::periods::{Period, one};
 use lrp_limits::scaling::scaled;
-use lrp_model::{Copies, DataText, Domain, LIMIT, List, Memory, Plan, Query, Sort};
+use lrp_model::{Copies, DataText, Domain, LIMIT, List, Memory, Plan, Query, Sort, numbered};
 use std::alloc::Global;
 use thiserror::Error;
 
@@ -187,9 +187,7 @@ fn domain_of(alloc: Global, sources: &Sources<'_>) -> Result<Domain, Memory>
 {
     let mut texts = sources.database.constants().copy(alloc)?.into_vec();
     add_all(alloc, &mut texts, &sources.texts)?;
-    if texts.len() > u32::MAX as usize {
-        return Err(Memory);
-    }
+    numbered(texts.len())?;
     Domain::new(List::from_vec(texts))
 }
 
