@@ -6,5 +6,6 @@ pub mod Ranges
 pub mod Common
 -- What functions inside say to one another.
 pub mod Spans
+pub mod Columns
 pub mod Hulls
 pub mod Trees

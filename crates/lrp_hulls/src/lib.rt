@@ -2,6 +2,7 @@
 #![tactic(auto)]
 
 mod axis;
+mod columns;
 mod common;
 mod hull;
 mod query;

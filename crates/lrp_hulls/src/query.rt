@@ -43,8 +43,8 @@ impl HullQuery {
     }
 }
 
-// The known number of the text in the column after i.
-fn known_text(texts: &[Option<u32>; 8], i: usize) -> Option<u32>
+/// The known number of the text in the column after i.
+pub(crate) fn known_text(texts: &[Option<u32>; 8], i: usize) -> Option<u32>
     ensures { result ≡ slice_index_or texts.now i None }
 {
     match texts.get(i) {
@@ -53,8 +53,8 @@ fn known_text(texts: &[Option<u32>; 8], i: usize) -> Option<u32>
     }
 }
 
-// Whether the number, where one is known, is in the span.
-fn may_have(known: Option<u32>, span: TextSpan) -> bool
+/// Whether the number, where one is known, is in the span.
+pub(crate) fn may_have(known: Option<u32>, span: TextSpan) -> bool
     ensures { result ≡ false → (n : ℕ) → IsInTextSpan span n
         → ((number : ℕ) → known ≡ Some number → n ≡ number) → ⊥ }
 {
