@@ -62,7 +62,7 @@ use Rattle.lrp_plan_laws.proofs.Elements.{found as some_at, within}
 use Rattle.lrp_store.proofs.Held.{Contains-from_get}
 use Rattle.lrp_tables.proofs.Joining.{place_in}
 use Rattle.lrp_model.proofs.Everywhere.{map_count}
-use Rattle.lrp_algebra.proofs.Steps.{mapped_get}
+use Rattle.lrp_steps.proofs.Steps.{mapped_get}
 
 -- the names of the relations are those of the view
 pub names_in : (sources : ℕ → Option HeldRow) (rs : List HeldRelation) → map (λ (r : Relation). r.name) (relations_of sources rs) ≡ map (λ (r : HeldRelation). r.name) rs

@@ -18,7 +18,7 @@ use Rattle.std.proofs.Common.{to_z, of_z}
 use Rattle.std.specs.Int.{w64}
 use Rattle.std.specs.Prelude.{nat_abs, pos}
 use Rattle.std.proofs.lemmas.Int.{ints}
-use Rattle.lrp_algebra.proofs.Steps.{store_period}
+use Rattle.lrp_steps.proofs.Steps.{store_period}
 use Rattle.lrp_limits.specs.declared.periods.Period.{Period}
 use Rattle.lrp_keep.proofs.Taken.{holds_all, none_among}
 use Rattle.lrp_plan_laws.proofs.Elements.{found, within}

@@ -14,7 +14,7 @@ use Rattle.lrp_plan_laws.specs.Atoms.{atoms}
 use Rattle.lrp_plan_laws.specs.Scopes.{IsNarrow}
 use Rattle.lrp_tables.specs.Calls.{test_period, tests_reach}
 use Rattle.lrp_tables.specs.Columns.{head_texts, head_times}
-use Rattle.lrp_algebra.specs.Rows.{bounds_reach, CanBeRead, DividesPeriod}
+use Rattle.lrp_steps.specs.Rows.{bounds_reach, CanBeRead, DividesPeriod}
 use Rattle.lrp_cutting.proofs.Lists.{got_in}
 use Rattle.lrp_parts.specs.Derivations.{CanBeReadBy, CanDerive, Ground}
 use Rattle.lrp_kept.specs.Keys.{keys_of}

@@ -12,7 +12,7 @@ use Rattle.lrp_keep.proofs.Lists.{at_mapped}
 use Rattle.lrp_holdings.proofs.Chained.{none_some, some_is}
 use Rattle.lrp_plan_laws.proofs.Elements.{within}
 use Rattle.lrp_model.proofs.Everywhere.{map_count}
-use Rattle.lrp_algebra.proofs.Steps.{mapped_get}
+use Rattle.lrp_steps.proofs.Steps.{mapped_get}
 
 abbrev pub levels_in : List Derived → List Levels
 levels_in all = map (λ d. d.levels.items) all

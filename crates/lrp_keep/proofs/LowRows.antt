@@ -5,7 +5,7 @@ use Rattle.slab.specs.Slab.{get}
 use Rattle.lrp_model.specs.Formulas.{Question}
 use Rattle.lrp_model.specs.Texts.{AreDistinct}
 use Rattle.lrp_model.proofs.Decided.{cons_cases, contains_none}
-use Rattle.lrp_algebra.specs.Rows.{bounds_reach}
+use Rattle.lrp_steps.specs.Rows.{bounds_reach}
 use Rattle.lrp_cutting.proofs.Lists.{got_in}
 use Rattle.lrp_parts.specs.Derivations.{Ground, HoldsIn, Levels}
 use Rattle.lrp_kept.specs.Keys.{keys_in}

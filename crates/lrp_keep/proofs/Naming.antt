@@ -31,7 +31,7 @@ use Rattle.lrp_keep.proofs.KeptParts.{conjunctive_of, literal_in}
 use Rattle.lrp_keep.proofs.Lists.{at_mapped, one_place}
 use Rattle.lrp_store.proofs.Held.{Contains-from_get}
 use Rattle.lrp_tables.proofs.Joining.{place_in}
-use Rattle.lrp_algebra.proofs.Steps.{mapped_get}
+use Rattle.lrp_steps.proofs.Steps.{mapped_get}
 
 -- the name of a relation that is found is one of the names
 pub found_name : (db : List Relation) (name : Identifier) (r : Relation) → relation_named db name ≡ Some r → Contains (map (λ (r : Relation). r.name) db) name

@@ -6,7 +6,7 @@ use Rattle.std.proofs.lemmas.Int.{ints}
 use Rattle.slab.specs.Slab.{get}
 use Rattle.lrp_theory.specs.Divides.{Divides, IsMultiple, IsCommon}
 use Rattle.lrp_theory.proofs.Modulo.{Divides-self}
-use Rattle.lrp_algebra.proofs.Compared.{one_divides}
+use Rattle.lrp_steps.proofs.Compared.{one_divides}
 use Rattle.lrp_model.specs.Checked.{plain_question}
 use Rattle.lrp_model.specs.DatabaseMeaning.{column_of}
 use Rattle.lrp_model.specs.Formulas.{Form, Question, question_of}
@@ -78,7 +78,7 @@ use Rattle.lrp_store.proofs.Held.{Contains-from_get}
 use Rattle.lrp_tables.proofs.Joining.{place_in}
 use Rattle.lrp_theory.proofs.Members.{in_flat}
 use Rattle.lrp_model.proofs.Everywhere.{map_count}
-use Rattle.lrp_algebra.proofs.Steps.{abs_is, mapped_get}
+use Rattle.lrp_steps.proofs.Steps.{abs_is, mapped_get}
 
 -- ---- names and columns
 

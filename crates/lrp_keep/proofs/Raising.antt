@@ -43,7 +43,7 @@ use Rattle.lrp_keep.proofs.Lists.{at_mapped, one_place, same_images}
 use Rattle.lrp_keep.proofs.Views.{rows_same, rows_under}
 use Rattle.lrp_holdings.proofs.Chained.{some_is}
 use Rattle.lrp_plan_laws.proofs.Elements.{found, within}
-use Rattle.lrp_algebra.proofs.Steps.{mapped_get}
+use Rattle.lrp_steps.proofs.Steps.{mapped_get}
 
 -- the same relation, with another number maybe
 pub record IsSameBut (old new : HeldRelation) : Type 0 where

@@ -6,7 +6,7 @@ use Rattle.slab.specs.Slab.{get}
 use Rattle.lrp_model.specs.Sorts.{time_count}
 use Rattle.lrp_model.proofs.Decided.{contains_first, contains_later}
 use Rattle.lrp_store.specs.Stores.{HasReach}
-use Rattle.lrp_algebra.specs.Rows.{bounds_reach}
+use Rattle.lrp_steps.specs.Rows.{bounds_reach}
 use Rattle.lrp_parts.specs.Derivations.{AreKeysFor, AreRowsWithin, AreSound, Ground, HoldsIn, Levels}
 use Rattle.lrp_kept.specs.Keys.{keys_of}
 use Rattle.lrp_kept.specs.Sizes.{joined_reach, reach_over}
@@ -15,7 +15,7 @@ use Rattle.lrp_kept.specs.declared.disjuncts.Disjunct.{Disjunct}
 use Rattle.lrp_kept.specs.declared.disjuncts.JoinedAtom.{JoinedAtom}
 use Rattle.lrp_kept.specs.declared.rows.HeldRow.{HeldRow}
 use Rattle.lrp_kept.proofs.Room.{low_atom, low_tests, low_times, most_bound, room, stepped_reach}
-use Rattle.lrp_algebra.proofs.Steps.{farther}
+use Rattle.lrp_steps.proofs.Steps.{farther}
 
 -- no row of the atom has a bound above its relation's
 abbrev pub HaveLowRows : Ground → List ℕ → List JoinedAtom → Type 0

@@ -15,7 +15,7 @@ use Rattle.lrp_model.specs.declared.relations.Row.{Row}
 use Rattle.lrp_model.specs.declared.relations.Value.{Value}
 use Rattle.lrp_model.specs.declared.relations.Value.TheVariants.{Point, Const}
 use Rattle.lrp_tables.specs.Calls.{CanBeCarried, test_period}
-use Rattle.lrp_algebra.specs.Rows.{CanBeRead, DividesPeriod, HasSmallPeriod, bounds_reach}
+use Rattle.lrp_steps.specs.Rows.{CanBeRead, DividesPeriod, HasSmallPeriod, bounds_reach}
 use Rattle.lrp_kept.specs.Held.{AreLowRows, greatest_bounds}
 use Rattle.lrp_kept.specs.Keys.{keys_of}
 use Rattle.lrp_kept.specs.Outlines.{IsOutlineFor}
@@ -32,7 +32,7 @@ use Rattle.lrp_keep.proofs.LowRows.{low_rows}
 use Rattle.lrp_holdings.proofs.Chained.{some_is}
 use Rattle.lrp_store.proofs.Held.{Contains-from_get}
 use Rattle.lrp_tables.proofs.Joining.{place_in}
-use Rattle.lrp_algebra.proofs.Steps.{abs_is}
+use Rattle.lrp_steps.proofs.Steps.{abs_is}
 
 -- ---- periods
 

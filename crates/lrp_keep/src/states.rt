@@ -19,7 +19,6 @@ ghost use Rattle.lrp_keep.specs.Unions.{HoldsAmong};
 use crate::faults::{KeepFault, of_step};
 use crate::kept_query::KeptQuery;
 use crate::unions::add_derived;
-use lrp_algebra::{head_vars, store_over};
 use lrp_answers::Answer;
 use lrp_database::Database;
 use lrp_kept::{HeldRows, is_read, scaled_reach, tested_period, with_bounds, with_periods};
@@ -28,6 +27,7 @@ use lrp_limits::periods::Period;
 use lrp_model::{Copies, LIMIT, Memory, Relation, Row, Spot};
 use lrp_packed::is_not_later;
 use lrp_parts::{DerivationSetting, Derived};
+use lrp_steps::{head_vars, store_over};
 use lrp_tables::StepFault;
 
 /// The rows that are held, the kept period, and by disjuncts what is derived from the rows in cells of this period.

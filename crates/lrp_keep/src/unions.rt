@@ -9,7 +9,7 @@ use lrp_holdings::Holdings;
 use lrp_model::Memory;
 use lrp_packed::PackedStore;
 use lrp_parts::Derived;
-use lrp_store::{Store, StoreFault};
+use lrp_store::Store;
 use lrp_tables::Piece;
 
 /// Adds the answers of each whole choice of a disjunct.
@@ -65,21 +65,16 @@ fn add_all(from: &PackedStore, out: &mut Store) -> Result<(), Memory>
     ensures { OnOk result (HasTaken from.now out.old out.new) }
 {
     for piece in from.pieces() {
-        match add_piece(&piece, out) {
-            Ok(()) => {}
-
-            // More than 2^32 - 1 cells would not have been held.
-            Err(_) => return Err(Memory),
-        }
+        add_piece(&piece, out)?;
     }
     Ok(())
 }
 
 // Adds the tuples of a zone. Many choices may have one and the same zone, which is added once where it comes at once.
-fn add_piece(piece: &Piece, out: &mut Store) -> Result<(), StoreFault>
+fn add_piece(piece: &Piece, out: &mut Store) -> Result<(), Memory>
     requires valid { IsStore out.old }
     requires place { IsPlaceOf out.old piece.now.cell piece.now.zone }
     ensures { OnOk result (HasTakenPiece piece.now out.old out.new) }
 {
-    out.add_new(&piece.cell, &piece.zone, u32::MAX)
+    out.put_new(&piece.cell, &piece.zone)
 }

@@ -6,7 +6,7 @@ use Rattle.std.proofs.lemmas.Option.{slice_get-get_or, slice_get_read, slice_get
 use Rattle.std.proofs.lemmas.Bool.{true≢false}
 use Rattle.slab.specs.Slab.{Slab, Updates, get}
 use Rattle.lrp_model.specs.declared.relations.Row.{Row}
-use Rattle.lrp_algebra.specs.Patterns.{AreKnown, IsKnown}
+use Rattle.lrp_steps.specs.Patterns.{AreKnown, IsKnown}
 use Rattle.lrp_kept.specs.EqualRows.{AreEqualRows}
 use Rattle.lrp_kept.specs.Labels.{AreLabelled, ExtendsLabels, HasOtherText, IsLabelOf, IsOtherText, IsTextLabelOf, IsOtherTextFor}
 use Rattle.lrp_kept.specs.declared.outlines.Outline.{Outline}

@@ -12,10 +12,10 @@ use Rattle.lrp_theory.specs.Entries.{node}
 use Rattle.lrp_zone.specs.Zones.{ZoneView, IsMember, columns_of}
 use Rattle.lrp_zone.proofs.Cases.{eq_or}
 use Rattle.lrp_systems.specs.Parts.{InPart}
-use Rattle.lrp_algebra.specs.Patterns.{AreKnown, IsKnown, part_of}
-use Rattle.lrp_algebra.specs.declared.pattern.Pattern.{Pattern}
-use Rattle.lrp_algebra.specs.declared.pattern.Placed.{Placed}
-use Rattle.lrp_algebra.proofs.Found.{all_last, all_left}
+use Rattle.lrp_steps.specs.Patterns.{AreKnown, IsKnown, part_of}
+use Rattle.lrp_steps.specs.declared.pattern.Pattern.{Pattern}
+use Rattle.lrp_steps.specs.declared.pattern.Placed.{Placed}
+use Rattle.lrp_steps.proofs.Found.{all_last, all_left}
 use Rattle.lrp_kept.specs.Outlines.{AreFirstKnown, AreNarrowed, IsOutlineOf}
 use Rattle.lrp_kept.specs.Spans.{AreInSpans, IsAtLeast, IsAtMost, IsInSpan, IsOfPoint}
 use Rattle.lrp_kept.specs.declared.outlines.Outline.{Outline}

@@ -2,7 +2,7 @@
 use Rattle.std.specs.Prelude.{◌≡◌, ◌≢◌, ℕ, ℤ, pos, List, [], ◌∷◌, Contains, IfSome, Some, slice_get}
 use Rattle.slab.specs.Slab.{Slab, get}
 use Rattle.lrp_model.specs.declared.relations.Bound.{Bound}
-use Rattle.lrp_algebra.specs.Patterns.{AreKnown}
+use Rattle.lrp_steps.specs.Patterns.{AreKnown}
 use Rattle.lrp_kept.specs.declared.outlines.Outline.{Outline}
 use Rattle.lrp_kept.specs.declared.rows.HeldRow.{HeldRow}
 use Rattle.lrp_kept.specs.declared.rows.Sketch.{Sketch}

@@ -9,9 +9,9 @@ use Rattle.lrp_model.specs.declared.relations.Row.{Row}
 use Rattle.lrp_store.specs.Tables.{AreTexts}
 use Rattle.lrp_tables.specs.declared.table.Vars.{Vars}
 use Rattle.lrp_systems.specs.Parts.{InPart}
-use Rattle.lrp_algebra.specs.Patterns.{part_of, AreKnown, MatchesPattern}
-use Rattle.lrp_algebra.specs.declared.pattern.Placed.{Placed}
-use Rattle.lrp_algebra.specs.declared.pattern.Pattern.{Pattern}
+use Rattle.lrp_steps.specs.Patterns.{part_of, AreKnown, MatchesPattern}
+use Rattle.lrp_steps.specs.declared.pattern.Placed.{Placed}
+use Rattle.lrp_steps.specs.declared.pattern.Pattern.{Pattern}
 use Rattle.lrp_kept.specs.Spans.{AreInSpans}
 use Rattle.lrp_kept.specs.declared.spans.ColumnSpan.{ColumnSpan}
 use Rattle.lrp_kept.specs.declared.outlines.Outline.{Outline}

@@ -2,7 +2,7 @@
 use Rattle.std.specs.Prelude.{◌≡◌, ◌≤◌, ℕ, List, Contains, Some, flat_map, length, slice_get}
 use Rattle.lrp_model.specs.Texts.{Text}
 use Rattle.lrp_model.specs.declared.relations.Row.{Row}
-use Rattle.lrp_algebra.specs.Rows.{CanBeRead}
+use Rattle.lrp_steps.specs.Rows.{CanBeRead}
 use Rattle.lrp_tables.specs.Columns.{texts_of_term, times_of_term}
 use Rattle.lrp_tables.specs.Tables.{AreNamesAmong}
 use Rattle.lrp_kept.specs.Outlines.{IsOutlineFor}

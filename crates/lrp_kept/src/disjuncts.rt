@@ -12,9 +12,9 @@ ghost use Rattle.lrp_kept.specs.Held.{names_of};
 ghost use Rattle.lrp_kept.specs.Sizes.{is_reader};
 
 use crate::rows::HeldRows;
-use lrp_algebra::scan_vars;
 use lrp_core::{Core, copy_terms, core_form};
 use lrp_model::{Column, Copies, DataTerm, List, Memory, Name, Query, Term, Test, TimeTerm};
+use lrp_steps::scan_vars;
 use lrp_tables::{Vars, joint, place_of};
 use std::alloc::Global;
 

@@ -1,7 +1,7 @@
 // Numbers by which rows are told apart: of the text of a variable, or of the residue of a time.
 ghost use Rattle.std.specs.Prelude.{◌≡◌, ◌<◌, ◌≤◌, ◌^◌, ℕ, ℤ, List, pos, slice_index, IfSome};
 ghost use Rattle.std.specs.Int.{int_rem_euclid};
-ghost use Rattle.lrp_algebra.specs.Patterns.{AreKnown};
+ghost use Rattle.lrp_steps.specs.Patterns.{AreKnown};
 ghost use Rattle.lrp_kept.specs.Features.{HasFeatureNumber};
 ghost use Rattle.lrp_kept.specs.Outlines.{IsFull, IsInOutline};
 ghost use Rattle.lrp_kept.specs.Spans.{AreInSpans};

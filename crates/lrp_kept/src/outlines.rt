@@ -3,15 +3,15 @@ ghost use Rattle.std.specs.Prelude.{◌≡◌, ◌<◌, ◌≤◌, ◌^◌, ◌�
 ghost use Rattle.lrp_theory.specs.Entries.{node};
 ghost use Rattle.lrp_tables.specs.Columns.{times_of_term, texts_of_term};
 ghost use Rattle.lrp_tables.specs.Tables.{AreNamesAmong};
-ghost use Rattle.lrp_algebra.specs.Rows.{CanBeRead};
+ghost use Rattle.lrp_steps.specs.Rows.{CanBeRead};
 ghost use Rattle.lrp_zone.specs.Zones.{columns_of, IsMember, IsZone};
 ghost use Rattle.lrp_kept.specs.Outlines.{AreFirstKnown, AreNarrowed, IsFull, IsInOutline, IsOutlineFor, IsOutlineOf};
 ghost use Rattle.lrp_kept.specs.Spans.{IsAtLeast, IsAtMost, IsInSpan, IsOfPoint};
 
 use crate::spans::{ColumnSpan, OPEN, are_apart_somewhere, differ_somewhere, lowered, raised};
-use lrp_algebra::{Known, Pattern, Placed, row_pattern};
 use lrp_model::{Domain, List, Memory, Row, Term};
 use lrp_point::Point;
+use lrp_steps::{Known, Pattern, Placed, row_pattern};
 use lrp_tables::Vars;
 use lrp_zone::Zone;
 use std::alloc::Global;

@@ -2,7 +2,7 @@
 ghost use Rattle.std.specs.Prelude.{◌≡◌, ◌<◌, ◌≤◌, ◌^◌, ◌≤ℤ◌, true, ℤ, ℕ, List, pos, length, IfSome};
 ghost use Rattle.std.specs.Int.{int_rem_euclid};
 ghost use Rattle.lrp_point.specs.Points.{AreApart, IsIn};
-ghost use Rattle.lrp_algebra.specs.Patterns.{AreKnown, IsKnown};
+ghost use Rattle.lrp_steps.specs.Patterns.{AreKnown, IsKnown};
 ghost use Rattle.lrp_kept.specs.Spans.{AreInSpans, IsAtLeast, IsAtMost, IsInSpan, IsOfPoint};
 
 use lrp_point::Point;

@@ -6,8 +6,8 @@ ghost use Rattle.lrp_store.specs.Stores.{IsPadded};
 ghost use Rattle.lrp_systems.specs.Wholes.{AreMarkedWhole, AreWhole};
 
 use crate::marks::Marks;
-use lrp_model::Cell;
-use lrp_store::{Store, StoreFault};
+use lrp_model::{Cell, Memory};
+use lrp_store::Store;
 use lrp_tables::{RememberedCells, is_free};
 use lrp_zone::Zone;
 
@@ -17,7 +17,7 @@ pub fn add_zone(
     zone: &Zone,
     wholes: &mut RememberedCells,
     out: &mut Store,
-) -> Result<(), StoreFault>
+) -> Result<(), Memory>
     requires period { zone.now.period ≡ out.old.period }
     requires residues { zone.now.residues ≡ take out.old.shape.times cell.now.residues }
     requires texts { IsPadded 0 out.old.shape.texts cell.now.texts }
@@ -29,9 +29,9 @@ pub fn add_zone(
     ensures kept { OnErr result ((wholes.new ≡ wholes.old)
         × (out.new ≡ record out.old { spare = out.new.spare })) }
 {
-    match out.add_new(cell, zone, u32::MAX) {
+    match out.put_new(cell, zone) {
         Ok(()) => {}
-        Err(fault) => return Err(fault),
+        Err(memory) => return Err(memory),
     }
     if is_free(zone) {
         wholes.put(cell);

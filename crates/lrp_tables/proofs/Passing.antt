@@ -1,5 +1,5 @@
 -- A pass over the zones of a store that adds what a step makes of the tuples of each.
-use Rattle.std.proofs.Common.{◌≡◌, ℕ, zero, suc, ◌<◌, ◌≤◌, ◌^◌, ◌⊎◌, inl, inr, List, [], ◌∷◌, length, sym, ap, subst, ◌∙◌, arith, Contains}
+use Rattle.std.proofs.Common.{◌≡◌, ℕ, zero, suc, ◌<◌, ◌≤◌, ◌^◌, ◌⊎◌, inl, inr, List, [], ◌∷◌, ◌++◌, length, refl, sym, ap, subst, ◌∙◌, arith, Contains}
 use Rattle.std.specs.Prelude.{ℤ, pos, nat_abs, ◌≤ℤ◌, unwrap_or}
 use Rattle.std.proofs.lemmas.Int.{ints}
 use Rattle.std.specs.FinMap as finite
@@ -7,14 +7,14 @@ use Rattle.std.specs.FinMap.{get-empty}
 use Rattle.lrp_slots.specs.Lists.{cell_cmp}
 use Rattle.lrp_model.specs.declared.tuples.Cell.{Cell}
 use Rattle.lrp_model.specs.declared.tuples.Shape.{Shape}
-use Rattle.lrp_zone.specs.Zones.{reach_of}
+use Rattle.lrp_zone.specs.Zones.{ZoneView, reach_of}
 use Rattle.lrp_store.specs.Stores.{StoreView, IsStore, InStore, HasReach, tables_at}
 use Rattle.lrp_store.specs.Growing.{IsGrown, IsAdded}
 use Rattle.lrp_store.proofs.Held.{Table, new_store}
 use Rattle.lrp_store.proofs.Grown.{grown_same, grown_on, grown_within}
 use Rattle.lrp_store.proofs.Aligning.{head_in, tail_in, nothing_held}
 use Rattle.lrp_store.proofs.Rooms.{empty_reach}
-use Rattle.lrp_tables.specs.Pieces.{IsPieceOf, InPiece, InPieces, ArePieces}
+use Rattle.lrp_tables.specs.Pieces.{IsPieceOf, InPiece, InPieces, ArePieces, pieces_in}
 use Rattle.lrp_tables.specs.Passes.{IsMadeFrom, IsResult}
 use Rattle.lrp_tables.specs.declared.pieces.Piece.{Piece}
 use Rattle.lrp_tables.proofs.Pieced.{in_store, piece_reach}
@@ -77,6 +77,16 @@ module _ (makes : Makes) (reach : ℕ → ℕ) (cap : ℕ) (s start : StoreView)
           by_place : (xs : List ℤ) (ns : List ℕ) → (j : InPieces s.shape.texts list xs ns) → Contains (piece ∷ rest) j.piece → ((ys : List ℤ) (ms : List ℕ) → makes xs ns ys ms → InStore new ys ms) ⊎ InPieces s.shape.texts rest xs ns
           by_place xs ns j (zero, l, e) = inl (λ ys ms m. a.whole.each ys ms (record { old_times = xs; old_texts = ns; is = subst (λ k. InPiece k piece xs ns) (sym texts) (subst (λ q. InPiece s.shape.texts q xs ns) (sym e) j.inside); made = m }))
           by_place xs ns j (suc k, l, e) = inr (record { piece = j.piece; listed = (k, omega arith, e); inside = j.inside })
+
+  -- the zones of a cell bring nothing, since all that is made of them is held
+  pub passing_cell : (out : StoreView) (n : ℕ) → n ≡ s.shape.texts → ((low high : ℕ) → low ≤ high → reach low ≤ reach high) → (cell : Cell) (zones : List ZoneView) (rest : List Piece)
+      → ((zone : ZoneView) → IsPieceOf s (record { cell = cell; zone = zone }) → IsAdded (IsMadeFrom makes (InPiece n (record { cell = cell; zone = zone }))) cap (reach (reach_of zone)) out out)
+      → IsPassing makes reach cap s start out (pieces_in cell zones ++ rest) → IsPassing makes reach cap s start out rest
+  passing_cell out n texts more cell [] rest held p = p
+  passing_cell out n texts more cell (zone ∷ zones) rest held p =
+      let piece : Piece = record { cell = cell; zone = zone } in
+      let is : IsPieceOf s piece = next_is out out (pieces_in cell (zone ∷ zones) ++ rest) (pieces_in cell zones ++ rest) piece refl p in
+      passing_cell out n texts more cell zones rest held (passing_more out out (pieces_in cell (zone ∷ zones) ++ rest) (pieces_in cell zones ++ rest) piece refl p n texts more (held zone is))
 
   module _ (out : StoreView) (p : IsPassing makes reach cap s start out []) (empty : start.tables ≡ finite.empty) (h0 : ℕ) (r0 : HasReach s h0) where
     -- all that is made is held

@@ -9,12 +9,12 @@ use Rattle.lrp_model.specs.declared.tuples.Cell.{Cell}
 use Rattle.lrp_theory.specs.Entries.{entry, AtMost}
 use Rattle.lrp_zone.specs.Zones.{ZoneView, IsMember, IsTight, reach_of}
 use Rattle.lrp_zone.proofs.Reaches.{small_reach}
-use Rattle.lrp_store.specs.Stores.{StoreView, IsStore, InStore, HasReach, zone_of, tables_at, zones_at}
+use Rattle.lrp_store.specs.Stores.{StoreView, IsCellOf, IsStore, InStore, HasReach, zone_of, tables_at, zones_at}
 use Rattle.lrp_store.proofs.Held.{Table, cell_held, zone_held}
 use Rattle.lrp_store.specs.Reading.{entries_of}
 use Rattle.lrp_store.proofs.Aligning.{key_of}
 use Rattle.lrp_store.proofs.Counted.{key_held}
-use Rattle.lrp_tables.specs.Pieces.{piece_of, pieces_at, pieces_left, pieces_in, pieces_from, HaveZones, IsPieceOf, InPiece, ArePieces, FitsCell}
+use Rattle.lrp_tables.specs.Pieces.{piece_of, pieces_at, pieces_left, pieces_in, pieces_of, pieces_from, HaveZones, IsPieceOf, InPiece, ArePieces, FitsCell}
 use Rattle.lrp_tables.specs.declared.pieces.Piece.{Piece}
 
 -- what a part of a list has, the list has
@@ -102,6 +102,19 @@ module _ (s : StoreView) where
       subst (ArePieces s) (none_left cell (length (tables_at s cell)) (finite.keys s.tables) (omega arith) ∙ all)
       (pieces_are is cell (length (tables_at s cell)) (finite.keys s.tables) refl)
 
+  -- the zones of all cells are the zones of the store
+  pub all_are : IsStore s → (entries : List (Cell × List ZoneView)) → entries ≡ entries_of s → ArePieces s (pieces_of entries)
+  all_are is entries e =
+      let cell : Cell = record { texts = []; residues = [] } in
+      subst (ArePieces s) (none_left cell (length (tables_at s cell)) (finite.keys s.tables) (omega arith) ∙ sym (in_cells (finite.keys s.tables)) ∙ ap pieces_of (sym e))
+      (pieces_are is cell (length (tables_at s cell)) (finite.keys s.tables) refl)
+
+  -- a cell of the store with its zones is one of its shape and period
+  pub entry_cell : IsStore s → (cell : Cell) (zones : List ZoneView) → Contains (entries_of s) (cell, zones) → IsCellOf s.shape s.period cell
+  entry_cell is cell zones h =
+      let g = of_map (λ c. (c, zones_at s c)) (finite.keys s.tables) (cell, zones) h in
+      subst (λ (e : Cell × List ZoneView). IsCellOf s.shape s.period e.0) g.2 (let list = key_held s is (λ xs ns. Unit {0}) 0 g.0 g.1 in (is.cells g.0 list.0 list.1).proper)
+
   -- each cell has some zone
   pub entries_have : IsStore s → (entries : List (Cell × List ZoneView)) → entries ≡ entries_of s → HaveZones entries
   entries_have is entries e =
@@ -134,6 +147,10 @@ module _ (s : StoreView) where
           same_some : {X : Type 0} {x y : X} → Some x ≡ Some y → x ≡ y
           same_some h = cc
       dropped (t ∷ tables) (suc n) e = dropped tables n e
+
+-- the first cell is taken off
+pub cell_given : (cell : Cell) (zones : List ZoneView) (rest entries : List (Cell × List ZoneView)) → entries ≡ (cell, zones) ∷ rest → pieces_of entries ≡ pieces_from cell zones rest
+cell_given cell zones rest entries e = ap pieces_of e
 
 -- one zone of the cell is given
 pub one_given : (cell : Cell) (zone : ZoneView) (rest zones : List ZoneView) (entries : List (Cell × List ZoneView)) → zones ≡ zone ∷ rest → pieces_from cell zones entries ≡ record { cell = cell; zone = zone } ∷ pieces_from cell rest entries

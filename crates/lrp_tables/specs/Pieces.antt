@@ -24,9 +24,13 @@ pieces_left s cell next cells = drop next (pieces_at s cell) ++ flat_map (pieces
 abbrev pub pieces_in : Cell → List ZoneView → List Piece
 pieces_in cell zones = map (λ zone. record { cell = cell; zone = zone }) zones
 
+-- zones of cells
+abbrev pub pieces_of : List (Cell × List ZoneView) → List Piece
+pieces_of entries = flat_map (λ e. pieces_in e.0 e.1) entries
+
 -- zones of a cell, and after them those of other cells
 abbrev pub pieces_from : Cell → List ZoneView → List (Cell × List ZoneView) → List Piece
-pieces_from cell zones entries = pieces_in cell zones ++ flat_map (λ e. pieces_in e.0 e.1) entries
+pieces_from cell zones entries = pieces_in cell zones ++ pieces_of entries
 
 -- each cell has some zone
 abbrev pub HaveZones : List (Cell × List ZoneView) → Type 0

@@ -1,9 +1,9 @@
 // A few cells that are remembered.
-ghost use Rattle.std.specs.Prelude.{◌≡◌, ◌<◌, ◌⊎◌, ℕ, Some, Contains, IfOk, length, None, replicate, true};
+ghost use Rattle.std.specs.Prelude.{◌≡◌, ◌<◌, ◌⊎◌, Some, Contains, true};
 ghost use Rattle.lrp_model.specs.declared.tuples.Cell.{Cell as CellValue};
 ghost use Rattle.lrp_tables.specs.Cells.{RemembersNone};
 
-use lrp_model::{Cell, Memory};
+use lrp_model::Cell;
 use std::alloc::Global;
 use std::marker::Model;
 
@@ -11,40 +11,45 @@ use std::marker::Model;
 const MOST: usize = 16384;
 
 /// Cells at places that their numbers give, seen as the list of the places. A cell takes over the place of another one.
+///
+/// The places are made with the first cell. Where memory is refused for them, no cell is remembered.
 #[derive(Drop)]
 pub struct RememberedCells {
+    alloc: Global,
+    most: usize,
     places: Vec<Option<Cell>>,
 }
 
 impl Model for RememberedCells {
-    ghost use Rattle.std.specs.Prelude.{◌<◌, List, Option, length};
+    ghost use Rattle.std.specs.Prelude.{List, Option};
     ghost use Rattle.lrp_model.specs.declared.tuples.Cell.{Cell};
 
     ghost Value = { List (Option Cell) };
 
     ghost view = { λ a. a.places.items };
-
-    ghost invariant = { λ a. 0 < length a.places.items };
 }
 
 impl RememberedCells {
-    /// No cell is remembered. There are places for this many, but 16,384 at most.
-    pub fn new(alloc: Global, cells: usize) -> Result<RememberedCells, Memory>
-        ensures { IfOk result RemembersNone }
+    /// No cell is remembered. There are to be places for this many, but 16,384 at most.
+    pub fn new(alloc: Global, cells: usize) -> RememberedCells
+        ensures { RemembersNone result }
     {
-        let mut places = Vec::new(alloc);
-        places.push(None)?;
-        for _place in 1..cells.min(MOST) {
-            places.push(None)?;
+        RememberedCells {
+            alloc,
+            most: cells.clamp(1, MOST),
+            places: Vec::new(alloc),
         }
-        Ok(RememberedCells { places })
     }
 
     /// Whether a cell is remembered.
     pub fn has(&self, cell: &Cell) -> bool
         ensures { result ≡ true → Contains self.now (Some cell.now) }
     {
-        match &self.places[place_of(cell, self.places.len())] {
+        let places = self.places.len();
+        if places == 0 {
+            return false;
+        }
+        match &self.places[place_of(cell, places)] {
             Some(held) => held == cell,
             None => false,
         }
@@ -55,8 +60,25 @@ impl RememberedCells {
         ensures { (other : CellValue) → Contains self.new (Some other) → (other ≡ cell.now)
             ⊎ Contains self.old (Some other) }
     {
-        let place = place_of(cell, self.places.len());
-        self.places[place] = Some(*cell);
+        self.make_places();
+        let places = self.places.len();
+        if places > 0 {
+            self.places[place_of(cell, places)] = Some(*cell);
+        }
+    }
+
+    // Makes the places, if there are none.
+    fn make_places(&mut self)
+        ensures { (other : CellValue) → Contains self.new (Some other)
+            → Contains self.old (Some other) }
+    {
+        if self.places.len() > 0 {
+            return;
+        }
+        match vec![in self.alloc; None; self.most] {
+            Ok(places) => self.places = places,
+            Err(_) => {}
+        }
     }
 }
 

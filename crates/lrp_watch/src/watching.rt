@@ -10,13 +10,13 @@ ghost use Rattle.lrp_watch.specs.Watching.{CanBeWatched, IsPassed, TellsLeasts};
 
 use crate::domains::constants_of;
 use crate::faults::WatchFault;
-use lrp_algebra::{head_vars, store_over};
 use lrp_answers::Answer;
 use lrp_database::Database;
 use lrp_edits::Edit;
 use lrp_keep::{Keep, KeepFault};
 use lrp_model::{Copies, Domain, List, Memory, Query, Spot, texts_in_order};
 use lrp_outputs::{LeastAnswers, spots_stand_for_tuples};
+use lrp_steps::{head_vars, store_over};
 use std::alloc::Global;
 
 /// The least answers of a query over a database as it is read, and after each of some edits.

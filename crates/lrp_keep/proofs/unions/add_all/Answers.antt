@@ -21,7 +21,7 @@ pub loop-piece-preserved : goal.loop-piece-preserved
 loop-piece-preserved c =
     let grown = c.loop-piece.invariant.grown (2 ^ 62) c.pieces-piece-items.ensures.reach in
     passing_more StaysSame (λ high. high) 4294967295 c.args.from.now c.args.out.now c.loop-piece.out c.add_piece.new.out c.loop-piece.piece-iterator c.next.new.self c.in-Some.piece c.in-Some.ensures.steps c.loop-piece.invariant
-    c.loop-piece.out.shape.texts (ap (λ s. s.texts) (grown.shape ∙ c.requires.like.shape)) (λ low high le. le) c.in-Ok.ensures
+    c.loop-piece.out.shape.texts (ap (λ s. s.texts) (grown.shape ∙ c.requires.like.shape)) (λ low high le. le) c.in_ok-add_piece.ensures
 
 pub returns : goal.returns
 returns c =

@@ -8,7 +8,7 @@ use Rattle.lrp_keep.proofs.Adding.{above_cause, can_now, can_sketch, derived_wit
 use Rattle.lrp_keep.proofs.Standing.{step_cause, still_rows, still_self}
 use Rattle.lrp_keep.proofs.states.State.add_within.Goals as goal
 use Rattle.lrp_plan_laws.proofs.Elements.{within}
-use Rattle.lrp_algebra.proofs.Steps.{mapped_get}
+use Rattle.lrp_steps.proofs.Steps.{mapped_get}
 
 pub returns-then-is_above-clause-fault : goal.returns-then-is_above-clause-fault
 returns-then-is_above-clause-fault c = above_cause c.args.of.now c.args.self.now c.requires.keeping c.args.relation c.args.row.now c.args.period.number c.requires.row c.args.period.low c.args.period.high (c.is_above.ensures.above c.if-is_above.true)

@@ -21,7 +21,7 @@ use Rattle.lrp_keep.specs.Unions.{HoldsAmong}
 use Rattle.lrp_keep.proofs.Taken.{one_among}
 use Rattle.lrp_keep.proofs.states.State.answer.Goals as goal
 use Rattle.lrp_model.proofs.Everywhere.{map_count}
-use Rattle.lrp_algebra.proofs.Steps.{mapped_get}
+use Rattle.lrp_steps.proofs.Steps.{mapped_get}
 
 pub store_over-store-requires-clause-times : goal.store_over-store-requires-clause-times
 store_over-store-requires-clause-times c =

@@ -3,7 +3,7 @@ use Rattle.std.proofs.Common.{◌≡◌, ◌<◌, Some, length, get_or, refl, su
 use Rattle.std.specs.Prelude.{slice_get}
 use Rattle.std.proofs.lemmas.Option.{slice_get_read}
 use Rattle.lrp_model.proofs.Everywhere.{map_count}
-use Rattle.lrp_algebra.proofs.Steps.{mapped_get}
+use Rattle.lrp_steps.proofs.Steps.{mapped_get}
 use Rattle.lrp_parts.specs.declared.derivation.Derived.{Derived}
 use Rattle.lrp_parts.specs.Firsts.{IsFirstOfHeld}
 use Rattle.lrp_keep.specs.States.{levels_of}

@@ -1,0 +1,24 @@
+-- The lemmas: cells and lists with one value fewer, and sets that are added part by part.
+pub mod Likeness
+pub mod Compared
+pub mod Conditioned
+pub mod Cuts
+pub mod Extended
+pub mod Filled
+pub mod Found
+pub mod Leaves
+pub mod NewZones
+pub mod OwnColumns
+pub mod BothFound
+pub mod Parts
+pub mod ReadRows
+pub mod Inserts
+pub mod Scanned
+pub mod Selected
+pub mod Steps
+pub mod AllTests
+pub mod TextDropped
+pub mod TimeDropped
+pub mod TimePassed
+pub mod United
+pub mod WholeCells
