@@ -20,7 +20,7 @@ use Rattle.lrp_tables.specs.Steps.{CanJoin, CanMinus, IsJoinResult, IsMinusResul
 use Rattle.lrp_tables.specs.Tables.{IsJoined, IsMinus, IsTableOf}
 use Rattle.lrp_tables.proofs.DropCounts.{of_others}
 use Rattle.lrp_tables.proofs.Joining.{name_in}
-use Rattle.lrp_algebra.specs.Tables.{IsTimeDropped}
+use Rattle.lrp_steps.specs.Tables.{IsTimeDropped}
 use Rattle.lrp_eval.specs.Together.{CanNarrow, IsSmallComplement, IsUnbroken, IsUnbrokenTable}
 use Rattle.lrp_eval.specs.declared.together.Sides.{Sides}
 use Rattle.lrp_eval.proofs.ComplementCounts.{no_names, no_texts}
@@ -28,7 +28,7 @@ use Rattle.lrp_eval.proofs.Named.{in_joint}
 use Rattle.lrp_eval.proofs.NarrowLaws.{from_joins, join_high, left_joins, moved, twice, word_is}
 use Rattle.lrp_eval.proofs.ShownLaws.{more_of}
 use Rattle.lrp_eval.proofs.TogetherLaws.{joint_few, joint_known}
-use Rattle.lrp_algebra.proofs.Steps.{farther}
+use Rattle.lrp_steps.proofs.Steps.{farther}
 
 -- ---- a period is its word
 

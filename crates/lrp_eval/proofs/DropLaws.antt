@@ -16,7 +16,7 @@ use Rattle.lrp_tables.specs.Caps.{InhabitsMoreThan}
 use Rattle.lrp_tables.specs.Tables.{HasAssignment, named_variables}
 use Rattle.lrp_tables.proofs.TableLaws.{decided_table}
 use Rattle.lrp_tables.proofs.DropCounts.{drop_time_counts, drop_data_counts}
-use Rattle.lrp_algebra.specs.Tables.{IsTimeDropped, IsTextDropped}
+use Rattle.lrp_steps.specs.Tables.{IsTimeDropped, IsTextDropped}
 use Rattle.lrp_eval.specs.Running.{SameVariables, variables_of, IsStepTable, IsOperand, IsNext}
 use Rattle.lrp_eval.proofs.Denotes.{Denotes, IsDecided, IsDropData, others, drop_time_keeps, drop_data_keeps}
 use Rattle.lrp_eval.proofs.Named.{time_dropped, text_dropped}

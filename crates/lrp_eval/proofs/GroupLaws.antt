@@ -174,7 +174,21 @@ module _ (cap : ℕ) (g : Group) (planned : Steps) (q : Question) (h : IsPlanOf 
       (of_denoted planned g.database.now q cap (next_step_number g made) (part_times parts) (part_texts parts) (HasSome (constants g.database.now q) parts) (denotes_in n held)
       (λ m. few (subst (λ k. InhabitsMoreThan cap (constants g.database.now q) k (part_times parts) (part_texts parts) (HasSome (constants g.database.now q) parts)) (at_period n ∙ sym (period_nat n)) m)))
 
-  -- one step more
+  -- one step more, which has few cells
+  pub pushed_held : (made : List (List Table)) (parts : List Table) → AreStepsInParts planned g.database.now q cap (length g.tables.now) made → IsStepInParts planned g.database.now q (next_step_number g made) parts
+      → (ManyAt planned g.database.now q cap (next_step_number g made) → ⊥) → AreStepsInParts planned g.database.now q cap (length g.tables.now) (made ++ parts ∷ [])
+  pushed_held made parts all new few = record {
+    each = λ j ps e. ⊎_elim (λ o. all.each j ps o)
+        (λ x. subst (λ us. IsStepInParts planned g.database.now q (suc (length g.tables.now + j)) us) x.1 (subst (λ i. IsStepInParts planned g.database.now q (suc (length g.tables.now + i)) parts) (sym x.0) new)) (at_push made parts ps j e);
+    few = λ s low high m.
+        let count : length (made ++ parts ∷ []) ≡ length made + 1 = more_count made parts (length made) refl in
+        elim (below_or (length g.tables.now + length made) s) [
+          | inl more ↦ (let e : s ≡ next_step_number g made = omega (arith, high, count, more) in few (subst (ManyAt planned g.database.now q cap) e m))
+          | inr less ↦ all.few s low less m
+        ];
+  }
+
+  -- one step more, in the same parts or others
   pub next_held : (made : List (List Table)) (step : Step) (old parts : List Table) → IsNextStep g made step → AreStepsInParts planned g.database.now q cap (length g.tables.now) made → IsStepInParts planned g.database.now q (next_step_number g made) old
       → AreFewParts cap (constants g.database.now q) step.period old parts → AreStepsInParts planned g.database.now q cap (length g.tables.now) (made ++ parts ∷ [])
   next_held made step old parts next all held few =
@@ -187,16 +201,7 @@ module _ (cap : ℕ) (g : Group) (planned : Steps) (q : Question) (h : IsPlanOf 
             ((λ x. m.0 ((few.same env).0 x)), λ y. (few.same env).1 (m.1 y));
         other = held.other;
       } in
-      record {
-        each = λ j ps e. ⊎_elim (λ o. all.each j ps o)
-            (λ x. subst (λ us. IsStepInParts planned g.database.now q (suc (length g.tables.now + j)) us) x.1 (subst (λ i. IsStepInParts planned g.database.now q (suc (length g.tables.now + i)) parts) (sym x.0) new)) (at_push made parts ps j e);
-        few = λ s low high m.
-            let count : length (made ++ parts ∷ []) ≡ length made + 1 = more_count made parts (length made) refl in
-            elim (below_or (length g.tables.now + length made) s) [
-              | inl more ↦ (let e : s ≡ next_step_number g made = omega (arith, high, count, more) in parts_few made step old next held few.few (subst (ManyAt planned g.database.now q cap) e m))
-              | inr less ↦ all.few s low less m
-            ];
-      }
+      pushed_held made parts all new (parts_few made step old next held few.few)
 
   -- the last step of a group has a table
   pub ended_run : (made : List (List Table)) (step : Step) (parts : List Table) (table : Table) → IsNextStep g made step → AreStepsInParts planned g.database.now q cap (length g.tables.now) made → IsStepInParts planned g.database.now q (next_step_number g made) parts

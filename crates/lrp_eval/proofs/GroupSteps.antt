@@ -17,7 +17,7 @@ use Rattle.lrp_model.specs.declared.plans.StepKind.TheVariants.{Complement, Drop
 use Rattle.lrp_model.proofs.Decided.{contains_first}
 use Rattle.lrp_store.specs.Stores.{HasReach}
 use Rattle.lrp_store.specs.Tables.{AreNumbered}
-use Rattle.lrp_algebra.proofs.Steps.{farther}
+use Rattle.lrp_steps.proofs.Steps.{farther}
 use Rattle.lrp_tables.specs.declared.table.Table.{Table}
 use Rattle.lrp_tables.specs.declared.table.StepFault.{StepFault}
 use Rattle.lrp_tables.specs.Columns.{joint, scan_times, scan_texts}
@@ -32,12 +32,13 @@ use Rattle.lrp_periods.proofs.Summing.{more_of}
 use Rattle.lrp_periods.proofs.TakenApart.{one_part}
 use Rattle.lrp_periods.specs.Sets.{IsComplementOf, IsDifferenceOf, IsJoinOf, IsSelectionOf, IsTextCompleted, IsUnionOf}
 use Rattle.lrp_plan_laws.specs.Made.{IsEarlier, operands}
-use Rattle.lrp_eval.specs.Grouped.{AreFewParts, AreHeld, ArePartsAt, CanBeWhole, CanRunGroup, HaveFew, IsPartAlone, IsGroupRun, IsGroupHeld, IsNextStep, IsStepInParts, IsWholeTable, next_step_number}
+use Rattle.lrp_eval.specs.Grouped.{AreFewParts, AreHeld, ArePartsAt, CanBeWhole, CanRunGroup, HaveFew, IsLastDropped, IsNextFew, IsPartAlone, IsGroupRun, IsGroupHeld, IsNextStep, IsStepInParts, IsWholeTable, next_step_number}
 use Rattle.lrp_eval.specs.Planned.{IsPlanOf}
 use Rattle.lrp_eval.specs.Running.{AreRun, IsNext, IsRunResult, IsSomeSort, IsSortResult, IsStepTable}
 use Rattle.lrp_eval.specs.Together.{ArePassed, AreRunTogether}
 use Rattle.lrp_eval.specs.declared.groups.Group.{Group}
-use Rattle.lrp_eval.proofs.GroupLaws.{after_blanks, blank, can_scan_parts, ended_run, next_held, of_next, ok_value, one_is, one_whole, parts_held, period_word, run_held, scan_held}
+use Rattle.lrp_eval.proofs.GroupLaws.{after_blanks, blank, can_scan_parts, ended_run, next_held, of_next, ok_value, one_is, one_whole, parts_few, parts_held, period_word, pushed_held, run_held, scan_held}
+use Rattle.lrp_eval.proofs.GroupDrops.{dropped_few}
 use Rattle.lrp_eval.proofs.Named.{all_of}
 use Rattle.lrp_eval.proofs.PartLaws.{can_complement_parts, can_drop_data_parts, can_drop_time_parts, can_join_parts, can_minus_parts, can_select_parts, can_unite_parts, complement_held, drop_data_held, drop_time_held, join_held, minus_held, select_held, union_held}
 use Rattle.lrp_eval.proofs.PartSteps.{IsOfPlan, ascends, earlier, of_plan_as, own_period, worded}
@@ -202,6 +203,18 @@ module _ {cap : ℕ} {domain : List Text} {g : Group} {made : List (List Table)}
   pub next_makes : (old parts : List Table) → IsGroupHeld cap g (next_step_number g made) old → AreFewParts cap domain step.period old parts → AreHeld cap g (made ++ parts ∷ [])
   next_makes old parts held few planned q h run =
       next_held cap g planned q h made step old parts next (all planned q h run) (held planned q h run) (subst (λ d. AreFewParts cap d step.period old parts) (domain_is planned q h) few)
+
+  -- parts within the cap show that their step has few cells
+  pub parts_show : (parts : List Table) → IsGroupHeld cap g (next_step_number g made) parts → HaveFew cap domain step.period parts → IsNextFew cap g made
+  parts_show parts held few planned q h run = parts_few cap g planned q h made step parts next (held planned q h run) (subst (λ d. HaveFew cap d step.period parts) (domain_is planned q h) few)
+
+  -- and so it is with a step that drops a time of the last one
+  pub drop_shows : IsLastDropped g made step → IsNextFew cap g made
+  drop_shows drop planned q h run = dropped_few cap g planned q h made step next (all planned q h run) drop
+
+  -- one step more, which has few cells
+  pub few_makes : (parts : List Table) → IsGroupHeld cap g (next_step_number g made) parts → IsNextFew cap g made → AreHeld cap g (made ++ parts ∷ [])
+  few_makes parts held few planned q h run = pushed_held cap g planned q h made parts (all planned q h run) (held planned q h run) (few planned q h run)
 
   -- the whole table is that of the last step
   pub ended_makes : (parts : List Table) (table : Table) (between : ℕ) → IsGroupHeld cap g (next_step_number g made) parts → IsWholeTable cap domain step.period parts table → (far : ℕ) → far ≡ nat_abs (to_z w64 (of_z w64 step.reach)) → HasReach table.store far → between ≡ length made → ArePassed g.readers.now (length g.tables.now) (length made)

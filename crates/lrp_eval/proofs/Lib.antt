@@ -33,6 +33,7 @@ pub mod ComplementJoins
 pub mod TogetherLaws
 pub mod ProjectionLaws
 pub mod GroupLaws
+pub mod GroupDrops
 pub mod GroupSteps
 pub mod PartLaws
 pub mod PartSteps

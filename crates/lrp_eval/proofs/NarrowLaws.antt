@@ -20,12 +20,12 @@ use Rattle.lrp_tables.specs.Columns.{joint}
 use Rattle.lrp_tables.specs.Steps.{CanJoin, CanMinus, IsJoinResult, IsMinusResult}
 use Rattle.lrp_tables.specs.Tables.{HasAssignment, IsJoined, IsMinus, IsTableOf}
 use Rattle.lrp_tables.proofs.DropCounts.{of_others}
-use Rattle.lrp_algebra.specs.Tables.{IsTimeDropped}
+use Rattle.lrp_steps.specs.Tables.{IsTimeDropped}
 use Rattle.lrp_eval.specs.Together.{CanNarrow, IsUnbroken, IsUnbrokenTable}
 use Rattle.lrp_eval.specs.declared.together.Sides.{Sides}
 use Rattle.lrp_eval.proofs.Named.{in_joint}
 use Rattle.lrp_eval.proofs.ShownLaws.{more_of}
-use Rattle.lrp_algebra.proofs.Steps.{farther}
+use Rattle.lrp_steps.proofs.Steps.{farther}
 
 -- ---- a period is its word
 

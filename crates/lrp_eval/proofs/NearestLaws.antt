@@ -29,7 +29,7 @@ use Rattle.lrp_model.proofs.Decided.{contains_none}
 use Rattle.lrp_cutting.proofs.Lists.{below_or, in_one, one_in}
 use Rattle.lrp_store.specs.Stores.{HasReach, InStore, IsStore}
 use Rattle.lrp_store.specs.Tables.{InAnswer}
-use Rattle.lrp_algebra.proofs.Steps.{farther}
+use Rattle.lrp_steps.proofs.Steps.{farther}
 use Rattle.lrp_answers.specs.declared.answer.Answer.{Answer}
 use Rattle.lrp_answers.specs.Parts.{IsInSomePart}
 use Rattle.lrp_tables.specs.declared.table.Table.{Table}

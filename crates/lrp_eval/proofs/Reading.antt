@@ -5,7 +5,7 @@ use Rattle.std.specs.List.{AllByRecursion, list_any}
 use Rattle.std.specs.Cmp.Lexicographic.{bytes_decides}
 use Rattle.std.proofs.lemmas.Int.{ints}
 use Rattle.lrp_theory.specs.Divides.{Divides, IsMultiple}
-use Rattle.lrp_algebra.proofs.Compared.{one_divides}
+use Rattle.lrp_steps.proofs.Compared.{one_divides}
 use Rattle.lrp_model.specs.Texts.{Text, Identifier, AreDistinct}
 use Rattle.lrp_model.specs.Formulas.{Question}
 use Rattle.lrp_model.specs.Variables.{Variable, time_variable, data_variable, variables_of_test, free}
@@ -30,7 +30,7 @@ use Rattle.lrp_eval.specs.Running.{variables_of, IsOperand, IsNext}
 use Rattle.lrp_eval.proofs.Named.{all_of, in_joint, time_named, data_named, times_in_test, texts_in_test}
 use Rattle.lrp_eval.proofs.Nexts.{IsRead, of_kind, run_of, made, rises, sound_step, reach_low, denotes_of}
 use Rattle.lrp_plan_laws.proofs.Members.{all_by, in_left, in_right}
-use Rattle.lrp_algebra.proofs.Steps.{abs_is, farther}
+use Rattle.lrp_steps.proofs.Steps.{abs_is, farther}
 use Rattle.lrp_slots.proofs.Keys.{all_front}
 
 -- ---- results
@@ -41,16 +41,9 @@ ok_is P (Ok b) a e p = let same : b ≡ a = cc in subst P same p
 ok_is P (Err f) a e p = absurd (cc)
 
 -- what is found in a result that is tried
-pub found_ok : {A E F : Type 0} (P W R : A → Type 0) (r : Result A E) (s : Result (Option A) F) → ((a : A) → P a → W a → R a) → IfOk r P → IfOk s (λ o. IfSome o (λ a. (r ≡ Ok a) × W a)) → IfOk s (λ o. IfSome o R)
-found_ok P W R r (Ok (Some a)) f p x = f a (ok_is P r a x.0 p) x.1
-found_ok P W R r (Ok None) f p x = tt
+pub found_ok : {A E F : Type 0} (P W R : A → Type 0) (r : Result A E) (s : Result A F) → ((a : A) → P a → W a → R a) → IfOk r P → IfOk s (λ a. (r ≡ Ok a) × W a) → IfOk s R
+found_ok P W R r (Ok a) f p x = f a (ok_is P r a x.0 p) x.1
 found_ok P W R r (Err e) f p x = tt
-
--- what also holds of what is found
-pub found_also : {A E : Type 0} (P R : A → Type 0) (s : Result (Option A) E) → ((a : A) → P a → R a) → IfOk s (λ o. IfSome o P) → IfOk s (λ o. IfSome o R)
-found_also P R (Ok (Some a)) f x = f a x
-found_also P R (Ok None) f x = tt
-found_also P R (Err e) f x = tt
 
 pub some_ok : {A : Type 0} (P : A → Type 0) (o : Option A) (a : A) → o ≡ Some a → IfSome o P → P a
 some_ok P o a e p = value (subst (λ u. IfSome u P) e p)

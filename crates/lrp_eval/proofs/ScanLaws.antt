@@ -42,7 +42,7 @@ use Rattle.lrp_eval.proofs.Named.{all_of, scan_variables, time_named, data_named
 use Rattle.lrp_eval.proofs.Nexts.{formula_kind, reach_kind, keeps_kind, period_nat, own_variables, sound_plan, sound_step, meant, ran, no_order, IsMeant}
 use Rattle.lrp_eval.proofs.Reading.{step_small, own_periods, high, low}
 use Rattle.lrp_plan_laws.proofs.Members.{all_by}
-use Rattle.lrp_algebra.proofs.Steps.{abs_is}
+use Rattle.lrp_steps.proofs.Steps.{abs_is}
 
 -- ---- rows of a relation that is kept
 

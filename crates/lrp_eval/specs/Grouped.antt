@@ -1,6 +1,6 @@
 -- Groups of steps whose tables are held in parts.
 use Rattle.std.specs.Prelude.{◌≡◌, ◌⊎◌, ◌↔◌, ◌+◌, ◌-◌, ◌^◌, ◌<◌, ◌≤◌, ℕ, suc, ℤ, pos, nat_abs, List, [], ◌∷◌, length, Some, slice_get, Result, Ok}
-use Rattle.lrp_model.specs.Texts.{Ascends, Text}
+use Rattle.lrp_model.specs.Texts.{Ascends, Identifier, Text}
 use Rattle.lrp_model.specs.Formulas.{Question}
 use Rattle.lrp_model.specs.Variables.{free}
 use Rattle.lrp_model.specs.Satisfaction.{Assignment, Satisfies, structure}
@@ -10,7 +10,7 @@ use Rattle.lrp_model.specs.Steps.{PlanStep, Steps, formula_at, step_at}
 use Rattle.lrp_model.specs.declared.relations.Relation.{Relation}
 use Rattle.lrp_model.specs.declared.plans.Plan.{Plan}
 use Rattle.lrp_model.specs.declared.plans.Step.{Step}
-use Rattle.lrp_model.specs.declared.plans.StepKind.TheVariants.{Extend}
+use Rattle.lrp_model.specs.declared.plans.StepKind.TheVariants.{DropTime, Extend}
 use Rattle.lrp_store.specs.Stores.{HasReach, IsStore}
 use Rattle.lrp_tables.specs.declared.table.Table.{Table}
 use Rattle.lrp_tables.specs.declared.table.StepFault.{StepFault}
@@ -104,6 +104,16 @@ pub record IsSmallStep (g : Group) (place : ℕ) (step : Step) : Type 0 where
 -- the step after these
 abbrev pub IsNextStep : Group → List (List Table) → Step → Type 0
 IsNextStep g made step = IsSmallStep g (length g.tables.now + length made) step
+
+-- in each query that has the plan, the step after these has no more than cap cells
+abbrev pub IsNextFew : ℕ → Group → List (List Table) → Type 0
+IsNextFew cap g made = (planned : Steps) (q : Question) → IsPlanOf planned g.database.now q g.plan.now → AreRun planned g.database.now q cap g.tables.now → ManyAt planned g.database.now q cap (next_step_number g made) → ⊥
+
+-- the step drops a time of the last one of these
+pub record IsLastDropped (g : Group) (made : List (List Table)) (step : Step) : Type 0 where
+  pub name : Identifier
+  pub some : 0 < length made
+  pub kind : step.kind ≡ DropTime (length g.tables.now + length made) name
 
 -- the parts of a step by its number: those that the group has made, or its table alone, which has small bounds
 pub record IsTableBefore (g : Group) (number : ℕ) (parts : List Table) : Type 0 where

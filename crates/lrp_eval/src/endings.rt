@@ -1,5 +1,5 @@
 // The last steps of a plan in parts: these are the answer, and no cells of the query's period are made.
-ghost use Rattle.std.specs.Prelude.{◌≡◌, ◌≢◌, ◌+◌, IfErr, IfOk, IfSome, IsTrue, Contains, length};
+ghost use Rattle.std.specs.Prelude.{◌≡◌, ◌≢◌, ◌+◌, IfErr, IfOk, IsTrue, Contains, length};
 ghost use Rattle.lrp_model.specs.Formulas.{Question};
 ghost use Rattle.lrp_model.specs.Steps.{Steps};
 ghost use Rattle.lrp_store.specs.Stores.{HasReach, IsStore};
@@ -7,7 +7,7 @@ ghost use Rattle.lrp_tables.specs.declared.table.Table.{Table as TableOf};
 ghost use Rattle.lrp_tables.specs.Columns.{head_times, head_texts};
 ghost use Rattle.lrp_periods.specs.Parts.{part_times, part_texts};
 ghost use Rattle.lrp_eval.specs.Ending.{AreLastHeld, AreOverHead, CanEndEarly, CanStandOver, IsEndedEarly, IsEndedNearest, IsEnding, IsNearestHeld, IsWanted};
-ghost use Rattle.lrp_eval.specs.Grouped.{AreHeld, CanRunGroup, HaveFew, IsGroupHeld, IsNextStep, next_step_number};
+ghost use Rattle.lrp_eval.specs.Grouped.{AreHeld, CanRunGroup, HaveFew, IsGroupHeld, IsLastDropped, IsNextFew, IsNextStep, next_step_number};
 ghost use Rattle.lrp_eval.specs.Planned.{HasAnswers, IsEvalCause, IsPlanOf, IsSomePlan};
 
 use crate::evaluation::{EvalFault, last_of, run_next};
@@ -16,8 +16,8 @@ use crate::groups::{Group, bound_of, parts_of, small_step, step_in_parts};
 use crate::heading::{has_columns, is_headed};
 use crate::worth::{is_complement, most_in_parts, most_to_end};
 use lrp_database::Database;
-use lrp_model::{Head, List, Memory, Plan, Step, StepKind};
-use lrp_periods::{PartsFault, can_be_sifted, extend_in_parts, has_reach, nearest_left};
+use lrp_model::{Head, List, Plan, Step, StepKind};
+use lrp_periods::{PartsFault, can_be_sifted, extend_in_parts, nearest_left};
 use lrp_tables::{Setting, Table};
 use std::alloc::Global;
 
@@ -106,9 +106,9 @@ pub(crate) fn run_ending(
             continue;
         }
         match run_early(&setting, &asked, tables.as_slice()) {
-            Ok(Some(ending)) => return Ok(ending),
-            Ok(None) => {}
-            Err(_) => return Err(EvalFault::Memory),
+            Ok(ending) => return Ok(ending),
+            Err(PartsFault::GivenUp) => {}
+            Err(PartsFault::Memory) => return Err(EvalFault::Memory),
         }
         if is_headed(tables.as_slice(), &plan.head, plan.steps.at(number)) {
             return Ok(Ending::Whole(last_of(tables)));
@@ -121,43 +121,43 @@ pub(crate) fn run_ending(
     Ok(Ending::Whole(last_of(tables)))
 }
 
-// What the steps after these tables end with, where it is worth it to run them in parts. `None` says nothing.
+// What the steps after these tables end with, where it is worth it to run them in parts.
 fn run_early(
     setting: &Setting<'_>,
     asked: &Asked<'_>,
     tables: &[Table],
-) -> Result<Option<Ending>, Memory>
+) -> Result<Ending, PartsFault>
     requires { CanEndEarly setting.now.cap setting.now.domain.now asked.now tables.now }
-    ensures ending { IfOk result (λ found. IfSome found
-        (IsEndedEarly asked.now.database.now asked.now.plan.now setting.now.cap tables.now)) }
-    ensures wanted { IfOk result (λ found. IfSome found (IsWanted asked.now.wanted)) }
+    ensures ending { IfOk result (IsEndedEarly asked.now.database.now asked.now.plan.now
+        setting.now.cap tables.now) }
+    ensures wanted { IfOk result (IsWanted asked.now.wanted) }
 {
     match asked.wanted {
-        Wanted::Table => Ok(None),
+        Wanted::Table => Err(PartsFault::GivenUp),
         Wanted::Answers => run_to_end(setting, asked, tables),
         Wanted::First => match run_to_nearest(setting, asked, tables) {
-            Ok(Some(table)) => Ok(Some(Ending::Nearest(table))),
-            Ok(None) => run_to_end(setting, asked, tables),
-            Err(fault) => Err(fault),
+            Ok(table) => Ok(Ending::Nearest(table)),
+            Err(PartsFault::GivenUp) => run_to_end(setting, asked, tables),
+            Err(PartsFault::Memory) => Err(PartsFault::Memory),
         },
     }
 }
 
-// The parts of the last steps after these tables, where it is worth it to run them in parts. `None` says nothing.
+// The parts of the last steps after these tables, where it is worth it to run them in parts.
 fn run_to_end(
     setting: &Setting<'_>,
     asked: &Asked<'_>,
     tables: &[Table],
-) -> Result<Option<Ending>, Memory>
+) -> Result<Ending, PartsFault>
     requires can { CanEndEarly setting.now.cap setting.now.domain.now asked.now tables.now }
     requires wanted { asked.now.wanted ≢ Wanted.Table }
-    ensures ending { IfOk result (λ found. IfSome found
-        (IsEndedEarly asked.now.database.now asked.now.plan.now setting.now.cap tables.now)) }
-    ensures wanted { IfOk result (λ found. IfSome found (IsWanted asked.now.wanted)) }
+    ensures ending { IfOk result (IsEndedEarly asked.now.database.now asked.now.plan.now
+        setting.now.cap tables.now) }
+    ensures wanted { IfOk result (IsWanted asked.now.wanted) }
 {
     let (database, plan) = (asked.database, asked.plan);
     let Some(most) = most_to_end(setting.alloc, database, plan, tables, setting.cap) else {
-        return Ok(None);
+        return Err(PartsFault::GivenUp);
     };
     let group = Group {
         database: asked.database,
@@ -167,29 +167,28 @@ fn run_to_end(
         most,
     };
     match run_last(setting, &group) {
-        Ok(parts) => Ok(Some(Ending::Parts(parts))),
-        Err(PartsFault::GivenUp) => Ok(None),
-        Err(PartsFault::Memory) => Err(Memory),
+        Ok(parts) => Ok(Ending::Parts(parts)),
+        Err(fault) => Err(fault),
     }
 }
 
 // The first answer of the last steps after these tables, where they are worth it to be run in parts and end with a complement
-// of which few residues are asked for. `None` says nothing.
+// of which few residues are asked for.
 fn run_to_nearest(
     setting: &Setting<'_>,
     asked: &Asked<'_>,
     tables: &[Table],
-) -> Result<Option<Table>, Memory>
+) -> Result<Table, PartsFault>
     requires { CanEndEarly setting.now.cap setting.now.domain.now asked.now tables.now }
-    ensures { IfOk result (λ found. IfSome found
-        (IsEndedNearest asked.now.database.now asked.now.plan.now setting.now.cap tables.now)) }
+    ensures { IfOk result (IsEndedNearest asked.now.database.now asked.now.plan.now
+        setting.now.cap tables.now) }
 {
     let (database, plan) = (asked.database, asked.plan);
     if !ends_with_complement(plan) {
-        return Ok(None);
+        return Err(PartsFault::GivenUp);
     }
     let Some(most) = most_in_parts(setting.alloc, database, plan, tables, setting.cap) else {
-        return Ok(None);
+        return Err(PartsFault::GivenUp);
     };
     let group = Group {
         database: asked.database,
@@ -199,9 +198,8 @@ fn run_to_nearest(
         most,
     };
     match run_nearest(setting, &group) {
-        Ok(table) => Ok(Some(table)),
-        Err(PartsFault::GivenUp) => Ok(None),
-        Err(PartsFault::Memory) => Err(Memory),
+        Ok(table) => Ok(table),
+        Err(fault) => Err(fault),
     }
 }
 
@@ -260,12 +258,52 @@ fn run_before(setting: &Setting<'_>, group: &Group<'_>) -> Result<List<List<Tabl
         }
         let step = small_step(group, place)?;
         let parts = step_in_parts(setting, group, &made, step)?;
-        let Some(_) = bound_of(setting, parts.as_slice(), step) else {
+        if !has_few(setting, group, &made, parts.as_slice(), step) {
             return Err(PartsFault::GivenUp);
-        };
+        }
         made.push(parts)?;
     }
     Err(PartsFault::GivenUp)
+}
+
+// Whether the next step, which has these parts, has no more cells of its period than the cap.
+//
+// One that drops a time of the step before it has no more cells than that one.
+fn has_few(
+    setting: &Setting<'_>,
+    group: &Group<'_>,
+    made: &List<List<Table>>,
+    parts: &[Table],
+    step: &Step,
+) -> bool
+    requires group { CanRunGroup setting.now.cap setting.now.domain.now group.now }
+    requires made { AreHeld setting.now.cap group.now made.now }
+    requires step { IsNextStep group.now made.now step.now }
+    requires parts { IsGroupHeld setting.now.cap group.now (next_step_number group.now made.now) parts.now }
+    ensures { IsTrue result → IsNextFew setting.now.cap group.now made.now }
+{
+    if drops_last(group, made, step) {
+        return true;
+    }
+    bound_of(setting, parts, step).is_some()
+}
+
+// Whether the step drops a time of the last one of these.
+fn drops_last(group: &Group<'_>, made: &List<List<Table>>, step: &Step) -> bool
+    ensures { IsTrue result → IsLastDropped group.now made.now step.now }
+{
+    let StepKind::DropTime { of, .. } = &step.kind else {
+        return false;
+    };
+    let number = *of as usize;
+    let before = group.tables.len();
+    if number <= before {
+        return false;
+    }
+    if number - before != made.len() {
+        return false;
+    }
+    true
 }
 
 // A part with the first number of a complement over the head's one time column, whose period has no more residues than `cap`.
@@ -371,7 +409,7 @@ fn have_reach(parts: &[Table], reach: u64) -> bool
     ensures { IsTrue result → (part : TableOf) → Contains parts.now part → HasReach part.store reach }
 {
     for part in parts {
-        if !has_reach(&part.store, reach) {
+        if !part.store.has_reach(reach) {
             return false;
         }
     }

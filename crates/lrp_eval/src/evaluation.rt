@@ -1,5 +1,5 @@
 // The steps of a plan, one after another.
-ghost use Rattle.std.specs.Prelude.{◌≡◌, ◌<◌, ◌≤◌, ◌+◌, ◌++◌, ◌∷◌, [], ℕ, suc, length, List as ListOf, IfOk, IfErr, IfSome};
+ghost use Rattle.std.specs.Prelude.{◌≡◌, ◌<◌, ◌≤◌, ◌+◌, ◌++◌, ◌∷◌, [], ℕ, suc, length, List as ListOf, ◌^◌, IfOk, IfErr};
 ghost use Rattle.lrp_store.specs.Stores.{IsStore};
 ghost use Rattle.lrp_tables.specs.declared.table.Table.{Table as TableOf};
 ghost use Rattle.lrp_tables.specs.declared.table.StepFault.TheVariants.{TooManyCells as too_many};
@@ -13,7 +13,8 @@ use crate::freeing::{give_up, nothing};
 use crate::groups::run_in_parts;
 use crate::growing::run_growing;
 use lrp_database::Database;
-use lrp_model::{List, Memory, Plan};
+use lrp_model::{List, Memory, Plan, numbered};
+use lrp_periods::PartsFault;
 use lrp_tables::{Setting, StepFault, Table};
 use std::alloc::Global;
 use thiserror::Error;
@@ -56,30 +57,30 @@ pub(crate) fn run_next(
     ensures fault { IfErr result (NamesFirstMany database.now plan.now setting.now.cap tables) }
 {
     match run_several(setting, database, plan, readers, tables.as_slice()) {
-        Ok(Some(together)) => Ok(with_together(setting.alloc, tables, together)?),
-        Ok(None) => run_one(setting, database, plan, readers, tables),
-        Err(_) => Err(EvalFault::Memory),
+        Ok(together) => Ok(with_together(setting.alloc, tables, together)?),
+        Err(PartsFault::GivenUp) => run_one(setting, database, plan, readers, tables),
+        Err(PartsFault::Memory) => Err(EvalFault::Memory),
     }
 }
 
-// Runs some of the next steps together, or in parts, where that is worth it. `None` says nothing.
+// Runs some of the next steps together, or in parts, where that is worth it.
 fn run_several(
     setting: &Setting<'_>,
     database: &Database,
     plan: &Plan,
     readers: &[usize],
     tables: &[Table],
-) -> Result<Option<Together>, Memory>
+) -> Result<Together, PartsFault>
     requires domain { setting.now.domain.now ≡ plan.now.domain }
     requires plan { AreRunBySome database.now plan.now setting.now.cap tables.now }
-    ensures table { IfOk result (λ found. IfSome found
-        (AreStepsGrouped database.now plan.now setting.now.cap readers.now tables.now)) }
-    ensures inside { IfOk result (λ found. IfSome found (AreInside plan.now tables.now)) }
+    ensures table { IfOk result (AreStepsGrouped database.now plan.now setting.now.cap readers.now
+        tables.now) }
+    ensures inside { IfOk result (AreInside plan.now tables.now) }
 {
     match run_together(setting, plan, readers, tables) {
-        Ok(Some(together)) => Ok(Some(together)),
-        Ok(None) => run_in_parts(setting, database, plan, readers, tables),
-        Err(fault) => Err(fault),
+        Ok(together) => Ok(together),
+        Err(PartsFault::GivenUp) => run_in_parts(setting, database, plan, readers, tables),
+        Err(PartsFault::Memory) => Err(PartsFault::Memory),
     }
 }
 
@@ -143,13 +144,15 @@ pub(crate) fn last_of(tables: List<Table>) -> Table
 
 // The fault of the step after these tables, by their number.
 fn fault_after(tables: usize, fault: StepFault) -> EvalFault
+    requires { tables < 2 ^ 63 }
     ensures { (step : ℕ) → result ≡ EvalFault.TooManyCells step → (fault ≡ too_many)
         × (step ≡ suc tables) }
 {
-    match (fault, u32::try_from(tables)) {
-        (StepFault::TooManyCells, Ok(tables)) if tables < u32::MAX => {
-            EvalFault::TooManyCells { step: tables + 1 }
-        }
-        _ => EvalFault::Memory,
+    match fault {
+        StepFault::TooManyCells => match numbered(tables + 1) {
+            Ok(step) => EvalFault::TooManyCells { step },
+            Err(memory) => EvalFault::from(memory),
+        },
+        StepFault::Memory => EvalFault::Memory,
     }
 }

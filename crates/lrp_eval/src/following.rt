@@ -6,6 +6,7 @@ ghost use Rattle.lrp_eval.specs.Together.{AreDroppedFrom, AreInside, ArePassed, 
 use crate::projecting::{Projection, projected};
 use crate::together::{Narrowing, narrowed};
 use lrp_model::{Copies, List, Memory, Name, Plan, Step, StepKind};
+use lrp_periods::PartsFault;
 use lrp_tables::{Setting, Table};
 use std::alloc::Global;
 
@@ -19,23 +20,22 @@ pub(crate) struct Together {
     pub(crate) table: Table,
 }
 
-/// Runs some of the steps after these tables together, where that is worth it. `None` says nothing.
+/// Runs some of the steps after these tables together, where that is worth it.
 pub(crate) fn run_together(
     setting: &Setting<'_>,
     plan: &Plan,
     readers: &[usize],
     tables: &[Table],
-) -> Result<Option<Together>, Memory>
+) -> Result<Together, PartsFault>
     requires domain { setting.now.domain.now ≡ plan.now.domain }
     requires plan { IsSomeRun plan.now setting.now.cap tables.now }
-    ensures table { IfOk result (λ found. IfSome found
-        (AreTogether plan.now setting.now.cap readers.now tables.now)) }
-    ensures inside { IfOk result (λ found. IfSome found (AreInside plan.now tables.now)) }
+    ensures table { IfOk result (AreTogether plan.now setting.now.cap readers.now tables.now) }
+    ensures inside { IfOk result (AreInside plan.now tables.now) }
 {
     match run_narrowing(setting, plan, readers, tables) {
-        Ok(Some(together)) => Ok(Some(together)),
-        Ok(None) => run_projection(setting, plan, readers, tables),
-        Err(fault) => Err(fault),
+        Ok(together) => Ok(together),
+        Err(PartsFault::GivenUp) => run_projection(setting, plan, readers, tables),
+        Err(PartsFault::Memory) => Err(PartsFault::Memory),
     }
 }
 
@@ -45,21 +45,17 @@ fn run_narrowing(
     plan: &Plan,
     readers: &[usize],
     tables: &[Table],
-) -> Result<Option<Together>, Memory>
+) -> Result<Together, PartsFault>
     requires domain { setting.now.domain.now ≡ plan.now.domain }
     requires plan { IsSomeRun plan.now setting.now.cap tables.now }
-    ensures table { IfOk result (λ found. IfSome found
-        (AreTogether plan.now setting.now.cap readers.now tables.now)) }
-    ensures inside { IfOk result (λ found. IfSome found (AreInside plan.now tables.now)) }
+    ensures table { IfOk result (AreTogether plan.now setting.now.cap readers.now tables.now) }
+    ensures inside { IfOk result (AreInside plan.now tables.now) }
 {
     let Some(narrowing) = narrowing_at(plan.steps.as_slice(), readers, tables.len()) else {
-        return Ok(None);
+        return Err(PartsFault::GivenUp);
     };
-    match narrowed(setting, tables, &narrowing) {
-        Ok(Some(table)) => Ok(Some(Together { between: 2, table })),
-        Ok(None) => Ok(None),
-        Err(fault) => Err(fault),
-    }
+    let table = narrowed(setting, tables, &narrowing)?;
+    Ok(Together { between: 2, table })
 }
 
 // A join and the steps that drop time variables of it.
@@ -68,25 +64,21 @@ fn run_projection(
     plan: &Plan,
     readers: &[usize],
     tables: &[Table],
-) -> Result<Option<Together>, Memory>
+) -> Result<Together, PartsFault>
     requires domain { setting.now.domain.now ≡ plan.now.domain }
     requires plan { IsSomeRun plan.now setting.now.cap tables.now }
-    ensures table { IfOk result (λ found. IfSome found
-        (AreTogether plan.now setting.now.cap readers.now tables.now)) }
-    ensures inside { IfOk result (λ found. IfSome found (AreInside plan.now tables.now)) }
+    ensures table { IfOk result (AreTogether plan.now setting.now.cap readers.now tables.now) }
+    ensures inside { IfOk result (AreInside plan.now tables.now) }
 {
     let at = tables.len();
     let projection = match projection_at(setting.alloc, plan.steps.as_slice(), readers, at) {
         Ok(Some(projection)) => projection,
-        Ok(None) => return Ok(None),
-        Err(fault) => return Err(fault),
+        Ok(None) => return Err(PartsFault::GivenUp),
+        Err(memory) => return Err(memory.into()),
     };
     let between = projection.names.len();
-    match projected(setting, tables, &projection) {
-        Ok(Some(table)) => Ok(Some(Together { between, table })),
-        Ok(None) => Ok(None),
-        Err(fault) => Err(fault),
-    }
+    let table = projected(setting, tables, &projection)?;
+    Ok(Together { between, table })
 }
 
 /// The three steps from this place on, where they narrow a difference and nothing else reads the first two.

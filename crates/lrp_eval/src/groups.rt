@@ -11,11 +11,11 @@ use crate::sorting::sort_step;
 use crate::worth::{is_complement, most_in_parts};
 use lrp_algebra::leaf;
 use lrp_database::Database;
-use lrp_model::{List, Memory, Plan, Step, StepKind};
+use lrp_model::{List, Plan, Step, StepKind};
 use lrp_periods::{
     PartsFault, can_be_sifted, cells_at_most, cells_of_table, complement_in_parts,
-    drop_data_in_parts, drop_time_in_parts, has_reach, join_in_parts, minus_in_parts,
-    scan_in_parts, select_in_parts, sifted, union_in_parts, whole,
+    drop_data_in_parts, drop_time_in_parts, join_in_parts, minus_in_parts, scan_in_parts,
+    select_in_parts, sifted, union_in_parts, whole,
 };
 use lrp_tables::{Setting, StepFault, Table};
 
@@ -35,22 +35,22 @@ pub(crate) struct Group<'a> {
     pub(crate) most: u32,
 }
 
-/// Runs some of the steps after these tables in parts, where that is worth it. `None` says nothing.
+/// Runs some of the steps after these tables in parts, where that is worth it.
 pub(crate) fn run_in_parts(
     setting: &Setting<'_>,
     database: &Database,
     plan: &Plan,
     readers: &[usize],
     tables: &[Table],
-) -> Result<Option<Together>, Memory>
+) -> Result<Together, PartsFault>
     requires domain { setting.now.domain.now ≡ plan.now.domain }
     requires plan { AreRunBySome database.now plan.now setting.now.cap tables.now }
-    ensures table { IfOk result (λ found. IfSome found
-        (AreStepsGrouped database.now plan.now setting.now.cap readers.now tables.now)) }
-    ensures inside { IfOk result (λ found. IfSome found (AreInside plan.now tables.now)) }
+    ensures table { IfOk result (AreStepsGrouped database.now plan.now setting.now.cap readers.now
+        tables.now) }
+    ensures inside { IfOk result (AreInside plan.now tables.now) }
 {
     let Some(most) = most_in_parts(setting.alloc, database, plan, tables, setting.cap) else {
-        return Ok(None);
+        return Err(PartsFault::GivenUp);
     };
     let group = Group {
         database,
@@ -60,12 +60,11 @@ pub(crate) fn run_in_parts(
         most,
     };
     if !has_end(&group) {
-        return Ok(None);
+        return Err(PartsFault::GivenUp);
     }
     match run_group(setting, &group) {
-        Ok(together) => Ok(Some(together)),
-        Err(PartsFault::GivenUp) => Ok(None),
-        Err(PartsFault::Memory) => Err(Memory),
+        Ok(together) => Ok(together),
+        Err(fault) => Err(fault),
     }
 }
 
@@ -177,7 +176,7 @@ fn ended(
     ensures { IfOk result (IsGroupRun setting.now.cap group.now) }
 {
     let table = whole_of(setting, parts, step)?;
-    if !has_reach(&table.store, step.reach.unsigned_abs()) {
+    if !table.store.has_reach(step.reach.unsigned_abs()) {
         return Err(PartsFault::GivenUp);
     }
     Ok(Together {
@@ -261,7 +260,7 @@ fn only(parts: List<Table>) -> Table
 fn one_part(setting: &Setting<'_>, table: Table) -> Result<List<Table>, PartsFault>
     ensures { IfOk result (IsOnePart table) }
 {
-    if !has_reach(&table.store, SMALL) {
+    if !table.store.has_reach(SMALL) {
         return Err(PartsFault::GivenUp);
     }
     table.store.shape();
@@ -295,7 +294,7 @@ pub(crate) fn parts_of<'a>(
     if place >= before {
         return Ok(made.at(place - before).as_slice());
     }
-    if !has_reach(&operand(group.tables, number).store, SMALL) {
+    if !operand(group.tables, number).store.has_reach(SMALL) {
         return Err(PartsFault::GivenUp);
     }
     Ok(&group.tables[place..place + 1])

@@ -5,9 +5,9 @@ ghost use Rattle.lrp_eval.specs.Running.{AreRunBySome, IsOperand};
 
 use crate::freeing::nothing;
 use crate::running::{operand, run_step};
-use lrp_algebra::unite;
 use lrp_database::Database;
 use lrp_model::{List, Plan, Step, StepKind};
+use lrp_steps::unite;
 use lrp_tables::{Setting, StepFault, Table};
 use std::alloc::Global;
 use std::mem;

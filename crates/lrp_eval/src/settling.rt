@@ -88,10 +88,7 @@ fn add_all(store: &mut Store, cell: &Cell, zones: &[Zone]) -> Result<(), Memory>
     ensures { OnOk result (AddsZones cell.now zones.now store.old store.new) }
 {
     for zone in zones {
-        match store.add(cell, zone, u32::MAX) {
-            Ok(()) => {}
-            Err(_) => return Err(Memory),
-        }
+        store.put(cell, zone)?;
     }
     Ok(())
 }

@@ -17,7 +17,7 @@ use Rattle.lrp_tables.specs.Columns.{joint}
 use Rattle.lrp_tables.specs.Steps.{CanUnite, IsUnionResult}
 use Rattle.lrp_tables.specs.Tables.{HasAssignment, HasTexts, IsTableOf, IsUnited}
 use Rattle.lrp_tables.proofs.TableLaws.{table_texts}
-use Rattle.lrp_algebra.proofs.Steps.{farther}
+use Rattle.lrp_steps.proofs.Steps.{farther}
 use Rattle.lrp_periods.specs.Combining.{IsNothingOver}
 use Rattle.lrp_periods.specs.Operations.{AreOperand, IsWholeResult}
 use Rattle.lrp_periods.specs.Parts.{HasSome, IsPeriodPart, part_times, part_texts}

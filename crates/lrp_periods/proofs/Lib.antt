@@ -7,7 +7,6 @@ pub mod NearestLaws
 pub mod OneByOne
 pub mod PartLaws
 pub mod PeriodLaws
-pub mod ReachLaws
 pub mod ScanParts
 pub mod SideBySide
 pub mod Sieving

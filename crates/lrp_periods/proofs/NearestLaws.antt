@@ -17,7 +17,7 @@ use Rattle.lrp_tables.specs.Caps.{Inhabits, InhabitsMoreThan}
 use Rattle.lrp_tables.specs.Tables.{named_variables}
 use Rattle.lrp_tables.proofs.Gathering.{added_as}
 use Rattle.lrp_model.specs.Cells.{Differ}
-use Rattle.lrp_algebra.proofs.Steps.{empty_store, farther, positive}
+use Rattle.lrp_steps.proofs.Steps.{empty_store, farther, positive}
 use Rattle.lrp_periods.specs.Nearest.{AreCoversWithin, HasRankedResidue, IsNearestLeft, IsNearestOpen, IsOfResidue}
 use Rattle.lrp_periods.specs.Operations.{AreOperand}
 use Rattle.lrp_periods.specs.Parts.{HasSome, IsPartOfSet, part_texts, part_times}

@@ -11,8 +11,8 @@ use Rattle.lrp_tables.specs.Calls.{test_period}
 use Rattle.lrp_tables.specs.Columns.{texts_of_test, times_of_test}
 use Rattle.lrp_tables.specs.Steps.{CanSelect}
 use Rattle.lrp_tables.specs.Tables.{AreNamesAmong, HasAssignment, IsSelected, IsTableOf}
-use Rattle.lrp_algebra.specs.Tables.{IsTextDropped, IsTimeDropped}
-use Rattle.lrp_algebra.proofs.Steps.{farther}
+use Rattle.lrp_steps.specs.Tables.{IsTextDropped, IsTimeDropped}
+use Rattle.lrp_steps.proofs.Steps.{farther}
 use Rattle.lrp_dropping.specs.Without.{IsTimeCompleted}
 use Rattle.lrp_periods.specs.Combining.{CanSelectPart, IsMadeOfSome}
 use Rattle.lrp_periods.specs.Operations.{AreOperand, CanSelectInParts}

@@ -18,8 +18,8 @@ use Rattle.lrp_tables.specs.Steps.{CanUnite}
 use Rattle.lrp_tables.specs.Tables.{HasAssignment, HasTexts, IsTableOf, IsUnited}
 use Rattle.lrp_tables.proofs.Joining.{at_place, joint_within}
 use Rattle.lrp_tables.proofs.TableLaws.{table_texts}
-use Rattle.lrp_algebra.proofs.Steps.{farther}
-use Rattle.lrp_algebra.proofs.United.{apart_names}
+use Rattle.lrp_steps.proofs.Steps.{farther}
+use Rattle.lrp_steps.proofs.United.{apart_names}
 use Rattle.lrp_periods.specs.Combining.{AreAllParts, CanAddPart, IsPlaceWith, IsSomePart}
 use Rattle.lrp_periods.specs.Parts.{ArePartsAdded, IsPeriodPart, IsPartOfSet, IsSmallPeriod}
 use Rattle.lrp_periods.specs.declared.parts.PartsFault.{PartsFault}

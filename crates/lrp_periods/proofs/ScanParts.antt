@@ -26,7 +26,7 @@ use Rattle.lrp_tables.specs.Calls.{CanBeRow, CanStand}
 use Rattle.lrp_tables.specs.Columns.{scan_times, scan_texts}
 use Rattle.lrp_tables.specs.Steps.{CanScan}
 use Rattle.lrp_tables.specs.Tables.{IsScanned, IsTableOf}
-use Rattle.lrp_algebra.specs.Rows.{DividesPeriod}
+use Rattle.lrp_steps.specs.Rows.{DividesPeriod}
 use Rattle.lrp_plan_laws.proofs.Members.{all_by, all_of}
 use Rattle.lrp_periods.specs.Combining.{AreAllParts}
 use Rattle.lrp_periods.specs.Parts.{ArePartsAdded, ArePartsOf, HasSome, IsPartOfSet, IsSmallPeriod}

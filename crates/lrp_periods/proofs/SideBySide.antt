@@ -21,7 +21,7 @@ use Rattle.lrp_tables.specs.declared.table.Table.{Table}
 use Rattle.lrp_tables.specs.Columns.{joint}
 use Rattle.lrp_tables.specs.Steps.{CanUnite}
 use Rattle.lrp_tables.specs.Tables.{HasAssignment, HasTexts, IsTableOf, IsUnited}
-use Rattle.lrp_algebra.proofs.Steps.{farther}
+use Rattle.lrp_steps.proofs.Steps.{farther}
 use Rattle.lrp_periods.specs.Combining.{CanStandBeside, IsMadeOfSome, IsNothingOver}
 use Rattle.lrp_periods.specs.Operations.{CanCombineInParts}
 use Rattle.lrp_periods.specs.Parts.{ArePartsAdded, HasSome, IsPartOfSet, part_times, part_texts}

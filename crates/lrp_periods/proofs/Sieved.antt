@@ -13,7 +13,7 @@ use Rattle.lrp_store.specs.Tables.{AreTexts}
 use Rattle.lrp_tables.specs.declared.table.Table.{Table}
 use Rattle.lrp_tables.specs.Tables.{HasAssignment, HasTexts, IsTableOf}
 use Rattle.lrp_tables.proofs.CellsNamed.{AreTuplesOf}
-use Rattle.lrp_algebra.proofs.Steps.{empty_store, farther, positive, step_reach, step_table}
+use Rattle.lrp_steps.proofs.Steps.{empty_store, farther, positive, step_reach, step_table}
 use Rattle.lrp_periods.specs.Operations.{AreOperand}
 use Rattle.lrp_periods.specs.Parts.{HasSome, IsPartOfSet, part_texts, part_times}
 use Rattle.lrp_periods.specs.Sets.{IsComplementOf}

@@ -1,22 +1,25 @@
 -- The numbers of one time column that parts cover.
-use Rattle.std.proofs.Common.{◌≡◌, ◌⊎◌, inl, inr, ⊎_elim, ℕ, zero, suc, ◌+◌, ◌<◌, ◌≤◌, List, [], ◌∷◌, ◌++◌, length, take, replicate, Option, Some, None, Bool, true, false, Contains, get_or, refl, sym, ap, subst, ◌∙◌, arith, length-append, ◌%◌}
-use Rattle.std.specs.Prelude.{ℤ, pos, nat_abs, ◌-ℤ◌, ◌≤ℤ◌, ◌<ℤ◌, slice_get, slice_index_or}
+use Rattle.std.proofs.Common.{◌≡◌, ◌⊎◌, inl, inr, ⊎_elim, ℕ, zero, suc, ◌+◌, ◌<◌, ◌≤◌, List, [], ◌∷◌, length, take, replicate, Option, Some, None, Bool, true, false, Contains, get_or, refl, sym, ap, subst, ◌∙◌, arith, ◌%◌}
+use Rattle.std.specs.Prelude.{ℤ, pos, nat_abs, ◌-ℤ◌, ◌≤ℤ◌, ◌<ℤ◌, slice_get, slice_index_or, slice_set, unwrap_or}
+use Rattle.std.specs.FinMap as finite
 use Rattle.std.specs.Int.{int_rem_euclid}
 use Rattle.std.proofs.lemmas.Int.{ints}
-use Rattle.std.proofs.lemmas.List.{take_all}
+use Rattle.std.proofs.lemmas.List.{length-replicate, length-set, take_all}
 use Rattle.std.proofs.lemmas.List.Elements.{Contains-append_cases}
 use Rattle.lrp_theory.specs.Divides.{Divides}
 use Rattle.lrp_theory.specs.Entries.{node}
-use Rattle.lrp_theory.proofs.Members.{front_more, in_none, in_one}
+use Rattle.lrp_theory.proofs.Members.{front_more, head_in, in_cons, in_none, in_one, later}
 use Rattle.lrp_theory.proofs.Modulo.{Divides--, Divides-is, Divides-zero, rem_between, rem_divides, small_multiple}
 use Rattle.lrp_theory.proofs.Multiples.{Divides-trans}
+use Rattle.lrp_model.specs.declared.tuples.Cell.{Cell}
 use Rattle.lrp_model.specs.declared.tuples.Shape.{Shape}
 use Rattle.lrp_zone.specs.Zones.{IsMember, IsResidue, greatest_of}
 use Rattle.lrp_store.specs.Growing.{IsAdded, IsTupleOf}
-use Rattle.lrp_store.specs.Stores.{BeginsWhole, InStore, IsCellOf, LiesInCell, StoreView, tables_at, zone_of}
-use Rattle.lrp_store.proofs.Counted.{lies_in, one_cell}
+use Rattle.lrp_store.specs.Stores.{BeginsWhole, InStore, IsCellOf, IsHeld, LiesInCell, StoreView, tables_at, zone_of}
+use Rattle.lrp_store.proofs.Counted.{first_of, key_held, lies_in, one_cell}
 use Rattle.lrp_store.proofs.Grown.{grown_same}
 use Rattle.lrp_store.proofs.Held.{cell_held, node_take}
+use Rattle.lrp_store.proofs.ZoneCounts.{key_is}
 use Rattle.lrp_tables.proofs.FreeZones.{free_zone}
 use Rattle.lrp_tables.proofs.Gathering.{IsGathering, added_as, gathered, gathering_more, gathering_none}
 use Rattle.lrp_periods.specs.Sieves.{CanSift, HasWholeCells, IsCoveredNumber, IsCoverOf, IsLeftOpen, IsLineStore, IsOpen, IsShut, MarksWhole, line_cell}
@@ -136,36 +139,122 @@ module _ (s : StoreView) (line : IsLineStore s) where
 
 -- ---- marks
 
-got_at : {X : Type 0} (xs : List X) (x y : X) (i : ℕ) → slice_get (xs ++ x ∷ []) i ≡ Some y → (slice_get xs i ≡ Some y) ⊎ ((i ≡ length xs) × (x ≡ y))
-got_at [] x y zero e = inr (refl, cc)
-got_at [] x y (suc i) e = cc
-got_at (z ∷ zs) x y zero e = inl e
-got_at (z ∷ zs) x y (suc i) e = ⊎_elim (λ l. inl l) (λ r. inr (ap suc r.0, r.1)) (got_at zs x y i e)
+set_here : (marks : List Bool) (place : ℕ) → place < length marks → slice_get (slice_set marks place true) place ≡ Some true
+set_here [] place l = absurd (let f : place < 0 = l in omega (arith, f))
+set_here (mark ∷ marks) zero l = refl
+set_here (mark ∷ marks) (suc place) l = set_here marks place (omega (arith, l))
 
-front_at : {X : Type 0} (xs : List X) (x : X) (i : ℕ) → i < length xs → slice_get (xs ++ x ∷ []) i ≡ slice_get xs i
-front_at [] x i lt = absurd (omega arith)
-front_at (y ∷ xs) x zero lt = refl
-front_at (y ∷ xs) x (suc i) lt = front_at xs x i (omega arith)
+set_kept : (marks : List Bool) (place r : ℕ) → slice_get marks r ≡ Some true → slice_get (slice_set marks place true) r ≡ Some true
+set_kept [] place r e = cc
+set_kept (mark ∷ marks) zero zero e = refl
+set_kept (mark ∷ marks) zero (suc r) e = e
+set_kept (mark ∷ marks) (suc place) zero e = e
+set_kept (mark ∷ marks) (suc place) (suc r) e = set_kept marks place r e
 
-last_at : {X : Type 0} (xs : List X) (x : X) → slice_get (xs ++ x ∷ []) (length xs) ≡ Some x
-last_at [] x = refl
-last_at (z ∷ zs) x = last_at zs x
+set_from : (marks : List Bool) (place r : ℕ) → slice_get (slice_set marks place true) r ≡ Some true → (r ≡ place) ⊎ (slice_get marks r ≡ Some true)
+set_from [] place r e = cc
+set_from (mark ∷ marks) zero zero e = inl refl
+set_from (mark ∷ marks) zero (suc r) e = inr e
+set_from (mark ∷ marks) (suc place) zero e = inr e
+set_from (mark ∷ marks) (suc place) (suc r) e = ⊎_elim (λ same. inl (ap suc same)) (λ old. inr old) (set_from marks place r e)
 
-pub marks_none : (s : StoreView) (marks : List Bool) → marks ≡ [] → MarksWhole s marks
-marks_none s marks none = subst (MarksWhole s) (sym none) (record { sound = λ r e. cc; whole = λ r l b. absurd (omega arith) })
+no_mark : (n r : ℕ) → slice_get (replicate n false) r ≡ Some true → ⊥
+no_mark zero r e = cc
+no_mark (suc n) zero e = cc
+no_mark (suc n) (suc r) e = no_mark n r e
 
-pub marks_more : (s : StoreView) (marks new : List Bool) (n : ℕ) (mark : Bool) → n ≡ length marks → new ≡ marks ++ mark ∷ [] → (mark ≡ true → BeginsWhole s (line_cell n)) → (BeginsWhole s (line_cell n) → mark ≡ true) → MarksWhole s marks → MarksWhole s new
-marks_more s marks new n mark count same to from m = subst (MarksWhole s) (sym same) (record {
-  sound = λ r e. ⊎_elim (λ old. m.sound r old) (λ own. subst (λ k. BeginsWhole s (line_cell k)) (count ∙ sym own.0) (to own.1)) (got_at marks mark true r e);
-  whole = λ r l b. elim (below r (length marks)) [
-    | inl less ↦ front_at marks mark r less ∙ m.whole r less b
-    | inr more ↦ (let e : r ≡ length marks = (let a : length (marks ++ mark ∷ []) ≡ length marks + 1 = length-append marks (mark ∷ []) in omega (arith, a, l, more)) in
-        rw e (last_at marks mark ∙ ap Some (from (subst (λ k. BeginsWhole s (line_cell k)) (e ∙ sym count) b))))
-  ];
-})
-  where
-    below : (m n : ℕ) → (m < n) ⊎ (n ≤ m)
-    below m n = grind arith
+-- the residues of the cells that are not left are marked, and no others
+pub record IsMarking (s : StoreView) (left : List Cell) (marks : List Bool) : Type 0 where
+  pub count : length marks ≡ s.period
+  pub known : (cell : Cell) → Contains left cell → Contains (finite.keys s.tables) cell
+  pub sound : (r : ℕ) → slice_get marks r ≡ Some true → BeginsWhole s (line_cell r)
+  pub whole : (r : ℕ) → Contains (finite.keys s.tables) (line_cell r) → Contains left (line_cell r) ⊎ (slice_get marks r ≡ Some true)
+
+-- a cell of the store is that of its residue, and begins with the zone without bounds
+pub record IsWholeLine (s : StoreView) (cell : Cell) : Type 0 where
+  pub residue : ℕ
+  pub low : residue < s.period
+  pub size : length cell.residues ≡ 8
+  pub at : node cell.residues 1 ≡ pos residue
+  pub is : cell ≡ line_cell residue
+  pub begins : BeginsWhole s cell
+
+module _ (s : StoreView) (line : IsLineStore s) (all : HasWholeCells s) where
+  pub whole_line : (cell : Cell) → Contains (finite.keys s.tables) cell → IsWholeLine s cell
+  whole_line cell k =
+      let list = key_held s line.valid (λ xs ns. Unit {0}) 0 cell k in
+      let held : IsHeld s cell list.0 = line.valid.cells cell list.0 list.1 in
+      let table = first_of list.0 held.some in
+      let times : s.shape.times ≡ 1 = line.times in
+      let x : ℤ = node cell.residues 1 in
+      let range : IsResidue s.period x = held.proper.range 1 (omega (arith, times)) in
+      let n = natural_below x s.period range.low range.high in
+      record {
+        residue = n.0;
+        low = n.2;
+        size = held.proper.residues.size;
+        at = n.1;
+        is = one_cell s.shape s.period cell (line_cell n.0) (x ∷ []) [] held.proper (line_proper s.shape s.period n.0 line.times line.texts n.2) (own_lies cell)
+            (line_lies s.shape s.period n.0 x line.times line.texts (subst (λ (t : ℤ). Divides (pos s.period) (x -ℤ t)) n.1 (Divides-is (pos s.period) (pos 0) (x -ℤ x) (omega (arith, ints)) (Divides-zero (pos s.period)))));
+        begins = all cell table.0 (subst (λ l. Contains l table.0) (sym (ap (λ o. unwrap_or o []) list.1)) table.1);
+      }
+    where
+      own_lies : (cell : Cell) → LiesInCell s.shape s.period cell (node cell.residues 1 ∷ []) []
+      own_lies cell = record {
+        count = sym line.times;
+        residues = λ i h. at i (let e : s.shape.times ≡ 1 = line.times in omega (arith, e, h));
+        named = ap (λ n. take n cell.texts) line.texts;
+      }
+        where
+          at : (i : ℕ) → i ≤ 1 → Divides (pos s.period) (node (node cell.residues 1 ∷ []) i -ℤ node cell.residues i)
+          at zero l = Divides-zero (pos s.period)
+          at (suc zero) l = Divides-is (pos s.period) (pos 0) (node cell.residues 1 -ℤ node cell.residues 1) (omega (arith, ints)) (Divides-zero (pos s.period))
+          at (suc (suc i)) l = absurd (omega arith)
+
+  pub marking_none : (left : List Cell) (marks : List Bool) (n : ℕ) → left ≡ finite.keys s.tables → marks ≡ replicate n false → n ≡ s.period → IsMarking s left marks
+  marking_none left marks n e f count = record {
+    count = ap length f ∙ length-replicate n false ∙ count;
+    known = λ cell k. subst (λ l. Contains l cell) e k;
+    sound = λ r m. absurd (no_mark n r (sym (ap (λ l. slice_get l r) f) ∙ m));
+    whole = λ r k. inl (subst (λ l. Contains l (line_cell r)) (sym e) k);
+  }
+
+  -- the next cell is that of its residue
+  pub marking_next : (left rest : List Cell) (cell : Cell) (marks : List Bool) → left ≡ cell ∷ rest → IsMarking s left marks → IsWholeLine s cell
+  marking_next left rest cell marks e m = whole_line cell (m.known cell (subst (λ l. Contains l cell) (sym e) (head_in cell rest)))
+
+  -- and is marked
+  pub marking_more : (left rest : List Cell) (cell : Cell) (marks new : List Bool) (place : ℕ) → left ≡ cell ∷ rest → pos place ≡ node cell.residues 1 → new ≡ slice_set marks place true → IsMarking s left marks → IsMarking s rest new
+  marking_more left rest cell marks new place e at same m =
+      let own = marking_next left rest cell marks e m in
+      let number : place ≡ own.residue = pos_same place own.residue (at ∙ own.at) in
+      subst (IsMarking s rest) (sym same) (record {
+        count = length-set marks place true ∙ m.count;
+        known = λ c k. m.known c (subst (λ l. Contains l c) (sym e) (later cell rest c k));
+        sound = λ r h. ⊎_elim (λ is. subst (λ n. BeginsWhole s (line_cell n)) (sym (is ∙ number)) (subst (BeginsWhole s) own.is own.begins)) (λ old. m.sound r old) (set_from marks place r h);
+        whole = λ r k. ⊎_elim
+            (λ l. ⊎_elim (λ first. inr (subst (λ n. slice_get (slice_set marks place true) n ≡ Some true) (number ∙ line_same own.residue r (sym own.is ∙ first)) (set_here marks place (let low : own.residue < s.period = own.low in let count : length marks ≡ s.period = m.count in omega (arith, low, count, number)))))
+            (λ later_one. inl later_one) (in_cons cell rest (line_cell r) (subst (λ cs. Contains cs (line_cell r)) e l)))
+            (λ old. inr (set_kept marks place r old)) (m.whole r k);
+      })
+    where
+      pos_same : (a b : ℕ) → pos a ≡ pos b → a ≡ b
+      pos_same a b e = omega (arith, ints, e)
+
+      line_same : (a b : ℕ) → line_cell a ≡ line_cell b → a ≡ b
+      line_same a b e = pos_same a b (ap (λ (c : Cell). node c.residues 1) e)
+
+  -- with no cell left, the marks are those of the whole cells
+  pub marking_done : (left : List Cell) (cover : Cover) → left ≡ [] → IsMarking s left cover.residues → IsCoverOf s cover
+  marking_done left cover none m = is_cover s line all cover m.count (record {
+    sound = m.sound;
+    whole = λ r l b. ⊎_elim (λ k. absurd (in_none (line_cell r) (subst (λ cs. Contains cs (line_cell r)) none k))) (λ h. h)
+        (m.whole r (key_is s (line_cell r) (replicate 81 None) (first_one (tables_at s (line_cell r)) b)));
+  })
+    where
+      first_one : (ts : List (List (Option ℤ))) → slice_get ts 0 ≡ Some (replicate 81 None) → Contains ts (replicate 81 None)
+      first_one [] e = cc
+      first_one (t ∷ ts) e = (0, omega arith, cc)
 
 -- ---- whether a cover has a residue's numbers
 

@@ -9,7 +9,7 @@ use Rattle.lrp_store.specs.Stores.{HasReach, IsStore}
 use Rattle.lrp_tables.specs.declared.table.Table.{Table}
 use Rattle.lrp_tables.specs.Steps.{CanComplement, CanMinus, IsMinusResult}
 use Rattle.lrp_tables.specs.Tables.{HasAssignment, HasTexts, IsComplement, IsTableOf}
-use Rattle.lrp_algebra.proofs.Steps.{farther}
+use Rattle.lrp_steps.proofs.Steps.{farther}
 use Rattle.lrp_periods.specs.Combining.{CanTakeAll, CanTakeAway, IsMadeOfSome}
 use Rattle.lrp_periods.specs.Operations.{AreOperand, CanBePart, CanMinusInParts}
 use Rattle.lrp_periods.specs.Parts.{ArePartsAdded, ArePartsOf, HasSome, IsPeriodPart, IsPartOfSet, part_times, part_texts}

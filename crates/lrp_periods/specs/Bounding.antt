@@ -1,21 +1,11 @@
--- How many cells tables inhabit at a period, and how far their bounds reach.
-use Rattle.std.specs.Prelude.{ℕ, pos, ◌≤◌, List, Contains}
+-- How many cells tables inhabit at a period.
+use Rattle.std.specs.Prelude.{ℕ, pos, List}
 use Rattle.lrp_model.specs.Texts.{Ascends, Text}
-use Rattle.lrp_theory.specs.Entries.{AtMost, entry}
-use Rattle.lrp_zone.specs.Zones.{ZoneView, columns_of, reach_of}
 use Rattle.lrp_store.specs.Tables.{AreNumbered}
 use Rattle.lrp_tables.specs.declared.table.Table.{Table}
 use Rattle.lrp_tables.specs.Caps.{InhabitsMoreThan}
 use Rattle.lrp_tables.specs.Tables.{HasAssignment}
 use Rattle.lrp_periods.specs.Parts.{AreParts, HasSome, part_times, part_texts}
-
--- each of the zones has at most this reach
-abbrev pub AreZonesWithin : ℕ → List ZoneView → Type 0
-AreZonesWithin reach zones = (z : ZoneView) → Contains zones z → reach_of z ≤ reach
-
--- each bound of the column beside another one has at most this magnitude
-abbrev pub IsRowWithin : ZoneView → ℕ → ℕ → Type 0
-IsRowWithin z column reach = (other : ℕ) → other ≤ columns_of z → AtMost reach (entry z.bounds column other)
 
 -- the table's assignments inhabit no more than cap cells of the period, by each domain whose texts its numbers are
 abbrev pub TableHasFewCells : ℕ → ℕ → Table → Type 0

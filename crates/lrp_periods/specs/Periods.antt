@@ -6,7 +6,7 @@ use Rattle.lrp_model.specs.declared.formulas.Test.{Test}
 use Rattle.lrp_model.specs.declared.relations.Row.{Row}
 use Rattle.lrp_model.specs.declared.relations.Value.{Value}
 use Rattle.lrp_tables.specs.Calls.{test_period}
-use Rattle.lrp_algebra.specs.Rows.{DividesPeriod}
+use Rattle.lrp_steps.specs.Rows.{DividesPeriod}
 
 -- a period that divides the whole one
 pub record IsOwnPeriod (whole period : ℤ) : Type 0 where

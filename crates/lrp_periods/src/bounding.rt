@@ -1,16 +1,15 @@
-// How many cells tables can have at another period, and how far their bounds reach.
+// How many cells tables can have at another period.
 ghost use Rattle.std.specs.Prelude.{◌≡◌, ◌⊎◌, ◌*◌, ◌≤◌, ◌<◌, ◌+ℤ◌, ◌<ℤ◌, [], Some, IfSome, IsTrue, Contains, length, pos};
 ghost use Rattle.lrp_theory.specs.Divides.{Divides};
-ghost use Rattle.lrp_theory.specs.Entries.{AtMost};
-ghost use Rattle.lrp_zone.specs.Zones.{IsZone, columns_of, reach_of};
-ghost use Rattle.lrp_store.specs.Stores.{HasReach, IsStore};
+ghost use Rattle.lrp_zone.specs.Zones.{IsZone, columns_of};
+ghost use Rattle.lrp_store.specs.Stores.{IsStore};
 ghost use Rattle.lrp_tables.specs.declared.table.Table.{Table as TableOf};
 ghost use Rattle.lrp_periods.specs.Windows.{AreWays, IsMostOver, IsWaysLeft, IsWindowBetween};
-ghost use Rattle.lrp_periods.specs.Bounding.{AreZonesWithin, HaveFewCells, IsRowWithin, TableHasFewCells};
+ghost use Rattle.lrp_periods.specs.Bounding.{HaveFewCells, TableHasFewCells};
 ghost use Rattle.lrp_periods.specs.Parts.{part_texts, part_times};
 
-use lrp_store::{Store, Zones};
-use lrp_tables::{Pieces, Table};
+use lrp_store::Store;
+use lrp_tables::Table;
 use lrp_zone::Zone;
 
 /// A number of cells of this period, at most the cap, than which the parts' assignments inhabit no more.
@@ -122,10 +121,12 @@ fn cells_by_zones(table: &Table, period: u64, cap: u32) -> Option<u32>
     table.store.shape();
     let ways = ways_of(&table.store, period);
     let mut total = 0;
-    for piece in Pieces::of(&table.store) {
-        match cells_of_zone(&piece.zone, ways, cap - total) {
-            Some(more) => total += more,
-            None => return None,
+    for (_cell, zones) in table.store.entries() {
+        for zone in zones {
+            match cells_of_zone(&zone, ways, cap - total) {
+                Some(more) => total += more,
+                None => return None,
+            }
         }
     }
     Some(total)
@@ -148,14 +149,18 @@ fn cells_of_zone(zone: &Zone, ways: u64, cap: u32) -> Option<u32>
     if count <= cap { Some(count) } else { None }
 }
 
-// How many residues a column has where those of zero and of the columns before it are known.
+// How many residues a column has where those of zero and of the columns before it are known. The last of them is looked at
+// first, and none where one residue is left.
 fn ways_left(zone: &Zone, column: usize, ways: u64) -> u64
     requires { column ≤ columns_of zone.now }
     ensures { IsWaysLeft zone.now ways column result }
 {
     let mut least = ways;
-    for other in 0..column {
-        least = fewer(window(zone, column, other), least);
+    for turn in 0..column {
+        if least == 1 {
+            return least;
+        }
+        least = fewer(window(zone, column, column - turn - 1), least);
     }
     least
 }
@@ -265,66 +270,5 @@ pub fn product_within(count: u32, ways: u64, cap: u32) -> Option<u32>
         Some(product as u32)
     } else {
         None
-    }
-}
-
-/// Whether no bound of the store's zones is above the reach.
-pub fn has_reach(store: &Store, reach: u64) -> bool
-    ensures { IsTrue result → HasReach store.now reach }
-{
-    for (_cell, zones) in store.entries() {
-        if !are_within(zones, reach) {
-            return false;
-        }
-    }
-    true
-}
-
-// Whether none of the zones' is.
-fn are_within(zones: Zones<'_>, reach: u64) -> bool
-    ensures { IsTrue result → AreZonesWithin reach zones.entry }
-{
-    for zone in zones {
-        if !is_within(&zone, reach) {
-            return false;
-        }
-    }
-    true
-}
-
-// Whether none of a zone's is.
-fn is_within(zone: &Zone, reach: u64) -> bool
-    ensures { IsTrue result → reach_of zone.now ≤ reach }
-{
-    let columns = zone.columns();
-    for turn in 0..columns + 1 {
-        if !is_row_within(zone, turn, reach) {
-            return false;
-        }
-    }
-    true
-}
-
-// Whether none of those of one column beside the others is.
-fn is_row_within(zone: &Zone, column: usize, reach: u64) -> bool
-    requires { column ≤ columns_of zone.now }
-    ensures { IsTrue result → IsRowWithin zone.now column reach }
-{
-    let columns = zone.columns();
-    for other in 0..columns + 1 {
-        if !is_small(zone.bound(column, other), reach) {
-            return false;
-        }
-    }
-    true
-}
-
-// Whether a bound, where there is one, is not above the reach.
-fn is_small(bound: Option<i64>, reach: u64) -> bool
-    ensures { IsTrue result → AtMost reach bound }
-{
-    match bound {
-        Some(most) => most.unsigned_abs() <= reach,
-        None => true,
     }
 }

@@ -16,7 +16,7 @@ mod sieves;
 mod unions;
 mod wholes;
 
-pub use bounding::{cells_at_most, cells_of_table, has_reach, is_line, product_within};
+pub use bounding::{cells_at_most, cells_of_table, is_line, product_within};
 pub use complements::complement_in_parts;
 pub use differences::minus_in_parts;
 pub use drops::{drop_data_in_parts, drop_time_in_parts};

@@ -7,8 +7,8 @@ ghost use Rattle.lrp_periods.specs.Sieves.{CanBeSifted, IsLineStore};
 
 use crate::parts::PartsFault;
 use crate::sieves::{Cover, cell_at, covers_of, is_covered};
-use lrp_algebra::store_over;
 use lrp_model::Copies;
+use lrp_steps::store_over;
 use lrp_store::{Store, StoreFault};
 use lrp_tables::{Setting, Table};
 

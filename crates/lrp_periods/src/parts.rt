@@ -5,7 +5,6 @@ ghost use Rattle.lrp_tables.specs.Tables.{HasAssignment};
 ghost use Rattle.lrp_periods.specs.Combining.{CanAddPart, IsPlaceWith};
 ghost use Rattle.lrp_periods.specs.Parts.{ArePartsAdded};
 
-use crate::bounding::has_reach;
 use crate::periods::is_same;
 use lrp_algebra::union;
 use lrp_model::{List, Memory};
@@ -60,7 +59,7 @@ pub(crate) fn small(table: Table) -> Result<Table, PartsFault>
     ensures reach { IfOk result (λ made. HasReach made.store (2 ^ 59)) }
 {
     table.store.shape();
-    if has_reach(&table.store, SMALL) {
+    if table.store.has_reach(SMALL) {
         Ok(table)
     } else {
         Err(PartsFault::GivenUp)

@@ -4,7 +4,7 @@ ghost use Rattle.std.specs.List.{AllByRecursion};
 ghost use Rattle.lrp_model.specs.declared.relations.Row.{Row as RowOf};
 ghost use Rattle.lrp_tables.specs.Columns.{scan_times, scan_texts};
 ghost use Rattle.lrp_tables.specs.Tables.{IsScanned};
-ghost use Rattle.lrp_algebra.specs.Rows.{DividesPeriod};
+ghost use Rattle.lrp_steps.specs.Rows.{DividesPeriod};
 ghost use Rattle.lrp_periods.specs.Operations.{CanScanInParts};
 ghost use Rattle.lrp_periods.specs.Parts.{ArePartsOf, IsPartOfSet, IsSmallPeriod};
 ghost use Rattle.lrp_periods.specs.Periods.{RowHasPeriods, IsOwnPeriod, IsRowPeriod, IsValuePeriod};

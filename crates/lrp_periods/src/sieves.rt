@@ -1,6 +1,7 @@
 // Complements of one time column: the residues of the period are gone through once, and those that no part covers are left.
-ghost use Rattle.std.specs.Prelude.{◌≡◌, ◌<◌, ◌≤◌, ◌^◌, ◌-ℤ◌, ℤ, [], ◌∷◌, pos, false, length, Contains, IfOk, IsTrue, OnOk};
+ghost use Rattle.std.specs.Prelude.{◌≡◌, ◌<◌, ◌≤◌, ◌≤ℤ◌, ◌^◌, ◌-ℤ◌, ℤ, [], ◌∷◌, pos, false, length, Contains, IfOk, IsTrue, OnOk};
 ghost use Rattle.lrp_theory.specs.Divides.{Divides};
+ghost use Rattle.lrp_theory.specs.Entries.{node};
 ghost use Rattle.lrp_store.specs.Growing.{IsAdded};
 ghost use Rattle.lrp_tables.specs.declared.table.Table.{Table as TableOf};
 ghost use Rattle.lrp_periods.specs.Operations.{AreOperand};
@@ -9,8 +10,8 @@ ghost use Rattle.lrp_periods.specs.Sieves.{AreCoversOf, CanBeSifted, CanSift, Ha
 
 use crate::bounding::is_line;
 use crate::parts::PartsFault;
-use lrp_algebra::store_over;
 use lrp_model::{Cell, Copies, List, Memory};
+use lrp_steps::store_over;
 use lrp_store::{Store, StoreFault};
 use lrp_tables::{Setting, Table};
 use std::alloc::Global;
@@ -129,11 +130,23 @@ fn cover_of(alloc: Global, store: &Store) -> Result<Cover, Memory>
     requires whole { HasWholeCells store.now }
     ensures { IfOk result (IsCoverOf store.now) }
 {
-    let mut residues = List::new(alloc);
-    for residue in 0..store.period() as u64 {
-        residues.push(store.is_whole(&cell_at(residue)))?;
+    let mut marks = vec![in alloc; false; store.period() as usize]?;
+    for cell in store.cells() {
+        let place = first_residue(&cell);
+        marks[place] = true;
     }
-    Ok(Cover { residues })
+    Ok(Cover {
+        residues: List::from_vec(marks),
+    })
+}
+
+// The first residue of a cell.
+fn first_residue(cell: &Cell) -> usize
+    requires size { length cell.now.residues ≡ 8 }
+    requires low { pos 0 ≤ℤ node cell.now.residues 1 }
+    ensures { pos result ≡ node cell.now.residues 1 }
+{
+    cell.residues[0] as usize
 }
 
 /// Whether a cover has the numbers of a residue.

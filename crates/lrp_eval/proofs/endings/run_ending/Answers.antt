@@ -19,8 +19,8 @@ returns-then-is_headed-clause-ending c = λ planned q h.
           c.last_of.ensures.valid,
     )
 
-pub returns-in-Err-run_next-clause-fault : goal.returns-in-Err-run_next-clause-fault
-returns-in-Err-run_next-clause-fault c = cause c.args.database.now c.args.plan.now c.args.cap c.in-Err-run_next.fault (λ step e planned q h. c.in-Err-run_next.ensures.fault step e planned q h (c.loop-number.invariant.run planned q h))
+pub returns-in-Err-clause-fault : goal.returns-in-Err-clause-fault
+returns-in-Err-clause-fault c = cause c.args.database.now c.args.plan.now c.args.cap c.in-Err.fault (λ step e planned q h. c.in-Err.ensures.fault step e planned q h (c.loop-number.invariant.run planned q h))
 
 pub returns-clause-ending : goal.returns-clause-ending
 returns-clause-ending c = λ planned q h. (

@@ -3,7 +3,6 @@ use Rattle.std.proofs.Common.{◌<◌, List, suc, length, sym, subst, arith}
 use Rattle.lrp_model.specs.declared.plans.Step.{Step}
 use Rattle.lrp_eval.specs.Together.{IsNarrowing, IsNarrowingNext}
 use Rattle.lrp_eval.proofs.LoopLaws.{narrowing_next, narrowing_together}
-use Rattle.lrp_eval.proofs.Reading.{some_ok}
 use Rattle.lrp_eval.proofs.following.run_narrowing.Goals as goal
 use Rattle.lrp_plan_laws.proofs.Elements.{within}
 
@@ -20,15 +19,15 @@ narrowed-requires c =
       };
     }
 
-pub returns-in-Ok-Some-clause-table : goal.returns-in-Ok-Some-clause-table
-returns-in-Ok-Some-clause-table c = λ planned db q h run.
+pub returns-clause-table : goal.returns-clause-table
+returns-clause-table c = λ planned db q h run.
     let is : IsNarrowing c.args.plan.now.steps c.args.readers.now (length c.args.tables.now) c.in-Some.narrowing = subst (λ (ss : List Step). IsNarrowing ss c.args.readers.now (length c.args.tables.now) c.in-Some.narrowing) c.as_slice.ensures c.in-Some.ensures in
-    narrowing_together planned db q c.args.setting.now.cap c.args.plan.now c.args.tables.now c.args.readers.now c.in-Some.narrowing h run is c.in-Ok-Some.table
-    (some_ok _ _ _ c.in-Ok-Some.field-0-is c.in-Ok-Some.ensures planned db q
+    narrowing_together planned db q c.args.setting.now.cap c.args.plan.now c.args.tables.now c.args.readers.now c.in-Some.narrowing h run is c.in_ok-table.table
+    (c.in_ok-table.ensures planned db q
     (subst (λ d. IsNarrowingNext planned db q c.args.setting.now.cap d c.args.tables.now c.in-Some.narrowing) (sym c.requires.domain) (narrowing_next planned db q c.args.setting.now.cap c.args.plan.now c.args.tables.now c.args.readers.now c.in-Some.narrowing h run is)))
 
-pub returns-in-Ok-Some-clause-inside : goal.returns-in-Ok-Some-clause-inside
-returns-in-Ok-Some-clause-inside c =
+pub returns-clause-inside : goal.returns-clause-inside
+returns-clause-inside c =
     let is : IsNarrowing c.args.plan.now.steps c.args.readers.now (length c.args.tables.now) c.in-Some.narrowing = subst (λ (ss : List Step). IsNarrowing ss c.args.readers.now (length c.args.tables.now) c.in-Some.narrowing) c.as_slice.ensures c.in-Some.ensures in
     let l : suc (suc (length c.args.tables.now)) < length c.args.plan.now.steps = within c.args.plan.now.steps (suc (suc (length c.args.tables.now))) is.third is.third_at in
     omega (arith, l)

@@ -19,10 +19,10 @@ projected-requires c =
       };
     }
 
-pub returns-in-Ok-Some-projected-clause-table : goal.returns-in-Ok-Some-projected-clause-table
-returns-in-Ok-Some-projected-clause-table c = λ planned db q h run.
+pub returns-clause-table : goal.returns-clause-table
+returns-clause-table c = λ planned db q h run.
     let is : IsProjection c.args.plan.now.steps c.args.readers.now (length c.args.tables.now) c.in-Ok-Some.projection = subst (λ (ss : List Step). IsProjection ss c.args.readers.now (length c.args.tables.now) c.in-Ok-Some.projection) c.as_slice.ensures (some_ok _ _ _ c.in-Ok-Some.field-0-is c.in-Ok-Some.ensures) in
-    subst (λ k. AreRunTogether planned db q c.args.setting.now.cap c.args.readers.now c.args.tables.now k c.in-Ok-Some-projected.table) (sym c.len-between.ensures)
-    (projection_together planned db q c.args.setting.now.cap c.args.plan.now c.args.tables.now c.args.readers.now c.in-Ok-Some.projection h run is c.in-Ok-Some-projected.table
-    (some_ok _ _ _ c.in-Ok-Some-projected.field-0-is c.in-Ok-Some-projected.ensures planned db q
+    subst (λ k. AreRunTogether planned db q c.args.setting.now.cap c.args.readers.now c.args.tables.now k c.in_ok-table.table) (sym c.len-between.ensures)
+    (projection_together planned db q c.args.setting.now.cap c.args.plan.now c.args.tables.now c.args.readers.now c.in-Ok-Some.projection h run is c.in_ok-table.table
+    (c.in_ok-table.ensures planned db q
     (subst (λ d. IsProjectionNext planned db q c.args.setting.now.cap d c.args.tables.now c.in-Ok-Some.projection) (sym c.requires.domain) (projection_next planned db q c.args.setting.now.cap c.args.plan.now c.args.tables.now c.args.readers.now c.in-Ok-Some.projection h run is))))

@@ -2,5 +2,5 @@
 use Rattle.lrp_periods.specs.Windows.{IsWaysLeft}
 use Rattle.lrp_periods.proofs.bounding.ways_left.Given as goal
 
-abbrev pub invariant-loop-other : goal.invariant-loop-other
-invariant-loop-other l = IsWaysLeft l.zone l.ways l.column l.least
+abbrev pub invariant-loop-turn : goal.invariant-loop-turn
+invariant-loop-turn l = IsWaysLeft l.zone l.ways l.column l.least

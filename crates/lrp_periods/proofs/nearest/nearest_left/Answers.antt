@@ -6,7 +6,7 @@ use Rattle.lrp_store.specs.Growing.{IsAdded}
 use Rattle.lrp_store.specs.Stores.{StoreView}
 use Rattle.lrp_tables.specs.declared.table.Table.{Table}
 use Rattle.lrp_tables.specs.declared.table.Vars.{Vars}
-use Rattle.lrp_algebra.proofs.Steps.{fresh_by}
+use Rattle.lrp_steps.proofs.Steps.{fresh_by}
 use Rattle.lrp_periods.specs.Nearest.{AreCoversWithin, IsNearestOpen, IsOfResidue}
 use Rattle.lrp_periods.specs.Parts.{part_times, part_texts}
 use Rattle.lrp_periods.specs.Sieves.{CanSift}

@@ -2,7 +2,7 @@
 use Rattle.std.proofs.Common.{refl, arith, to_z, w64}
 use Rattle.lrp_cutting.proofs.Lists.{read}
 use Rattle.lrp_plan_laws.proofs.Members.{all_of}
-use Rattle.lrp_algebra.specs.Rows.{DividesPeriod}
+use Rattle.lrp_steps.specs.Rows.{DividesPeriod}
 use Rattle.lrp_periods.specs.Periods.{IsRowPeriod}
 use Rattle.lrp_periods.proofs.PeriodLaws.{in_word, of_word, worded_whole}
 use Rattle.lrp_periods.proofs.ScanParts.{value_word, values_all, values_more, values_none}

@@ -1,10 +1,6 @@
--- The residues so far are marked.
-use Rattle.std.proofs.Common.{◌≡◌, length}
-use Rattle.lrp_periods.specs.Sieves.{MarksWhole}
+-- The cells so far are marked.
+use Rattle.lrp_periods.proofs.Sieving.{IsMarking}
 use Rattle.lrp_periods.proofs.sieves.cover_of.Given as goal
 
-abbrev pub invariant-loop-residue : goal.invariant-loop-residue
-invariant-loop-residue l = record {
-  count : l.residue ≡ length l.residues;
-  marks : MarksWhole l.store l.residues;
-}
+abbrev pub invariant-loop-cell : goal.invariant-loop-cell
+invariant-loop-cell l = IsMarking l.store l.cell-iterator l.marks.items
