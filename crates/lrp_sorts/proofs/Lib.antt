@@ -21,3 +21,4 @@ pub mod Firsts
 pub mod Numbered
 pub mod Catalogs
 pub mod Marked
+pub mod Near

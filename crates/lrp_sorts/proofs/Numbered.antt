@@ -104,6 +104,14 @@ module _ (taken names : List Identifier) (k : Identifier) where
   pub taken_name : is_named_in taken k ≡ true → false ≡ not (is_named_in (taken ++ names) k)
   taken_name t = ap (λ b. not (b || list_any (bytes_eq k) names)) (sym t) ∙ ap not (sym (list_any-append (bytes_eq k) taken names))
 
+-- a number that is put back
+pub put_back : (k n : Identifier) (number : ℕ) (o : Option ℕ) (was : Identifier → Option ℕ) → o ≡ was k → cond (bytes_eq k n) o (cond (bytes_eq k n) (Some number) (was n)) ≡ was n
+put_back k n number o was e = by (bytes_eq k n) refl
+  where
+    by : (b : Bool) → bytes_eq k n ≡ b → cond b o (cond b (Some number) (was n)) ≡ was n
+    by true s = e ∙ ap was ((bytes_decides k n).0 s)
+    by false s = refl
+
 -- what one test denies denies it
 pub turned : (a b : Bool) → a ≡ not b → b ≡ not a
 turned true true e = absurd (grind (arith, e))

@@ -1,5 +1,5 @@
 -- Definitions beside a database, each as a relation without rows.
-use Rattle.std.specs.Prelude.{◌≡◌, ℕ, Bool, true, false, Option, None, List, [], ◌++◌, map, take, position, cond, get_or, length}
+use Rattle.std.specs.Prelude.{◌≡◌, ◌<◌, ℕ, Bool, true, false, IsTrue, Option, None, Some, List, [], ◌++◌, map, take, position, cond, get_or, length}
 use Rattle.std.specs.List.{list_any}
 use Rattle.std.specs.HashMap.{HashMap, get_by}
 use Rattle.std.specs.Str.{bytes_eq}
@@ -26,10 +26,15 @@ pub record AreMarked (marks : List Bool) (names : List Identifier) : Type 0 wher
   pub size : length marks ≡ 256
   pub each : (n : Identifier) → list_any (bytes_eq n) names ≡ true → is_marked marks n ≡ true
 
+-- each of these names is new: none of those that are taken, and no earlier one
+abbrev pub AreNew : List Identifier → List Identifier → Type 0
+AreNew taken names = (i : ℕ) → i < length names → Some i ≡ cond (is_named_in taken (get_or names i [])) None (position (bytes_eq (get_or names i [])) names)
+
 -- the names of definitions, as they are kept beside those of relations
-pub record IsNumberingOf {S : Type 0} (numbers : HashMap Identifier ℕ S) (marks : List Bool) (taken names : List Identifier) : Type 0 where
+pub record IsNumberingOf {S : Type 0} (numbers : HashMap Identifier ℕ S) (marks : List Bool) (are_new : Bool) (taken names : List Identifier) : Type 0 where
   pub numbered : AreNamesNumbered numbers taken names
   pub marked : AreMarked marks names
+  pub new : IsTrue are_new → AreNew taken names
 
 -- a relation without rows
 abbrev pub rowless : Identifier → List RawColumn → Relation

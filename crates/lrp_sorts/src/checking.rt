@@ -91,14 +91,15 @@ pub fn check(alloc: Global, raw: RawQuery, db: &Database) -> Result<Query, Query
     ensures points { IfOk result (λ q. points (form_of q.body)
         ≡ raw_points (raw_form_of raw.body)) }
 {
-    let Ok(fault) = fault_over(alloc, &raw, db) else {
-        return Err(QueryRead::Memory);
+    let fault = match fault_over(alloc, &raw, db) {
+        Ok(fault) => fault,
+        Err(Memory { .. }) => return Err(QueryRead::Memory),
     };
     if let Some(fault) = fault {
         return Err(QueryRead::Fault { fault });
     }
     match sorted_query(alloc, raw) {
         Ok(query) => Ok(query),
-        Err(_) => Err(QueryRead::Memory),
+        Err(Memory { .. }) => Err(QueryRead::Memory),
     }
 }

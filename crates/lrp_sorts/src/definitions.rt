@@ -1,5 +1,5 @@
 // Definitions beside a database, each as a relation without rows, looked up by their names.
-ghost use Rattle.std.specs.Prelude.{◌≡◌, ◌<◌, ◌++◌, ◌&&◌, List as ListOf, [], ◌∷◌, Some, map, not, get_or, length, slice_get, IfOk, IfSome, OnOk};
+ghost use Rattle.std.specs.Prelude.{◌≡◌, ◌<◌, ◌++◌, ◌&&◌, List as ListOf, [], ◌∷◌, Some, map, not, get_or, length, slice_get, IfOk, IfSome, IsTrue, OnOk};
 ghost use Rattle.lrp_model.specs.Faults.{is_named_in};
 ghost use Rattle.lrp_model.specs.Texts.{Identifier};
 ghost use Rattle.lrp_sorts.specs.Definitions.{AreMarked, AreNamesNumbered, definition_number, is_marked, is_taken, rowless as rowless_of};
@@ -8,15 +8,19 @@ use crate::resolving::plain_columns;
 use lrp_database::Database;
 use lrp_model::{Copies, List, Memory, Name, RawColumn, Relation};
 use std::alloc::Global;
+use std::cell::Cell;
 use std::collections::HashMap;
 use std::marker::Model;
 
-/// A database, and definitions in order. Most names that are none of theirs are told by their first byte.
+/// A database, and definitions in order. Most names that are none of theirs are told by their first byte, and most that are stand
+/// near the one that was found last, or are that of the definition right before the text in which they stand.
 pub struct Definitions<'a> {
     db: &'a Database,
     all: Vec<Relation>,
     numbers: HashMap<Name, usize>,
     initials: [bool; 256],
+    are_new: bool,
+    last: Cell<usize>,
 }
 
 // It is let go by one call, which is proved once.
@@ -27,6 +31,8 @@ impl<'a> Drop for Definitions<'a> {
             all: _all,
             numbers: _numbers,
             initials: _initials,
+            are_new: _are_new,
+            last: _last,
         } = self;
     }
 }
@@ -39,9 +45,10 @@ impl<'a> Model for Definitions<'a> {
 
     ghost view = { λ d. record { relations = d.db.now; definitions = d.all.items } };
 
-    // The number of a name that is no relation's is that of the first definition which has it, and its first byte is known.
-    ghost invariant = { λ d. IsNumberingOf d.numbers d.initials (map (λ r. r.name) d.db.now)
-        (map (λ r. r.name) d.all.items) };
+    // The number of a name that is no relation's is that of the first definition which has it, and its first byte is known. It is
+    // known of all names whether each is new.
+    ghost invariant = { λ d. IsNumberingOf d.numbers d.initials d.are_new
+        (map (λ r. r.name) d.db.now) (map (λ r. r.name) d.all.items) };
 }
 
 impl<'a> Definitions<'a> {
@@ -54,6 +61,8 @@ impl<'a> Definitions<'a> {
             all: Vec::with_capacity(alloc, count)?,
             numbers: HashMap::with_capacity(alloc, count)?,
             initials: [false; 256],
+            are_new: true,
+            last: Cell::new(0),
         })
     }
 
@@ -84,8 +93,52 @@ impl<'a> Definitions<'a> {
         if !may_begin(&self.initials, name) {
             return None;
         }
+        if let Some(number) = self.near(name, before) {
+            self.last.set(number);
+            return Some(number);
+        }
         let number = *self.numbers.get(name)?;
+        self.last.set(number);
         (number < before).then_some(number)
+    }
+
+    // The same, where it is the definition that was found last, the next one, or the last of those that count.
+    fn near(&self, name: &Name, before: usize) -> Option<usize>
+        ensures number { IfSome result (λ i. Some i ≡ definition_number self.now before name.now) }
+        ensures before { IfSome result (λ i. i < before) }
+        ensures there { IfSome result (λ i. i < length self.now.definitions) }
+    {
+        let last = self.last.get();
+        if self.is_meant(name, last, before) {
+            return Some(last);
+        }
+        let next = last.saturating_add(1);
+        if self.is_meant(name, next, before) {
+            return Some(next);
+        }
+        let end = before.saturating_sub(1);
+        if self.is_meant(name, end, before) {
+            return Some(end);
+        }
+        None
+    }
+
+    // Whether the definition that has a number below a bound is known to be what a name means.
+    fn is_meant(&self, name: &Name, number: usize, before: usize) -> bool
+        ensures number { IsTrue result → Some number ≡ definition_number self.now before name.now }
+        ensures before { IsTrue result → number < before }
+        ensures there { IsTrue result → number < length self.now.definitions }
+    {
+        if !self.are_new {
+            return false;
+        }
+        if number >= before {
+            return false;
+        }
+        if number >= self.all.len() {
+            return false;
+        }
+        self.all[number].name == *name
     }
 
     /// A definition as a relation without rows.
@@ -113,6 +166,8 @@ impl<'a> Definitions<'a> {
             all,
             numbers,
             initials,
+            are_new,
+            last,
         } = self;
         let mut all = all;
         let mut numbers = numbers;
@@ -125,6 +180,8 @@ impl<'a> Definitions<'a> {
             all,
             numbers,
             initials,
+            are_new: all_new(are_new, is_new),
+            last,
         };
         Ok((made, is_new))
     }
@@ -155,6 +212,13 @@ fn mark(initials: &mut [bool; 256], name: &Name)
     initials[usize::from(first_byte(name))] = true;
 }
 
+// Whether names are new, and one more.
+fn all_new(are_new: bool, is_new: bool) -> bool
+    ensures { result ≡ (are_new && is_new) }
+{
+    are_new && is_new
+}
+
 // Whether no relation of the database has the name.
 fn is_apart(db: &Database, name: &Name) -> bool
     ensures { result ≡ not (is_named_in (map (λ r. r.name) db.now) name.now) }
@@ -180,11 +244,11 @@ fn add_number(
     if !is_apart(db, name) {
         return Ok(false);
     }
-    let is_new = !numbers.contains_key(name);
-    if is_new {
-        numbers.insert(name.copy(alloc)?, number)?;
-    }
-    Ok(is_new)
+    let Some(earlier) = numbers.insert(name.copy(alloc)?, number)? else {
+        return Ok(true);
+    };
+    numbers.insert(name.copy(alloc)?, earlier)?;
+    Ok(false)
 }
 
 // A relation without rows.

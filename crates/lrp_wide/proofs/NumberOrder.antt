@@ -2,7 +2,7 @@
 use Rattle.std.proofs.Common.{◌≡◌, ℕ, zero, suc, ◌+◌, ◌-◌, ◌<◌, ◌≤◌, ◌^◌, Bool, true, false, cond, Option, Some, None, List, [], ◌∷◌, ◌++◌, map, length, get_or, take, min, refl, ap, ap₂, sym, ◌∙◌, arith}
 use Rattle.std.specs.Prelude.{slice_get, sum_by}
 use Rattle.std.specs.List.{AllWithin}
-use Rattle.std.proofs.lemmas.List.{take_more}
+use Rattle.std.proofs.lemmas.List.{get_or_default, take_more}
 use Rattle.std.proofs.lemmas.List.Sums.{sum_by-cons}
 use Rattle.lrp_model.specs.declared.tokens.Place.{Place}
 use Rattle.lrp_tense.specs.Expanding.{is_before}
@@ -110,6 +110,30 @@ partitioned (a ∷ atoms) p h zero zero d le lt e = e
 partitioned (a ∷ atoms) p h zero (suc j) d le lt e = before-through a.place (get_or atoms j d).place p (after_first a atoms h j d (omega (arith, lt))) e
 partitioned (a ∷ atoms) p h (suc i) zero d le lt e = absurd (omega (arith, le))
 partitioned (a ∷ atoms) p h (suc i) (suc j) d le lt e = partitioned atoms p (without_first a atoms h) i j d (omega (arith, le)) (omega (arith, lt)) e
+
+-- where one doesn't stand before a place, and those before it do, it is the first that doesn't
+pub first-at : (atoms : List CountedAtom) (p : Place) (n : ℕ) (x : CountedAtom) → AreAscending atoms → n < length atoms → is_before (get_or atoms n x).place p ≡ false
+    → ((k : ℕ) (d : CountedAtom) → k < n → is_before (get_or atoms k d).place p ≡ true) → IsFirstAfter atoms p n
+first-at atoms p n x h within own earlier = record { bound = omega (arith, within); before = λ k d low lt. earlier k d lt; after = λ k d low lt. later k d low lt }
+  where
+    later : (k : ℕ) (d : CountedAtom) → n ≤ k → k < length atoms → is_before (get_or atoms k d).place p ≡ false
+    later k d low lt = by (is_before (get_or atoms k d).place p) refl
+      where
+        by : (b : Bool) → is_before (get_or atoms k d).place p ≡ b → b ≡ false
+        by false e = refl
+        by true e =
+            let first : is_before (get_or atoms n d).place p ≡ true = partitioned atoms p h n k d low lt e in
+            let same : get_or atoms n x ≡ get_or atoms n d = get_or_default atoms n x d within in
+            let both : is_before (get_or atoms n x).place p ≡ true = ap (λ (a : CountedAtom). is_before a.place p) same ∙ first in
+            absurd (grind (arith, own, both))
+
+-- where the one before it does, all those before it do
+pub before-last : (atoms : List CountedAtom) (p : Place) (n : ℕ) (x : CountedAtom) → AreAscending atoms → n ≤ length atoms → 1 ≤ n → is_before (get_or atoms (n - 1) x).place p ≡ true
+    → (k : ℕ) (d : CountedAtom) → k < n → is_before (get_or atoms k d).place p ≡ true
+before-last atoms p n x h within some own k d lt =
+    let low : n - 1 < length atoms = omega (arith, within, some) in
+    let same : get_or atoms (n - 1) d ≡ get_or atoms (n - 1) x = get_or_default atoms (n - 1) d x low in
+    partitioned atoms p h k (n - 1) d (omega (arith, lt)) low (ap (λ (a : CountedAtom). is_before a.place p) same ∙ own)
 
 -- ---- in any order
 

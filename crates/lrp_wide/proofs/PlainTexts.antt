@@ -1,7 +1,7 @@
 -- Files without operators stay as they are.
-use Rattle.std.proofs.Common.{◌≡◌, ◌<◌, ℕ, zero, suc, List, [], ◌∷◌, map, length, get_or, ap, ap₂, sym, subst, refl, arith}
+use Rattle.std.proofs.Common.{◌≡◌, Bool, true, false, ◌&&◌, List, [], ◌∷◌, map, ap, ap₂, refl, sym, arith}
 use Rattle.std.specs.List.{AllByRecursion}
-use Rattle.lrp_model.specs.RawQueries.{HasNoOperator, RawDefinitionView, RawFileView, RawQuestion, raw_definition_of, raw_form_of}
+use Rattle.lrp_model.specs.RawQueries.{HasNoOperator, RawDefinitionView, RawFileView, RawQuestion, raw_definition_of}
 use Rattle.lrp_model.specs.declared.raw.RawDefinition.{RawDefinition}
 use Rattle.lrp_tense.specs.Expanding.{expanded_question}
 use Rattle.lrp_wide.specs.Inlining.{plain_definition, plain_file}
@@ -22,8 +22,8 @@ pub plain_stays : ((q : RawQuestion) → HasNoOperator q.body → expanded_quest
     → ◌≡◌ {A = RawFileView} (record { definitions = map raw_definition_of ds; query = q }) (plain_file (record { definitions = map raw_definition_of ds; query = q }))
 plain_stays law ds q h own = whole_is _ _ _ _ (all_plain law ds h) (sym (law q own))
 
--- each of them is without operators
-pub plain_at : (ds : List RawDefinition) (i : ℕ) (d : RawDefinition) → AllByRecursion HasPlainBody ds → i < length ds → d ≡ get_or ds i d → HasNoOperator (raw_form_of d.body)
-plain_at [] i d h lt e = absurd (omega (arith, lt))
-plain_at (x ∷ xs) zero d h lt e = subst (λ y. HasNoOperator (raw_form_of y.body)) (sym e) h.0
-plain_at (x ∷ xs) (suc i) d h lt e = plain_at xs i d h.1 (omega (arith, lt)) e
+-- what holds of both holds of each
+pub both_true : (a b : Bool) → (a && b) ≡ true → (a ≡ true) × (b ≡ true)
+both_true true true h = (refl, refl)
+both_true true false h = absurd (grind (arith, h))
+both_true false b h = absurd (grind (arith, h))

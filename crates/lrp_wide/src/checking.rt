@@ -16,7 +16,7 @@ use crate::chains::chains_of;
 use crate::inlining::{Written, expand, starred};
 use crate::measures::Size;
 use crate::narrow::is_narrow;
-use crate::plain::{is_plain_file, plain};
+use crate::plain::plain;
 use crate::surveying::survey_file;
 use lrp_database::Database;
 use lrp_model::{
@@ -92,10 +92,9 @@ fn answer(alloc: Global, file: RawFile, db: &Database) -> Result<RawQuery, WideR
     ensures refused { IfErr result (IsFileRefused db.now (raw_file_of file)) }
 {
     let (definitions, defined) = definitions_of(alloc, db, file.definitions.as_slice())?;
-    let is_plain = is_plain_file(&file);
-    let found = survey_file(alloc, &definitions, &file, is_plain)?;
+    let found = survey_file(alloc, &definitions, &file)?;
     limited(found.size)?;
-    let (plain, own) = plain_checked(alloc, &definitions, file, is_plain, found.fault)?;
+    let (plain, own) = plain_checked(alloc, &definitions, file, found.is_plain, found.fault)?;
     if let Some(fault) = sooner_of(defined, own) {
         return Err(WideRead::Fault { fault });
     }

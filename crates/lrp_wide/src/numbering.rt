@@ -7,9 +7,10 @@ ghost use Rattle.lrp_wide.specs.Counts.{AreAscending, AreRelationsNumbered, IsFi
 ghost use Rattle.lrp_tense.specs.Expanding.{is_before as is_before_of};
 
 use crate::measures::{stars_of, terms_of};
-use lrp_model::{Memory, Name, Place, RawFormula, RawKind, RawTerm};
+use lrp_model::{Memory, Name, Place, RawFormula, RawKind, RawTerm, numbered};
 use lrp_sorts::Definitions;
 use std::alloc::Global;
+use std::cell::Cell;
 use std::marker::Model;
 
 // An atom that takes numbers: how many, and how many those that were met before it take. Both stop at the greatest word: a
@@ -21,11 +22,13 @@ struct Counted {
     before: u64,
 }
 
-/// The atoms of a text that take numbers, as they were met; in a text that was read they stand in the order of their places.
+/// The atoms of a text that take numbers, as they were met; in a text that was read they stand in the order of their places. Most
+/// are asked for in this order.
 pub struct Numbers {
     atoms: Vec<Counted>,
     total: u64,
     is_ascending: bool,
+    next: Cell<usize>,
 }
 
 impl Drop for Numbers {
@@ -34,6 +37,7 @@ impl Drop for Numbers {
             atoms: _atoms,
             total: _total,
             is_ascending: _is_ascending,
+            next: _next,
         } = self;
     }
 }
@@ -54,16 +58,13 @@ impl Model for Numbers {
 ///
 /// # Errors
 ///
-/// It has stopped, which it does in no query whose formulas are within their limit.
+/// It has no number of 32 bits, as each sum has in a query whose formulas are within their limit.
 pub fn plus(left: u64, right: u64) -> Result<u64, Memory>
     ensures sum { IfOk result (λ sum. sum ≡ left + right) }
     ensures below { IfOk result (λ sum. sum < 2 ^ 64 - 1) }
 {
-    let sum = left.saturating_add(right);
-    if sum == u64::MAX {
-        return Err(Memory);
-    }
-    Ok(sum)
+    let sum = numbered(left.saturating_add(right) as usize)?;
+    Ok(u64::from(sum))
 }
 
 // Whether the first place stands before the second.
@@ -103,6 +104,7 @@ impl Numbers {
             atoms: Vec::new(alloc),
             total: 0,
             is_ascending: true,
+            next: Cell::new(0),
         }
     }
 
@@ -136,14 +138,12 @@ impl Numbers {
     ///
     /// # Errors
     ///
-    /// One has, which it does in no text that a query uses whose formulas are within their limit.
+    /// Their sum has no number of 32 bits, as each has in a text that a query uses whose formulas are within their limit.
     pub fn whole(&self) -> Result<&Numbers, Memory>
         ensures { IfOk result (λ made. (counted : List CountedOf)
             → self.now ≡ stopped_counts counted → made.now ≡ counted) }
     {
-        if self.total == u64::MAX {
-            return Err(Memory);
-        }
+        numbered(self.total as usize)?;
         Ok(self)
     }
 
@@ -158,7 +158,8 @@ impl Numbers {
         if !self.is_ascending {
             return sum_before(atoms, place);
         }
-        let first = first_after(atoms, place);
+        let first = first_from(atoms, self.next.get(), place);
+        self.next.set(first.saturating_add(1));
         if first == atoms.len() {
             return self.total;
         }
@@ -172,6 +173,36 @@ fn first_after(atoms: &[Counted], place: Place) -> usize
     ensures { IsFirstAfter atoms.now place result }
 {
     atoms.partition_point(|atom| is_before(atom.place, place))
+}
+
+// The same, with a guess, which is right where places are asked for in their order.
+fn first_from(atoms: &[Counted], guess: usize, place: Place) -> usize
+    requires { AreAscending atoms.now }
+    ensures { IsFirstAfter atoms.now place result }
+{
+    if is_first_after(atoms, guess, place) {
+        return guess;
+    }
+    first_after(atoms, place)
+}
+
+// Whether the atom with a number is known to be the first that doesn't stand before a place.
+fn is_first_after(atoms: &[Counted], number: usize, place: Place) -> bool
+    requires { AreAscending atoms.now }
+    ensures { IsTrue result → IsFirstAfter atoms.now place number }
+{
+    if number >= atoms.len() {
+        return false;
+    }
+    let atom = &atoms[number];
+    if is_before(atom.place, place) {
+        return false;
+    }
+    if number == 0 {
+        return true;
+    }
+    let last = &atoms[number - 1];
+    is_before(last.place, place)
 }
 
 // How many numbers the atoms before a place take, in any order.

@@ -48,26 +48,6 @@ fn query_without_operators(alloc: Global, query: RawQuery) -> Result<RawQuery, M
     expand(alloc, &query)
 }
 
-/// Whether no operator stands in a file.
-pub fn is_plain_file(file: &RawFile) -> bool
-    ensures definitions { IsTrue result
-        → AllByRecursion HasPlainBody file.now.definitions.items }
-    ensures query { IsTrue result → HasNoOperator (raw_form_of file.now.query.body) }
-{
-    are_plain_definitions(file.definitions.as_slice()) && is_plain(&file.query.body)
-}
-
-fn are_plain_definitions(definitions: &[RawDefinition]) -> bool
-    ensures { IsTrue result → AllByRecursion HasPlainBody definitions.now }
-{
-    for definition in definitions {
-        if !is_plain(&definition.body) {
-            return false;
-        }
-    }
-    true
-}
-
 /// The file without operators.
 pub fn plain(alloc: Global, file: RawFile) -> Result<RawFile, Memory>
     requires { IsExpandableFile (raw_file_of file) }

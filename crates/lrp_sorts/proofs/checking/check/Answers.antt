@@ -10,7 +10,7 @@ use Rattle.lrp_sorts.proofs.Carries.{members_stay, points_stay}
 use Rattle.lrp_sorts.proofs.checking.check.Goals as goal
 
 pub returns-in-Ok-sorted_query-clause-sorted : goal.returns-in-Ok-sorted_query-clause-sorted
-returns-in-Ok-sorted_query-clause-sorted c = none_is_empty query_standing (query_faults c.args.db.now (raw_question_of c.args.raw)) (sym c.in-Ok.ensures ∙ c.in_default-fault.is)
+returns-in-Ok-sorted_query-clause-sorted c = none_is_empty query_standing (query_faults c.args.db.now (raw_question_of c.args.raw)) (sym c.in-Ok.ensures ∙ c.in_default.is)
 
 pub returns-in-Ok-sorted_query-clause-members : goal.returns-in-Ok-sorted_query-clause-members
 returns-in-Ok-sorted_query-clause-members c = λ h.

@@ -1,4 +1,4 @@
-use Rattle.std.proofs.Common.{◌≡◌, ◌<◌, ◌+◌, ◌-◌, ◌++◌, [], ◌∷◌, length, map, take, ap, subst, sym, ◌∙◌, arith}
+use Rattle.std.proofs.Common.{◌≡◌, ◌<◌, ◌+◌, ◌-◌, ◌++◌, [], ◌∷◌, IsTrue, length, map, take, ap, subst, sym, ◌∙◌, arith}
 use Rattle.std.specs.List.{AllByRecursion}
 use Rattle.std.proofs.lemmas.List.{take_all}
 use Rattle.lrp_model.specs.Faults.{earliest}
@@ -15,15 +15,13 @@ use Rattle.lrp_wide.specs.WideSorting.{defined_relation}
 use Rattle.lrp_wide.proofs.MeasureKnown.{file_more, starless_at}
 use Rattle.lrp_wide.proofs.MeasureStars.{keeps_none}
 use Rattle.lrp_wide.proofs.NumberFile.{numbered-all, numbered-definition, numbered-file}
-use Rattle.lrp_wide.proofs.PlainTexts.{plain_at}
+use Rattle.lrp_wide.proofs.NarrowTexts.{all_more}
+use Rattle.lrp_wide.proofs.PlainTexts.{both_true}
 use Rattle.lrp_wide.proofs.SortFiles.{as_many, first_relations, plain_faults, text_end, text_more}
 use Rattle.lrp_wide.proofs.surveying.survey_file.Goals as goal
 
 pub plain_fault-requires : goal.plain_fault-requires
-plain_fault-requires c = λ holds.
-    let xs = c.as_slice-texts.result.now in
-    let within : c.loop-i.i < length xs = omega (arith, c.loop-i-test.true, c.as_slice-texts.ensures.len) in
-    plain_at xs c.loop-i.i c.index-texts-i.result (subst (AllByRecursion HasPlainBody) (sym c.as_slice-texts.ensures.value) (c.requires.operators holds)) within c.index-texts-i.is
+plain_fault-requires c = c.is_plain-is_plain_text.ensures
 
 pub with-requires-clause-there : goal.with-requires-clause-there
 with-requires-clause-there c =
@@ -64,7 +62,10 @@ loop-i-preserved c =
           numbered-definition db d.definitions xs same i x c.loop-i.numbers.items c.push-in-loop-i.new.self.items c.in_ok-counted.counted within c.index-texts-i.is c.loop-i.invariant.numbers
           (c.in_ok-counted.ensures ks (subst (AreRelationsNumbered ks d.definitions) (sym c.as_slice-in-loop-i.ensures.value) c.loop-i.invariant.numbers)) c.in_ok-push-2.ensures.items;
       catalog = c.in_ok-catalog-2.ensures ∙ ap (λ l. db ++ l) (sym (first_relations d.definitions xs (i + 1) same));
-      fault = λ holds. text_more db c.loop-i.catalog xs i x c.loop-i.fault c.in_ok-own.own c.sooner_of-fault.result within c.index-texts-i.is c.loop-i.invariant.catalog (c.loop-i.invariant.fault holds) (c.in_ok-own.ensures holds) c.sooner_of-fault.ensures;
+      plain = λ holds. let both = both_true c.loop-i.are_plain c.is_plain-is_plain_text.result (sym c.all_plain-are_plain.ensures ∙ holds) in all_more HasPlainBody xs i x within c.index-texts-i.is (c.loop-i.invariant.plain both.0) (c.is_plain-is_plain_text.ensures both.1);
+      fault = λ holds.
+          let both = both_true c.loop-i.are_plain c.is_plain-is_plain_text.result (sym c.all_plain-are_plain.ensures ∙ holds) in
+          text_more db c.loop-i.catalog xs i x c.loop-i.fault c.in_ok-own.own c.sooner_of-fault.result within c.index-texts-i.is c.loop-i.invariant.catalog (c.loop-i.invariant.fault both.0) (c.in_ok-own.ensures both.1) c.sooner_of-fault.ensures;
     }
 
 pub returns-clause-size : goal.returns-clause-size
@@ -92,12 +93,22 @@ returns-clause-numbers c =
     (c.in_ok-counted-2.ensures ks (subst (AreRelationsNumbered ks d.definitions) (sym c.as_slice-3.ensures.value) h)) c.in_ok-push-3.ensures.items
     ∙ ap (λ l. file_numbers d.relations (record { definitions = map raw_definition_of l; query = raw_question_of c.args.file.now.query })) c.as_slice-texts.ensures.value
 
+pub returns-clause-query : goal.returns-clause-query
+returns-clause-query c = λ holds. c.is_plain-is_plain_query.ensures (both_true c.loop-i.are_plain c.is_plain-is_plain_query.result (sym c.all_plain.ensures ∙ holds)).1
+
+pub returns-clause-operators : goal.returns-clause-operators
+returns-clause-operators c = λ holds.
+    let xs = c.as_slice-texts.result.now in
+    let all : take c.loop-i.i xs ≡ c.args.file.now.definitions.items = take_all c.loop-i.i xs (omega (arith, c.loop-i-test.false, c.as_slice-texts.ensures.len)) ∙ c.as_slice-texts.ensures.value in
+    subst (AllByRecursion HasPlainBody) all (c.loop-i.invariant.plain (both_true c.loop-i.are_plain c.is_plain-is_plain_query.result (sym c.all_plain.ensures ∙ holds)).0)
+
 pub returns-clause-fault : goal.returns-clause-fault
 returns-clause-fault c = λ holds written e.
+    let both = both_true c.loop-i.are_plain c.is_plain-is_plain_query.result (sym c.all_plain.ensures ∙ holds) in
     let db = c.args.definitions.now.relations in
     let g = raw_file_of c.args.file.now in
     let xs = c.as_slice-texts.result.now in
     let all : take c.loop-i.i xs ≡ xs = take_all c.loop-i.i xs (omega (arith, c.loop-i-test.false, c.as_slice-texts.ensures.len)) in
     let texts : map raw_definition_of (take c.loop-i.i xs) ≡ g.definitions = ap (map raw_definition_of) (all ∙ c.as_slice-texts.ensures.value) in
     text_end db c.loop-i.catalog g written c.loop-i.fault c.in_ok-own-2.own c.sooner_of-fault-2.result e (c.loop-i.invariant.catalog ∙ ap (λ ds. db ++ map defined_relation ds) texts)
-    (c.loop-i.invariant.fault holds ∙ ap (λ ds. earliest query_standing (plain_faults db ds)) texts) (c.in_ok-own-2.ensures holds) c.sooner_of-fault-2.ensures
+    (c.loop-i.invariant.fault both.0 ∙ ap (λ ds. earliest query_standing (plain_faults db ds)) texts) (c.in_ok-own-2.ensures both.1) c.sooner_of-fault-2.ensures

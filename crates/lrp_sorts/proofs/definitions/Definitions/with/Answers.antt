@@ -1,9 +1,10 @@
-use Rattle.std.proofs.Common.{◌≡◌, ◌++◌, List, [], ◌∷◌, length, map, not, ap, subst, sym, ◌∙◌, arith}
+use Rattle.std.proofs.Common.{◌≡◌, false, ◌++◌, List, [], ◌∷◌, length, map, not, ap, subst, sym, ◌∙◌, arith}
 use Rattle.std.proofs.lemmas.List.{length-map, map-append}
 use Rattle.lrp_model.specs.Faults.{is_named_in}
 use Rattle.lrp_model.specs.Texts.{Identifier}
 use Rattle.lrp_model.specs.declared.relations.Relation.{Relation}
-use Rattle.lrp_sorts.specs.Definitions.{AreMarked, AreNamesNumbered, Defined, is_taken}
+use Rattle.lrp_sorts.specs.Definitions.{AreMarked, AreNamesNumbered, AreNew, Defined, is_taken}
+use Rattle.lrp_sorts.proofs.Near.{both_true, still_new, undenied}
 use Rattle.lrp_sorts.proofs.definitions.Definitions.with.Goals as goal
 
 pub returns-clause-new : goal.returns-clause-new
@@ -24,4 +25,9 @@ invariant_of-made c =
     record {
       numbered = subst (AreNamesNumbered c.add_number.new.numbers (map (λ r. r.name) c.self.inside.db.now)) (sym more) (c.in_ok-is_new.ensures.numbers names size c.self.invariant.numbered);
       marked = subst (AreMarked c.mark.new.initials) (sym more) (c.mark.ensures names c.self.invariant.marked);
+      new = λ holds.
+          let both = both_true c.self.inside.are_new c.in_ok-is_new.is_new (sym c.all_new.ensures ∙ holds) in
+          let taken : List Identifier = map (λ r. r.name) c.self.inside.db.now in
+          let new : is_named_in (taken ++ names) n ≡ false = undenied _ (sym (c.in_ok-is_new.ensures.new names c.self.invariant.numbered) ∙ both.1) in
+          subst (AreNew taken) (sym more) (still_new taken names n (c.self.invariant.new both.0) new);
     }

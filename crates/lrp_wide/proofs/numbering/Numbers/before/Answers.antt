@@ -25,16 +25,16 @@ pub returns-then-first-atoms : goal.returns-then-first-atoms
 returns-then-first-atoms c =
     let atoms = c.self.inside.atoms.items in
     let p = c.args.place in
-    let first : IsFirstAfter atoms p c.first_after-first.result = subst (λ l. IsFirstAfter l p c.first_after-first.result) c.as_slice-atoms.ensures.value c.first_after-first.ensures in
-    let end : c.first_after-first.result ≡ length atoms = c.if-first-atoms.true ∙ ap length c.as_slice-atoms.ensures.value in
-    sym (ap (λ n. at_index atoms n c.self.inside.total) end ∙ at-end atoms c.self.inside.total) ∙ before-first atoms c.self.inside.total p c.first_after-first.result c.self.invariant.sums first ∙ ap (λ l. stopped (numbers_before l p)) c.self.view_is
+    let first : IsFirstAfter atoms p c.first_from-first.result = subst (λ l. IsFirstAfter l p c.first_from-first.result) c.as_slice-atoms.ensures.value c.first_from-first.ensures in
+    let end : c.first_from-first.result ≡ length atoms = c.if-first-atoms.true ∙ ap length c.as_slice-atoms.ensures.value in
+    sym (ap (λ n. at_index atoms n c.self.inside.total) end ∙ at-end atoms c.self.inside.total) ∙ before-first atoms c.self.inside.total p c.first_from-first.result c.self.invariant.sums first ∙ ap (λ l. stopped (numbers_before l p)) c.self.view_is
 
 pub returns : goal.returns
 returns c =
     let atoms = c.self.inside.atoms.items in
     let p = c.args.place in
-    let n = c.first_after-first.result in
-    let first : IsFirstAfter atoms p n = subst (λ l. IsFirstAfter l p n) c.as_slice-atoms.ensures.value c.first_after-first.ensures in
+    let n = c.first_from-first.result in
+    let first : IsFirstAfter atoms p n = subst (λ l. IsFirstAfter l p n) c.as_slice-atoms.ensures.value c.first_from-first.ensures in
     let size : length c.as_slice-atoms.result.now ≡ length atoms = ap length c.as_slice-atoms.ensures.value in
     let none : Counted = record { place = record { line = 0; column = 0 }; numbers = 0; before = 0 } in
     let there = at-read atoms n c.self.inside.total none (omega (arith, first.bound, size, c.if-first-atoms.false)) in
