@@ -146,3 +146,62 @@ def texts_watched(size):
         unit="rows",
         output='0, "x0"\n',
     )
+
+
+SHIFT = 480  # minutes
+
+
+def week_point(at):
+    """The times of every week at a minute of one."""
+    return "%d+%dn" % (at % WEEK, WEEK)
+
+
+def duty_row(start):
+    """A shift of eight hours in every week."""
+    return "(%s, %s) where e >= s, e <= s + %d" % (week_point(start), week_point(start + SHIFT), SHIFT)
+
+
+def rides(name, rows):
+    """A relation of the times of vehicles in every week."""
+    return relation(name, [*times("t"), "v: data"], ['(%s, "v%d")' % (week_point(at), vehicle) for at, vehicle in rows])
+
+
+def uncovered(wanted, starts):
+    """Of minutes of a week the one nearest to 0 that no shift covers, in whatever week."""
+    left = [time for time in wanted if all((time - start) % WEEK >= SHIFT for start in starts)]
+    weeks = [at for time in left for at in (time, time - WEEK)]
+    return str(min(weeks, key=lambda at: (abs(at), at < 0), default="none"))
+
+
+@family(
+    "uncovered edited",
+    "two",
+    (625, 2500, 10000),
+    "20 edits of shifts beside N trips and N buses, which stay: the trips with a bus soon that no shift covers",
+)
+def uncovered_edited(size):
+    vehicles = size // 5
+    trips = [(997 * number % WEEK, number % vehicles) for number in range(size)]
+    buses = [((1409 * number + 11) % WEEK, number % vehicles) for number in range(size)]
+    leaving = {}
+    for bus, vehicle in buses:
+        leaving.setdefault(vehicle, []).append(bus)
+    wanted = {at for at, vehicle in trips if any((bus - at) % WEEK <= 30 for bus in leaving[vehicle])}
+    held = [SHIFT * number for number in range(20)]
+    added = [(SHIFT * 20 + 17 * number) % WEEK for number in range(10)]
+    lines = [uncovered(wanted, held)]
+    for start in added:
+        lines += [uncovered(wanted, [*held, start]), lines[0]]
+    return Case(
+        ["watch", "kept=auto"],
+        rides("trip", trips) + rides("bus", buses) + relation("shift", times("s", "e"), [duty_row(at) for at in held]),
+        query(
+            times("t"),
+            "(exists v: data exists u: time (trip(t, v) and bus(u, v) and t <= u and u <= t + 30)"
+            " and not exists s: time exists e: time (shift(s, e) and s <= t and t < e))",
+        ),
+        units=2 * len(added),
+        unit="edits",
+        output="\n".join([*lines, ""]),
+        edits="".join("%s shift %s;\n" % (sign, duty_row(at)) for at in added for sign in "+-"),
+    )
