@@ -166,7 +166,7 @@ class Clock:
             [self.program.path, *words],
             cwd=self.program.folder,
             # As the launcher starts it.
-            env={"GLIBC_TUNABLES": "glibc.malloc.mxfast=0", **os.environ},
+            env={"GLIBC_TUNABLES": "glibc.malloc.mxfast=0:glibc.malloc.mmap_threshold=131072", **os.environ},
             stdin=subprocess.DEVNULL,
             stdout=subprocess.PIPE,
             stderr=subprocess.DEVNULL,

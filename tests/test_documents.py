@@ -273,19 +273,21 @@ class Names(unittest.TestCase):
 
 
 class Memory(unittest.TestCase):
-    """Want of memory is handed on, or made of an error of the allocator; each other place that makes it is told."""
+    """Want of memory is handed on from the one file that makes it; each other place that makes it is told."""
+
+    MADE = TOP / "crates/lrp_model/src/memory.rt"
 
     def places(self) -> Iterable[str]:
-        """The files, as `crate/file`, with such a place."""
+        """The other files, as `crate/file`, with such a place."""
         for file in sorted(TOP.glob("crates/lrp_*/src/**/*.rt")):
-            if any(self.is_made(line) for line in self.bodies(file.read_text())):
+            if file != self.MADE and any(self.is_made(line) for line in self.bodies(file.read_text())):
                 yield f"{file.relative_to(TOP / 'crates').parts[0]}/{file.name}"
 
     def bodies(self, text: str) -> Iterable[str]:
         """The lines of code of a file, but for faults, conversions and for arms that hand a want of memory on."""
         text = re.sub(r"(?m)//.*|^ *(?:pub )?use [^;]*;|^ *ghost [^;]*;", "", text)
         text = re.sub(r"(?ms)^( *)(?:pub(?:\(crate\))? enum|impl[^{]* From<).*?^\1\}", "", text)
-        text = re.sub(r"(?ms)^( *)Err\((?:\w+::)?Memory\) => \{$.*?^\1\}", "", text)
+        text = re.sub(r"(?ms)^( *)Err\((?:\w+::)?Memory(?: \{ \.\. \})?\) => \{$.*?^\1\}", "", text)
         for line in text.splitlines():
             pattern, arrow, value = line.rpartition(" => ")
             if not (arrow and "Memory" in pattern):
@@ -294,6 +296,9 @@ class Memory(unittest.TestCase):
     def is_made(self, line: str) -> bool:
         """Whether the line makes a want of memory."""
         return bool(re.search(r"(?:Err\(|ok_or\(|_ => |^ *)(?:\w+::)?Memory\)*[,;?]*$", line)) and "Result<" not in line
+
+    def test_it_is_made_in_one_file(self):
+        self.assertTrue(any(self.is_made(line) for line in self.bodies(self.MADE.read_text())))
 
     def test_each_place_is_told(self):
         section = (TOP / "docs/proofs.md").read_text().split(". Want of memory")[1].split("\n## ")[0]
