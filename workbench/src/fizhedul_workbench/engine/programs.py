@@ -65,8 +65,9 @@ async def started(words: list[str]) -> asyncio.subprocess.Process:
 
 
 def tuned() -> dict[str, str]:
-    """Small pieces of memory that are given back are joined at once, as under the launcher."""
-    return {"GLIBC_TUNABLES": os.environ.get("GLIBC_TUNABLES", "glibc.malloc.mxfast=0")}
+    """Memory is taken as under the launcher: small pieces are joined at once, large ones have pages of their own."""
+    memory = "glibc.malloc.mxfast=0:glibc.malloc.mmap_threshold=131072"
+    return {"GLIBC_TUNABLES": os.environ.get("GLIBC_TUNABLES", memory)}
 
 
 def end_group(process: int) -> None:

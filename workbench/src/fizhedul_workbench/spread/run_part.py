@@ -128,7 +128,7 @@ def token_of(line: bytes) -> Optional[str]:
 def run_page(command: "list[str]", output: Lines, usage: Usage) -> "tuple[int, bytes]":
     """Runs the program once: its status, and its last line, which was not handed on."""
     guard = ["setpriv", "--pdeathsig", "KILL", "--"] if shutil.which("setpriv") else []
-    settings = {"GLIBC_TUNABLES": "glibc.malloc.mxfast=0", **os.environ}
+    settings = {"GLIBC_TUNABLES": "glibc.malloc.mxfast=0:glibc.malloc.mmap_threshold=131072", **os.environ}
     with subprocess.Popen(
         [*guard, *command], stdin=subprocess.DEVNULL, stdout=subprocess.PIPE, env=settings
     ) as process:
