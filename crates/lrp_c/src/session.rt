@@ -144,7 +144,7 @@ pub fn reply_of(
             let (reply, boxed) = reply_said(alloc, boxed, said);
             match reply {
                 Ok(reply) => (Ok(reply), boxed),
-                Err(Memory) => (Err(Unread::Memory), boxed),
+                Err(Memory { .. }) => (Err(Unread::Memory), boxed),
             }
         }
         Err(unread) => (Err(unread), boxed),

@@ -76,7 +76,7 @@ pub fn canonical_within(alloc: Global, answer: Answer, most: u32) -> Result<Opti
     match at_most(rows, most) {
         Some(_) => match of_groups(alloc, answer, &groups, periods) {
             Ok(made) => Ok(Some(made)),
-            Err(Memory) => Err(Memory),
+            Err(memory) => Err(memory),
         },
         None => Ok(None),
     }

@@ -154,9 +154,9 @@ impl HeldRows {
         let key = self.sources.insert(source)?;
         match list_key(&mut self.relations, relation, key) {
             Ok(()) => Ok(key),
-            Err(Memory) => {
+            Err(memory) => {
                 self.sources.try_remove(key);
-                Err(Memory)
+                Err(memory)
             }
         }
     }

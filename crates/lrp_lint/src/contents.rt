@@ -8,11 +8,12 @@ ghost use Rattle.lrp_systems.specs.Parts.{Fits};
 ghost use Rattle.lrp_lint.specs.Contents.{HasNoCommonTimes, HasPeriodRoom, IsContentFlaw, IsReadable};
 ghost use Rattle.lrp_lint.specs.Flaws.{IsEmpty, IsRowWithinLimits};
 
+use crate::fault::LintFault;
 use crate::flaws::RowFlaw;
 use crate::parts::row_parts;
 use lrp_limits::facts::{bound_of, with_row};
 use lrp_limits::periods::{Period, one};
-use lrp_model::{Column, LIMIT, Memory, Row, Shape};
+use lrp_model::{Column, LIMIT, Row, Shape};
 use lrp_store::{Store, StoreFault};
 use lrp_systems::{Part, add_system, parts_of};
 use std::alloc::Global;
@@ -23,7 +24,7 @@ pub fn content_flaw(
     times: u8,
     columns: &[Column],
     row: &Row,
-) -> Result<Option<RowFlaw>, Memory>
+) -> Result<Option<RowFlaw>, LintFault>
     requires times { times ≡ time_count columns.now }
     requires few { times ≤ 8 }
     requires row { IsRowOf columns.now row.now }
@@ -69,7 +70,7 @@ fn fit(period: Period, bound: u64) -> Option<i64>
 }
 
 // Whether no tuple is in the row.
-fn is_empty(alloc: Global, times: u8, row: &Row, period: i64) -> Result<bool, Memory>
+fn is_empty(alloc: Global, times: u8, row: &Row, period: i64) -> Result<bool, LintFault>
     requires readable { IsReadable times row.now }
     requires room { HasPeriodRoom row.now period }
     ensures { IfOk result (λ empty. IsTrue empty ↔ IsEmpty row.now) }
@@ -84,7 +85,7 @@ fn is_empty(alloc: Global, times: u8, row: &Row, period: i64) -> Result<bool, Me
 }
 
 // Whether no times lie in each part. The first that are found end the search.
-fn has_none(alloc: Global, times: u8, period: i64, parts: &[Part]) -> Result<bool, Memory>
+fn has_none(alloc: Global, times: u8, period: i64, parts: &[Part]) -> Result<bool, LintFault>
     requires times { times ≤ 8 }
     requires low { pos 1 ≤ℤ period }
     requires high { period ≤ℤ pos (2 ^ 62) }
@@ -95,6 +96,6 @@ fn has_none(alloc: Global, times: u8, period: i64, parts: &[Part]) -> Result<boo
     match add_system(parts, &[0; 8], &mut found, 0) {
         Ok(()) => Ok(found.is_empty()),
         Err(StoreFault::TooManyCells) => Ok(false),
-        Err(StoreFault::Memory) => Err(Memory),
+        Err(StoreFault::Memory) => Err(LintFault::Memory),
     }
 }

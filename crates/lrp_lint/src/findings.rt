@@ -4,6 +4,7 @@ ghost use Rattle.lrp_model.specs.RawQueries.{raw_question_of};
 ghost use Rattle.lrp_lint.specs.Listed.{AreFindings, AreQueryFindings, AreEachOnce, query_order};
 ghost use Rattle.lrp_lint.specs.Mentions.{query_findings};
 
+use crate::fault::LintFault;
 use crate::flaws::{QueryFinding, RowFinding};
 use crate::listed::query_in_order;
 use crate::queries::findings_of;
@@ -25,7 +26,7 @@ pub fn lint(
     alloc: Global,
     database: Database,
     query: Option<&RawQuery>,
-) -> Result<LintReport, Memory>
+) -> Result<LintReport, LintFault>
     ensures database { IfOk result (λ made. made.database ≡ database) }
     ensures findings { IfOk result (λ made. AreFindings database
         (option_map (λ q. raw_question_of q.now) query.entry) made.findings) }

@@ -2,6 +2,7 @@
 #![tactic(auto)]
 
 mod contents;
+mod fault;
 mod findings;
 mod flaws;
 mod known;
@@ -13,6 +14,7 @@ mod report;
 mod rows;
 mod ties;
 
+pub use fault::LintFault;
 pub use findings::{Findings, lint};
 pub use flaws::{QueryFinding, QueryFlaw, RowFinding, RowFlaw};
 pub use laws::findings_are_one;

@@ -7,6 +7,7 @@ ghost use Rattle.lrp_lint.specs.Flaws.{HasUntied};
 ghost use Rattle.lrp_lint.specs.Listed.{IsListOfAll, FindsMore, IsFindingAt, IsFindingIn, IsRowFinding, content_findings, flaw_at, row_order, untied_findings};
 
 use crate::contents::content_flaw;
+use crate::fault::LintFault;
 use crate::flaws::{RowFinding, RowFlaw};
 use crate::listed::rows_in_order;
 use crate::ties::has_untied;
@@ -22,7 +23,7 @@ struct RowNumber {
 }
 
 /// What is wrong with the rows, in the order of the text.
-pub fn row_findings(alloc: Global, database: &Database) -> Result<List<RowFinding>, Memory>
+pub fn row_findings(alloc: Global, database: &Database) -> Result<List<RowFinding>, LintFault>
     ensures { IfOk result (IsListOfAll row_order (IsRowFinding database.now)) }
 {
     let mut found = Vec::new(alloc);
@@ -38,7 +39,7 @@ fn add_relation(
     found: &mut Vec<RowFinding>,
     relation: usize,
     held: &Relation,
-) -> Result<(), Memory>
+) -> Result<(), LintFault>
     requires { IsKept held.now }
     ensures { OnOk result (FindsMore (IsFindingIn relation held.now) found.old.items
         found.new.items) }
@@ -58,7 +59,7 @@ fn add_row(
     at: RowNumber,
     columns: &[Column],
     row: &Row,
-) -> Result<(), Memory>
+) -> Result<(), LintFault>
     requires few { time_count columns.now ≤ 8 }
     requires row { IsRowOf columns.now row.now }
     ensures { OnOk result (FindsMore (IsFindingAt at.relation at.row columns.now row.now)
@@ -76,7 +77,7 @@ fn add_flaws(
     at: RowNumber,
     content: Option<RowFlaw>,
     untied: bool,
-) -> Result<(), Memory>
+) -> Result<(), LintFault>
     ensures { OnOk result (found.new.items
         ≡ found.old.items ++ (content_findings at.relation at.row content
         ++ untied_findings at.relation at.row untied)) }

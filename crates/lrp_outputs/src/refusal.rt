@@ -7,6 +7,7 @@ ghost use Rattle.lrp_outputs.specs.declared.refusal.Refusal.TheVariants.{Memory 
 use crate::head::HeadNeed;
 use crate::status::Status;
 use crate::watch_refusal::WatchRefusal;
+use lrp_lint::LintFault;
 use lrp_model::{DbFault, LIMIT, Memory, QueryFault, QueryRead};
 use lrp_token::TokenFault;
 use thiserror::Error;
@@ -105,6 +106,16 @@ impl From<Memory> for Refusal {
 
     fn from(_: Memory) -> Self {
         Refusal::Memory
+    }
+}
+
+impl From<LintFault> for Refusal {
+    ghost from_gives = { λ _ e. e ≡ memory };
+
+    fn from(fault: LintFault) -> Self {
+        match fault {
+            LintFault::Memory => Refusal::Memory,
+        }
     }
 }
 

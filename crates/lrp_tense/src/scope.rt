@@ -1,5 +1,5 @@
 // What surrounds a formula while it is expanded: how operators are numbered, and the variables that are bound.
-ghost use Rattle.std.specs.Prelude.{◌≡◌, ◌<◌, [], List as ListOf, length, string_bytes, IfOk, OnOk};
+ghost use Rattle.std.specs.Prelude.{◌≡◌, ◌<◌, [], List as ListOf, length, IfOk, OnOk};
 ghost use Rattle.lrp_model.specs.declared.tokens.Place.{Place as PlaceOf};
 ghost use Rattle.lrp_model.specs.Texts.{Identifier};
 ghost use Rattle.std.specs.List.Sorted.{IsNonDecreasing};
@@ -14,7 +14,6 @@ use itoa::Buffer;
 use lrp_model::{Memory, Name, Place};
 use std::alloc::Global;
 use std::marker::Model;
-use std::str::from_utf8;
 
 /// The names that an operator over two formulas brings: of its moment, and of each moment between.
 #[derive(Drop)]
@@ -32,7 +31,7 @@ pub struct OperatorScope<'a> {
     is_ranked: bool,
     places: Vec<Place>,
     positions: Vec<u64>,
-    text: String,
+    bytes: Vec<u8>,
 }
 
 impl<'a> Drop for OperatorScope<'a> {
@@ -42,7 +41,7 @@ impl<'a> Drop for OperatorScope<'a> {
             is_ranked: _is_ranked,
             places: _places,
             positions: _positions,
-            text: _text,
+            bytes: _bytes,
         } = self;
     }
 }
@@ -71,7 +70,7 @@ impl<'a> OperatorScope<'a> {
             is_ranked: false,
             places: Vec::new(alloc),
             positions: Vec::new(alloc),
-            text: String::new(alloc),
+            bytes: Vec::new(alloc),
         }
     }
 
@@ -85,7 +84,7 @@ impl<'a> OperatorScope<'a> {
             is_ranked: true,
             places: Vec::new(alloc),
             positions,
-            text: String::new(alloc),
+            bytes: Vec::new(alloc),
         }
     }
 
@@ -111,7 +110,7 @@ impl<'a> OperatorScope<'a> {
             is_ranked: _is_ranked,
             places,
             positions: _positions,
-            text: _text,
+            bytes: _bytes,
         } = self;
         places
     }
@@ -128,8 +127,8 @@ impl<'a> OperatorScope<'a> {
         ensures name { IfOk result (λ made. made ≡ moment_name name.now number) }
         ensures scope { OnOk result (self.new ≡ self.old) }
     {
-        write_moment(&mut self.text, name, number)?;
-        Name::new(alloc, self.text.as_str())
+        write_moment(&mut self.bytes, name, number)?;
+        Name::of_bytes(alloc, self.bytes.as_slice())
     }
 
     /// The same, and the name of each moment between.
@@ -138,10 +137,10 @@ impl<'a> OperatorScope<'a> {
         ensures between { IfOk result (λ made. made.between ≡ between_name name.now number) }
         ensures scope { OnOk result (self.new ≡ self.old) }
     {
-        write_moment(&mut self.text, name, number)?;
-        let own = Name::new(alloc, self.text.as_str())?;
-        self.text.push('~')?;
-        let between = Name::new(alloc, self.text.as_str())?;
+        write_moment(&mut self.bytes, name, number)?;
+        let own = Name::of_bytes(alloc, self.bytes.as_slice())?;
+        self.bytes.push(b'~')?;
+        let between = Name::of_bytes(alloc, self.bytes.as_slice())?;
         Ok(Moments { own, between })
     }
 
@@ -180,17 +179,13 @@ fn present<'b>(variables: &'b [ScopedVariable<'_>], written: &'b Name) -> &'b Na
     written
 }
 
-// The name of an operator's moment, in place of what the text was.
-fn write_moment(text: &mut String, name: &Name, number: u64) -> Result<(), Memory>
-    ensures { OnOk result (string_bytes text.new ≡ moment_name name.now number) }
+// The name of an operator's moment, in place of what the bytes were.
+fn write_moment(bytes: &mut Vec<u8>, name: &Name, number: u64) -> Result<(), Memory>
+    ensures { OnOk result (bytes.new.items ≡ moment_name name.now number) }
 {
-    // Names are made of texts alone, so they are UTF-8.
-    let Ok(written) = from_utf8(name.as_bytes()) else {
-        return Err(Memory);
-    };
-    text.clear();
-    text.push_str(written)?;
-    text.push('~')?;
-    text.push_str(Buffer::new().format(number))?;
+    bytes.clear();
+    bytes.extend_from_slice(name.as_bytes())?;
+    bytes.push(b'~')?;
+    bytes.extend_from_slice(Buffer::new().format(number).as_bytes())?;
     Ok(())
 }

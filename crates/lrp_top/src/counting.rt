@@ -34,7 +34,7 @@ pub fn number(alloc: Global, question: &Question, counting: &Counting) -> Result
     match answers(alloc, question, counting.cap) {
         Ok(answer) => match count(alloc, &answer, counting.from, counting.to) {
             Ok(number) => Ok(Output::Count(number)),
-            Err(Memory) => Err(Refusal::Memory),
+            Err(Memory { .. }) => Err(Refusal::Memory),
         },
         Err(refusal) => Err(refusal),
     }
@@ -53,7 +53,7 @@ pub fn range_lines(alloc: Global, question: &Question, ranging: &Ranging) -> Res
     match answers(alloc, question, ranging.cap) {
         Ok(answer) => match lines_of(alloc, &answer, ranging) {
             Ok(lines) => Ok(Output::Ranges(lines)),
-            Err(Memory) => Err(Refusal::Memory),
+            Err(Memory { .. }) => Err(Refusal::Memory),
         },
         Err(refusal) => Err(refusal),
     }

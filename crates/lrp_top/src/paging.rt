@@ -360,7 +360,7 @@ fn page_from<S: Sink>(
             let kept = KeptDatabase { civil, file, last };
             Told { status, kept }
         }
-        Err(Memory) => {
+        Err(Memory { .. }) => {
             let status = tell(out, &Err(Refusal::Memory));
             let last = None;
             let kept = KeptDatabase { civil, file, last };

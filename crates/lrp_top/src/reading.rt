@@ -75,7 +75,7 @@ pub fn relations_of(
     };
     match plain_text_of(alloc, bytes, civil) {
         Ok(plain) => read_database(alloc, plain.as_slice()),
-        Err(Memory) => Err(ReadFault::Memory),
+        Err(Memory { .. }) => Err(ReadFault::Memory),
     }
 }
 
@@ -167,8 +167,9 @@ fn civil_query(alloc: Global, database: &Database, bytes: &[u8]) -> Result<RawQu
     ensures every { (raw : RawQuestion) → IsWideSaid true database.now bytes.now raw
         → IsRawOrMemory raw result }
 {
-    let Ok(plain) = plain_text_of(alloc, bytes, CivilText::WideQuery) else {
-        return Err(Refusal::Memory);
+    let plain = match plain_text_of(alloc, bytes, CivilText::WideQuery) {
+        Ok(plain) => plain,
+        Err(Memory { .. }) => return Err(Refusal::Memory),
     };
     match wide_query(alloc, database, plain.as_slice()) {
         Ok(raw) => Ok(raw),
@@ -228,7 +229,7 @@ pub fn raw_of(alloc: Global, bytes: &[u8], tense: bool) -> Result<RawQuery, Quer
     drop(written);
     match expanded {
         Ok(raw) => Ok(raw),
-        Err(Memory) => Err(QueryRead::Memory),
+        Err(Memory { .. }) => Err(QueryRead::Memory),
     }
 }
 

@@ -143,7 +143,7 @@ pub fn named_answer(
 {
     match Name::new(alloc, name) {
         Ok(name) => whole_answer(alloc, question, cap, canon, name),
-        Err(Memory) => Err(Refusal::Memory),
+        Err(Memory { .. }) => Err(Refusal::Memory),
     }
 }
 
@@ -228,7 +228,7 @@ fn canonical_text(
     match canonical_within(alloc, answer, cap) {
         Ok(Some(answer)) => Ok(Output::Answer(WholeAnswer::new(answer, name))),
         Ok(None) => Err(Refusal::CanonRows { cap }),
-        Err(Memory) => Err(Refusal::Memory),
+        Err(Memory { .. }) => Err(Refusal::Memory),
     }
 }
 
