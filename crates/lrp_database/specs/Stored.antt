@@ -1,5 +1,5 @@
 -- What a database holds beside its relations.
-use Rattle.std.specs.Prelude.{◌≡◌, ◌<◌, ◌^◌, List, [], map, length}
+use Rattle.std.specs.Prelude.{◌≡◌, List, [], map, length}
 use Rattle.indexmap.specs.IndexSet.{keys}
 use Rattle.lrp_model.specs.Texts.{Identifier}
 use Rattle.lrp_model.specs.Domains.{database_texts}
@@ -8,10 +8,6 @@ use Rattle.lrp_model.specs.declared.relations.Relation.{Relation}
 use Rattle.lrp_model.specs.Kept.{AreKept}
 use Rattle.lrp_database.specs.declared.texts.TextLists.{TextLists}
 use Rattle.lrp_database.specs.Once.{once, texts_among, texts_with, texts_beside}
-
--- a database has fewer than 2 ^ 24 data texts in its rows
-abbrev pub HasFewTexts : List Relation → Type 0
-HasFewTexts relations = length (database_texts relations) < 2 ^ 24
 
 -- the texts of all sorts, of the sort without a name, and of each sort with one are those of the rows
 pub record AreTextsOf (relations : List Relation) (texts : TextLists) : Type 0 where
@@ -24,6 +20,5 @@ pub record AreTextsOf (relations : List Relation) (texts : TextLists) : Type 0 w
 -- the relations are kept, their names stand in order, and the texts are theirs
 pub record IsDatabaseStored (relations : List Relation) (names : List Identifier) (texts : TextLists) : Type 0 where
   pub kept : AreKept relations
-  pub few : HasFewTexts relations
   pub order : names ≡ map (λ r. r.name) relations
   pub held : AreTextsOf relations texts

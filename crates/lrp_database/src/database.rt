@@ -9,7 +9,6 @@ ghost use Rattle.lrp_model.specs.Domains.{database_texts};
 ghost use Rattle.lrp_model.specs.Sorts.{is_time};
 ghost use Rattle.lrp_model.specs.Kept.{AreKept, IsKept};
 ghost use Rattle.lrp_database.specs.Once.{once, texts_among, texts_with};
-ghost use Rattle.lrp_database.specs.Stored.{HasFewTexts};
 ghost use Rattle.lrp_model.specs.Texts.{AreDistinct};
 
 use crate::texts::TextLists;
@@ -20,7 +19,7 @@ use std::marker::Model;
 
 /// The relations of a database, in order. Each is what the text of a database can say: names are names, those of relations
 /// differ and so do those of the columns of each, a row has a value for each column, periods are from 1 to 2^62, and bounds
-/// have a magnitude of at most 2^62. The rows have fewer than 2^24 data texts.
+/// have a magnitude of at most 2^62.
 #[derive(Drop)]
 pub struct Database {
     relations: List<Relation>,
@@ -57,7 +56,6 @@ impl Database {
     /// The database of kept relations.
     pub fn of(alloc: Global, relations: List<Relation>) -> Result<Database, Memory>
         requires kept { AreKept relations }
-        requires few { HasFewTexts relations }
         ensures { IfOk result (λ made. made ≡ relations) }
     {
         let names = names_of(alloc, relations.as_slice())?;
@@ -107,7 +105,6 @@ impl Database {
     pub fn relations(&self) -> usize
         ensures len { result ≡ length self.now }
         ensures kept { AreKept self.now }
-        ensures few { HasFewTexts self.now }
     {
         self.relations.len()
     }

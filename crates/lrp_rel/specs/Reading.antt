@@ -1,5 +1,5 @@
 -- What reading the text of a database means.
-use Rattle.std.specs.Prelude.{◌≡◌, ◌≤◌, ℕ, List, [], Some, length, Result, Ok, Err}
+use Rattle.std.specs.Prelude.{◌≡◌, ◌<◌, ◌≤◌, ◌^◌, ℕ, List, [], Some, length, Result, Ok, Err}
 use Rattle.lrp_model.specs.declared.tokens.Fault.{Fault as TokenFault}
 use Rattle.lrp_model.specs.declared.tokens.Fault.TheVariants.{Syntax as syntax, Number as number, TextTooLong as text_too_long, Period as period, Deep, Memory as memory}
 use Rattle.lrp_model.specs.declared.tokens.Place.{Place}
@@ -8,6 +8,7 @@ use Rattle.lrp_model.specs.declared.faults.DbKind.{DbKind}
 use Rattle.lrp_model.specs.declared.faults.DbKind.TheVariants.{Utf8, Syntax, Number, Period, TextTooLong, Name, Arity, Sort, Column, Wide, UnknownRelation}
 use Rattle.lrp_model.specs.Faults.{earliest}
 use Rattle.lrp_model.specs.DatabaseMeaning.{database_of}
+use Rattle.lrp_model.specs.Domains.{database_texts}
 use Rattle.lrp_model.specs.DatabaseFaults.{database_standing, database_faults}
 use Rattle.lrp_model.specs.DatabaseReading.{IsNoUtf8, IsNoDatabaseText, IsDatabaseText, IsDatabaseFault}
 use Rattle.lrp_model.specs.declared.relations.Relation.{Relation}
@@ -17,6 +18,10 @@ use Rattle.lrp_rel.specs.declared.gathering.Gathered.{Gathered}
 use Rattle.lrp_rel.specs.declared.trees.ReadFault.{ReadFault}
 use Rattle.lrp_rel.specs.declared.trees.ReadFault.TheVariants.{Fault, Memory}
 use Rattle.lrp_model.specs.Limits.{most_bytes}
+
+-- a database has fewer than 2 ^ 24 data texts in its rows
+abbrev pub HasFewTexts : List Relation → Type 0
+HasFewTexts relations = length (database_texts relations) < 2 ^ 24
 
 -- a fault of the bytes, or one of the grammar
 abbrev pub IsDatabaseTextFaultOf : List ℕ → DbKind → DbFault → Type 0

@@ -5,7 +5,7 @@ ghost use Rattle.lrp_model.specs.declared.faults.DbFault.{DbFault as FaultOf};
 ghost use Rattle.lrp_model.specs.declared.relations.Relation.{Relation as RelationOf};
 ghost use Rattle.lrp_model.specs.declared.written.RawRelation.{RawRelation as Tree};
 ghost use Rattle.lrp_rel.specs.Gathered.{AreRelationsGathered};
-ghost use Rattle.lrp_rel.specs.Reading.{IsReadOrMemory, IsDatabaseFaultOrMemory, IsRefusedBy, IsSoundTree, IsGatheredFromText, IsTreeRefusal};
+ghost use Rattle.lrp_rel.specs.Reading.{HasFewTexts, IsReadOrMemory, IsDatabaseFaultOrMemory, IsRefusedBy, IsSoundTree, IsGatheredFromText, IsTreeRefusal};
 ghost use Rattle.lrp_model.specs.Limits.{most_bytes};
 
 use crate::gathering::Gathered;
@@ -18,6 +18,7 @@ fn database_of(alloc: Global, gathered: Gathered) -> Result<Database, ReadFault>
     requires { IsGatheredFromText gathered }
     ensures read { IfOk result (λ db. (tree : ListOf Tree) → AreRelationsGathered tree gathered
         → IsSoundTree tree db) }
+    ensures few { IfOk result HasFewTexts }
     ensures refused { IfErr result (λ e. (tree : ListOf Tree) → AreRelationsGathered tree gathered
         → IsTreeRefusal tree e) }
 {
@@ -31,6 +32,7 @@ fn database_of(alloc: Global, gathered: Gathered) -> Result<Database, ReadFault>
 fn database_of_bytes(alloc: Global, bytes: &[u8]) -> Result<Database, ReadFault>
     requires { length bytes.now ≤ most_bytes }
     ensures read { IfOk result (IsDatabase bytes.now) }
+    ensures few { IfOk result HasFewTexts }
     ensures refused { IfErr result (IsRefusedBy bytes.now) }
 {
     let gathered = read_bytes(alloc, bytes)?;
@@ -43,6 +45,7 @@ pub fn read_database(alloc: Global, bytes: &[u8]) -> Result<Database, ReadFault>
     requires { length bytes.now ≤ most_bytes }
     ensures read { IfOk result (IsDatabase bytes.now) }
     ensures refused { IfErr result (IsRefusedBy bytes.now) }
+    ensures few { IfOk result HasFewTexts }
 
     // Each database is read, and each other text is refused for its one fault.
     ensures every_database { (db : ListOf RelationOf) → IsDatabase bytes.now db
