@@ -18,8 +18,8 @@ use Rattle.lrp_steps.specs.Rows.{bounds_reach, CanBeRead, DividesPeriod}
 use Rattle.lrp_cutting.proofs.Lists.{got_in}
 use Rattle.lrp_parts.specs.Derivations.{CanBeReadBy, CanDerive, Ground}
 use Rattle.lrp_kept.specs.Keys.{keys_of}
-use Rattle.lrp_kept.specs.Disjuncts.{IsAtomOf, IsDisjunctOf}
-use Rattle.lrp_kept.specs.KeptForm.{kept_elements, is_conjunctive, is_neither, some_passes}
+use Rattle.lrp_kept.specs.Disjuncts.{IsAtomOf, IsDisjunctOf, bound_columns}
+use Rattle.lrp_kept.specs.KeptForm.{all_occur, kept_elements, is_conjunctive, is_neither, some_passes}
 use Rattle.lrp_kept.specs.Outlines.{IsOutlineFor}
 use Rattle.lrp_kept.specs.Sizes.{joined_reach, scaled_over}
 use Rattle.lrp_kept.specs.declared.disjuncts.Disjunct.{Disjunct}
@@ -27,6 +27,7 @@ use Rattle.lrp_kept.specs.declared.disjuncts.JoinedAtom.{JoinedAtom}
 use Rattle.lrp_kept.specs.declared.rows.Sketch.{Sketch}
 use Rattle.lrp_kept.specs.declared.rows.HeldRow.{HeldRow}
 use Rattle.lrp_parts.proofs.After.{own_reach, rises}
+use Rattle.lrp_keep.proofs.HeadNames.{HaveOtherNames, head_variables_are}
 use Rattle.lrp_keep.proofs.HeadRoom.{near_row, near_tests}
 use Rattle.lrp_keep.proofs.KeptAnswers.{zip_back}
 use Rattle.lrp_parts.proofs.Narrow.{can_be_joined, has_head}
@@ -43,12 +44,14 @@ pub record IsReadable (g : Ground) (bounds : List ℕ) (d : Disjunct) (i : ℕ) 
   pub low : bounds_reach source.row.bounds a.terms + g.period ≤ joined_reach bounds g.period a
   pub sketched : (s : Sketch) → Contains source.sketches.items s → s.disjunct ≡ d.number → s.atom ≡ i → IsOutlineFor g.domain a.vars a.terms source.row s.outline
 
--- the head's names, and that the free variables of the disjunct are among them
+-- the head's names: the free variables of the disjunct are among them, each occurs in an atom, and no variable that it binds has one of them
 pub record IsOfHead (g : Ground) (f : Form) : Type 0 where
   pub own : HaveDistinctNames g.head
   pub few_times : length (head_times g.head) ≤ 8
   pub few_texts : length (head_texts g.head) ≤ 8
   pub known : (w : Variable) → Contains (free f) w → Contains (head_variables g.head) w
+  pub occur : all_occur (kept_elements f) (head_variables g.head) ≡ true
+  pub apart : HaveOtherNames g.head (bound_columns f)
 
 -- where the limit of the reach is kept
 module _ (g : Ground) (bounds : List ℕ) (ds : List Disjunct) (d : Disjunct) (listed : Contains ds d) (some : 0 < length d.atoms.items) (high : scaled_over bounds g.period g.head ds ≤ 2 ^ 62) where
@@ -91,5 +94,5 @@ module _ (names : List Identifier) (f : Form) (d : Disjunct) (is : IsDisjunctOf 
     tests_room = low_tests;
     room = near_tests bounds g.period g.head ds high d listed some;
     rows = λ i a key at k. read_by g bounds ds d listed some high i a key at (rows i a key at k);
-    head = λ a at. has_head names f d is literal (length d.atoms.items - 1) a at g head.own head.few_times head.few_texts head.known;
+    head = λ a at. has_head names f d is literal (length d.atoms.items - 1) a at g head.own head.few_times head.few_texts head.known (head_variables_are names f d is kept g.head head.occur head.apart a at);
   }

@@ -77,7 +77,7 @@ pub not_true : (a : Bool) → not a ≡ true → a ≡ false
 not_true true e = cc
 not_true false e = refl
 
-one_occurs : (fs : Forms) (vs : List Variable) (v : Variable) → all_occur fs vs ≡ true → Contains vs v → some_passes (is_atom_with v) fs ≡ true
+pub one_occurs : (fs : Forms) (vs : List Variable) (v : Variable) → all_occur fs vs ≡ true → Contains vs v → some_passes (is_atom_with v) fs ≡ true
 one_occurs fs [] v e i = absurd (let l : i.0 < 0 = i.1 in omega (arith, l))
 one_occurs fs (w ∷ vs) v e i = elim (cons_cases w v vs i) [
   | inl s ↦ subst (λ x. some_passes (is_atom_with x) fs ≡ true) s (and_first (some_passes (is_atom_with w) fs) (all_occur fs vs) e)

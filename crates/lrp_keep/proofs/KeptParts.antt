@@ -15,11 +15,18 @@ use Rattle.lrp_kept.specs.Limits.{kept_reach, most_of, scaled_kept_reach, time_q
 use Rattle.lrp_model.specs.Variables.{head_variables}
 use Rattle.lrp_keep.proofs.KeptAnswers.{not_true, one_passes}
 
-pub conjunctive_of : (q : Question) → is_kept q ≡ true → (f : Form) → Contains (listed_disjuncts q) f → is_conjunctive (kept_elements f) ≡ true
-conjunctive_of q kept f c =
+parts_of : (q : Question) → is_kept q ≡ true → (f : Form) → Contains (listed_disjuncts q) f → (is_conjunctive (kept_elements f) ≡ true) × (all_occur (kept_elements f) (head_variables q.head) ≡ true)
+parts_of q kept f c =
     let good : is_disjunct q.head f ≡ true = one_passes (is_disjunct q.head) (query_disjuncts q) f kept c in
     let two = and_parts (is_conjunctive (kept_elements f) && all_occur (kept_elements f) (head_variables q.head)) (all_occur (kept_elements f) (bound_variables f)) good in
-    (and_parts (is_conjunctive (kept_elements f)) (all_occur (kept_elements f) (head_variables q.head)) two.0).0
+    and_parts (is_conjunctive (kept_elements f)) (all_occur (kept_elements f) (head_variables q.head)) two.0
+
+pub conjunctive_of : (q : Question) → is_kept q ≡ true → (f : Form) → Contains (listed_disjuncts q) f → is_conjunctive (kept_elements f) ≡ true
+conjunctive_of q kept f c = (parts_of q kept f c).0
+
+-- the variables of the head occur in atoms
+pub head_occurs : (q : Question) → is_kept q ≡ true → (f : Form) → Contains (listed_disjuncts q) f → all_occur (kept_elements f) (head_variables q.head) ≡ true
+head_occurs q kept f c = (parts_of q kept f c).1
 
 pub literal_in : (f : Form) → is_conjunctive (kept_elements f) ≡ true → some_passes is_neither (kept_elements f) ≡ false
 literal_in f e =

@@ -8,6 +8,7 @@ pub mod Carried
 pub mod StateLaws
 pub mod Resting
 pub mod HeadRoom
+pub mod HeadNames
 pub mod Deriving
 pub mod Reaching
 pub mod LowRows

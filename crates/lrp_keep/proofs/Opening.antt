@@ -50,7 +50,7 @@ use Rattle.lrp_kept.specs.declared.rows.HeldRow.{HeldRow}
 use Rattle.lrp_kept.proofs.Room.{at_most, atom_room, below_greatest}
 use Rattle.lrp_kept.proofs.SortedDisjuncts.{disjunct_in_head, disjunct_narrow, few_head_texts, few_head_times, head_named}
 use Rattle.lrp_kept.proofs.SortedForms.{disjuncts_sorted}
-use Rattle.lrp_kept.proofs.SortedHeads.{same_form}
+use Rattle.lrp_kept.proofs.SortedHeads.{in_turned, same_form}
 use Rattle.lrp_parts.specs.Derivations.{CanDerive}
 use Rattle.lrp_parts.proofs.KeyedRows.{row_of_key}
 use Rattle.lrp_parts.proofs.Narrow.{can_be_joined, fits_elements}
@@ -65,7 +65,8 @@ use Rattle.lrp_keep.proofs.Adding.{names_in, scaled_is}
 use Rattle.lrp_keep.proofs.Cored.{periods_from, periods_to, read_in, tested_point}
 use Rattle.lrp_keep.proofs.Counted.{joined_count}
 use Rattle.lrp_keep.proofs.Deriving.{IsReadable, can_derive}
-use Rattle.lrp_keep.proofs.KeptParts.{conjunctive_of, literal_of, scaled_named}
+use Rattle.lrp_keep.proofs.HeadNames.{other_names}
+use Rattle.lrp_keep.proofs.KeptParts.{conjunctive_of, head_occurs, literal_of, scaled_named}
 use Rattle.lrp_keep.proofs.LargeChoices.{large_choice, no_large_choice}
 use Rattle.lrp_keep.proofs.Lists.{any_at, equal_self, same_images, zip_of}
 use Rattle.lrp_keep.proofs.LowRows.{most_at}
@@ -381,6 +382,8 @@ module _ (of : KeptQuery) (db : List Relation) (start : HeldRows) (can : CanBeOp
                 few_times = subst (λ (p : Question). length (head_times p.head) ≤ 8) (sym can.can.query.is) (few_head_times db can.can.query.raw can.can.query.sorted);
                 few_texts = subst (λ (p : Question). length (head_texts p.head) ≤ 8) (sym can.can.query.is) (few_head_texts db can.can.query.raw can.can.query.sorted);
                 known = λ w k. subst (λ (p : Question). Contains (head_variables p.head) w) (sym can.can.query.is) (disjunct_in_head db can.can.query.raw can.can.query.sorted z.0 inside w k);
+                occur = head_occurs q can.can.kept z.0 z.1;
+                apart = λ c b k l. other_names z.0 db bs (sorted_in z.0 z.1) c b (in_turned can.can.query.raw.head c (subst (λ (p : Question). Contains p.head c) can.can.query.is k)) l;
               })
               (λ j a key e c. readable_in d listed j a key e c)
             where

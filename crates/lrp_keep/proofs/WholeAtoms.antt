@@ -119,7 +119,7 @@ module _ (names : List Identifier) (f : Form) (d : Disjunct) (is : IsDisjunctOf 
     low : (i : ℕ) (j : JoinedAtom) → slice_get d.atoms.items i ≡ Some j → i ≤ length d.atoms.items - 1
     low i j e = let l : i < length d.atoms.items = slice_get_within d.atoms.items i j e in omega (arith, l)
 
-    time_known : (v : Identifier) → some_passes (is_atom_with (time_variable v)) (kept_elements f) ≡ true → Contains last.vars.times v
+    pub time_known : (v : Identifier) → some_passes (is_atom_with (time_variable v)) (kept_elements f) ≡ true → Contains last.vars.times v
     time_known v e =
         let a = atom_of time_variable times_of_term time_among (kept_elements f) v e in
         let r = joined_with a.0 a.1 in
@@ -127,7 +127,7 @@ module _ (names : List Identifier) (f : Form) (d : Disjunct) (is : IsDisjunctOf 
         let b = rises d.tests [] [] d.atoms.items is.joined r.0 (length d.atoms.items - 1) r.1 last (low r.0 r.1 r.2) r.2 at in
         subst (λ ns. Contains ns v) (sym b.times.1) (in_left r.1.vars.times b.times.0 v own)
 
-    text_known : (v : Identifier) → some_passes (is_atom_with (data_variable v)) (kept_elements f) ≡ true → Contains last.vars.texts v
+    pub text_known : (v : Identifier) → some_passes (is_atom_with (data_variable v)) (kept_elements f) ≡ true → Contains last.vars.texts v
     text_known v e =
         let a = atom_of data_variable texts_of_term text_among (kept_elements f) v e in
         let r = joined_with a.0 a.1 in

@@ -59,9 +59,7 @@ impl State {
         if is_above(of, &rows, period) {
             return Err(KeepFault::BoundLimit);
         }
-        let Ok(()) = hold_each(of, database, &mut rows) else {
-            return Err(KeepFault::Memory);
-        };
+        hold_each(of, database, &mut rows)?;
         match of.derive_all(&rows, period) {
             Ok(derived) => Ok(State {
                 rows,
@@ -134,12 +132,8 @@ impl State {
         if is_above(of, &self.rows, period) {
             return Err(KeepFault::BoundLimit);
         }
-        let Ok(source) = of.source(relation, row) else {
-            return Err(KeepFault::Memory);
-        };
-        let Ok(key) = self.rows.hold(source) else {
-            return Err(KeepFault::Memory);
-        };
+        let source = of.source(relation, row)?;
+        let key = self.rows.hold(source)?;
         match self.derive(of, relation, key, period) {
             Ok(()) => Ok(()),
             Err(fault) => {

@@ -26,6 +26,7 @@ use Rattle.lrp_tables.proofs.Joining.{joint_differs, of_joint}
 use Rattle.lrp_tables.proofs.Named.{pairs_tail}
 use Rattle.lrp_cutting.proofs.Lists.{pairs_append, pairs_none}
 use Rattle.lrp_parts.specs.Derivations.{CanBeJoinedAt, Ground, HasHeadOf}
+use Rattle.lrp_parts.specs.Heads.{AreHeadVariables}
 use Rattle.lrp_kept.specs.Disjuncts.{AreJoined, IsAtomOf, IsDisjunctOf, bound_columns, is_test_covered}
 use Rattle.lrp_kept.specs.KeptForm.{bound_variables, kept_elements, is_neither, some_passes}
 use Rattle.lrp_kept.specs.declared.disjuncts.Disjunct.{Disjunct}
@@ -239,13 +240,17 @@ module _ (names : List Identifier) (f : Form) (d : Disjunct) (is : IsDisjunctOf 
       tests = all_by (CanBeCarried a.vars.times a.vars.texts (pos g.period)) a.tests (carried g periods);
     }
 
-    -- where the free variables of the disjunct are the head's
-    pub has_head : (g : Ground) → HaveDistinctNames g.head → length (head_times g.head) ≤ 8 → length (head_texts g.head) ≤ 8 → ((w : Variable) → Contains (free f) w → Contains (head_variables g.head) w) → HasHeadOf g d a
-    has_head g own few_times few_texts known = record {
+    -- where the free variables of the disjunct are the head's, and the atom has those
+    pub has_head : (g : Ground) → HaveDistinctNames g.head → length (head_times g.head) ≤ 8 → length (head_texts g.head) ≤ 8 → ((w : Variable) → Contains (free f) w → Contains (head_variables g.head) w) → AreHeadVariables g.head d.bound a.vars → HasHeadOf g d a
+    has_head g own few_times few_texts known all = record {
       names = λ whole t x. record {
         names = own;
         few_times = few_times;
         few_texts = few_texts;
+        own = record {
+          times = λ v c. let h = all.times v c in (subst (λ ns. Contains ns v) (sym t) h.0, h.1);
+          texts = λ v c. let h = all.texts v c in (subst (λ ns. Contains ns v) (sym x) h.0, h.1);
+        };
         times = λ v c. elim (free_or_bound f (time_variable v) (time_occurs v (subst (λ ns. Contains ns v) t c))) [
           | inl k ↦ inl (head_time g.head v (known (time_variable v) k))
           | inr b ↦ let r = bound_column f (time_variable v) b in let n = time_bound r.0.sort r.0.name v r.2 in inr (record { column = r.0; listed = subst (λ cs. Contains cs r.0) (sym is.bound_are) r.1; sort = n.0; named = n.1 })

@@ -24,19 +24,19 @@ pub hold_each-requires-clause-can : goal.hold_each-requires-clause-can
 hold_each-requires-clause-can c = can_sketch_all c.args.of.now c.args.database.now c.args.relations c.requires c.in-Some.period.number c.in-Some.ensures c.mark_all.new.rows c.mark_all.ensures (c.is_above.ensures.within c.if-is_above.false)
 
 pub derive_all-requires : goal.derive_all-requires
-derive_all-requires c = can_opened c.args.of.now c.args.database.now c.args.relations c.requires c.in-Some.period.number c.in-Some.ensures c.mark_all.new.rows c.mark_all.ensures (c.is_above.ensures.within c.if-is_above.false) c.hold_each.new.rows c.in-Ok.ensures
+derive_all-requires c = can_opened c.args.of.now c.args.database.now c.args.relations c.requires c.in-Some.period.number c.in-Some.ensures c.mark_all.new.rows c.mark_all.ensures (c.is_above.ensures.within c.if-is_above.false) c.hold_each.new.rows c.in_ok-hold_each.ensures
 
-pub returns-in-Ok-derive_all-clause-keeper : goal.returns-in-Ok-derive_all-clause-keeper
-returns-in-Ok-derive_all-clause-keeper c = keeper_opened c.args.of.now c.args.database.now c.args.relations c.requires c.in-Some.period.number c.in-Some.ensures c.mark_all.new.rows c.mark_all.ensures (c.is_above.ensures.within c.if-is_above.false) c.hold_each.new.rows c.in-Ok.ensures (record { rows = c.hold_each.new.rows; period = c.in-Some.period; derived = c.in-Ok-derive_all.derived }) refl refl c.in-Ok-derive_all.ensures.derived
+pub returns-in-Ok-clause-keeper : goal.returns-in-Ok-clause-keeper
+returns-in-Ok-clause-keeper c = keeper_opened c.args.of.now c.args.database.now c.args.relations c.requires c.in-Some.period.number c.in-Some.ensures c.mark_all.new.rows c.mark_all.ensures (c.is_above.ensures.within c.if-is_above.false) c.hold_each.new.rows c.in_ok-hold_each.ensures (record { rows = c.hold_each.new.rows; period = c.in-Some.period; derived = c.in-Ok.derived }) refl refl c.in-Ok.ensures.derived
 
-pub returns-in-Ok-derive_all-clause-view : goal.returns-in-Ok-derive_all-clause-view
-returns-in-Ok-derive_all-clause-view c = view_opened c.args.of.now c.args.database.now c.args.relations c.requires c.in-Some.period.number c.in-Some.ensures c.mark_all.new.rows c.mark_all.ensures (c.is_above.ensures.within c.if-is_above.false) c.hold_each.new.rows c.in-Ok.ensures (record { rows = c.hold_each.new.rows; period = c.in-Some.period; derived = c.in-Ok-derive_all.derived }) refl refl c.in-Ok-derive_all.ensures.derived
+pub returns-in-Ok-clause-view : goal.returns-in-Ok-clause-view
+returns-in-Ok-clause-view c = view_opened c.args.of.now c.args.database.now c.args.relations c.requires c.in-Some.period.number c.in-Some.ensures c.mark_all.new.rows c.mark_all.ensures (c.is_above.ensures.within c.if-is_above.false) c.hold_each.new.rows c.in_ok-hold_each.ensures (record { rows = c.hold_each.new.rows; period = c.in-Some.period; derived = c.in-Ok.derived }) refl refl c.in-Ok.ensures.derived
 
-pub returns-in-Ok-derive_all-clause-limits : goal.returns-in-Ok-derive_all-clause-limits
-returns-in-Ok-derive_all-clause-limits c = limits_opened c.args.of.now c.args.database.now c.args.relations c.requires c.in-Some.period.number c.in-Some.ensures c.mark_all.new.rows c.mark_all.ensures (c.is_above.ensures.within c.if-is_above.false) c.hold_each.new.rows c.in-Ok.ensures (record { rows = c.hold_each.new.rows; period = c.in-Some.period; derived = c.in-Ok-derive_all.derived }) refl refl c.in-Ok-derive_all.ensures.derived
+pub returns-in-Ok-clause-limits : goal.returns-in-Ok-clause-limits
+returns-in-Ok-clause-limits c = limits_opened c.args.of.now c.args.database.now c.args.relations c.requires c.in-Some.period.number c.in-Some.ensures c.mark_all.new.rows c.mark_all.ensures (c.is_above.ensures.within c.if-is_above.false) c.hold_each.new.rows c.in_ok-hold_each.ensures (record { rows = c.hold_each.new.rows; period = c.in-Some.period; derived = c.in-Ok.derived }) refl refl c.in-Ok.ensures.derived
 
 pub returns-in-Err-clause-fault : goal.returns-in-Err-clause-fault
 returns-in-Err-clause-fault c =
     subst (λ f. IsPastLimit (opened c.args.of.now.query.now c.args.database.now c.args.of.now.domain c.args.of.now.cap) f) (sym c.of_step.ensures)
     (opened_cause (opened c.args.of.now.query.now c.args.database.now c.args.of.now.domain c.args.of.now.cap) c.in-Err.fault (λ e.
-    large_cause c.args.of.now c.args.database.now c.args.relations c.requires c.in-Some.period.number c.in-Some.ensures c.mark_all.new.rows c.mark_all.ensures (c.is_above.ensures.within c.if-is_above.false) c.hold_each.new.rows c.in-Ok.ensures (c.in-Err.ensures.many (ap Err e))))
+    large_cause c.args.of.now c.args.database.now c.args.relations c.requires c.in-Some.period.number c.in-Some.ensures c.mark_all.new.rows c.mark_all.ensures (c.is_above.ensures.within c.if-is_above.false) c.hold_each.new.rows c.in_ok-hold_each.ensures (c.in-Err.ensures.many (ap Err e))))
