@@ -7,7 +7,7 @@ use Rattle.std.specs.BTreeMap.{is_at, insert_entry}
 use Rattle.std.specs.Ordering.{is_eq, match_ordering}
 use Rattle.std.proofs.lemmas.Map.Entries.{lookup_at_gap, lookup_head, lookup_tail}
 use Rattle.std.proofs.lemmas.Map.Keys.{sorted_tail}
-use Rattle.std.specs.Prelude.{IfSome, IsSome, option_map, unwrap_or, Result, Ok, Err, IfOk, OnErr}
+use Rattle.std.specs.Prelude.{IfSome, IsSome, option_map, unwrap_or, Result, Ok, Err, IfOk, OnErr, OnSome, IfNone}
 use Rattle.slab.specs.Slab.{Slab, slab_len}
 use Rattle.lrp_model.specs.declared.tuples.Cell.{Cell}
 use Rattle.lrp_slots.specs.declared.chains.Link.{Link}
@@ -75,3 +75,20 @@ module _ {A B : Type 0} where
   pub of_both : (r : Result A B) (P : A → Type 0) (X Y : Type 0) → ((a : A) → P a → Y) → (X → Y) → IfOk r P → OnErr r X → Y
   of_both (Ok a) P X Y f g p x = f a p
   of_both (Err b) P X Y f g p x = g x
+
+module _ {X : Type 0} where
+  -- where there is something and where not
+  pub of_found : (o : Option X) (A B Z : Type 0) → (A → Z) → (B → Z) → OnSome o A → IfNone o B → Z
+  of_found (Some x) A B Z f g a b = f a
+  of_found None A B Z f g a b = g b
+
+  -- of something
+  pub on_some : (o : Option X) (A B : Type 0) → (A → B) → OnSome o A → OnSome o B
+  on_some (Some x) A B f a = f a
+  on_some None A B f a = tt
+
+-- where a cell was put in and where not
+pub of_put : {E : Type 0} (r : Result Bool E) (X Y Z : Type 0) → (r ≡ Ok true → X) → (r ≡ Ok false → Y) → OnErr r Y → (X → Z) → (Y → Z) → Z
+of_put (Ok true) X Y Z x y e f g = f (x refl)
+of_put (Ok false) X Y Z x y e f g = g (y refl)
+of_put (Err d) X Y Z x y e f g = g e

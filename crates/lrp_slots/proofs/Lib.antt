@@ -1,4 +1,5 @@
 pub mod Added
+pub mod Keyed
 pub mod Keys
 pub mod Lengthened
 pub mod Linked

@@ -233,13 +233,13 @@ after_last (x ∷ y ∷ es) k e line at gt =
     (above k y.0 x.0 rest.0 (first_of x (y ∷ es) line).0, rest)
 
 -- the cell at a place comes after those before it
-after_before : (es : List (Cell × Chain)) (i : ℕ) (e : Cell × Chain) → IsLine es → slice_get es i ≡ Some e → IsAfterAll e.0 (take i es)
+pub after_before : (es : List (Cell × Chain)) (i : ℕ) (e : Cell × Chain) → IsLine es → slice_get es i ≡ Some e → IsAfterAll e.0 (take i es)
 after_before [] i e line at = cc
 after_before (x ∷ es) zero e line at = tt
 after_before (x ∷ es) (suc i) e line at =
     (turned x.0 e.0 Less (at_key (λ y. cell_cmp x.0 y ≡ Less) es i e (first_of x es line) at), after_before es i e (rest_of x es line) at)
 
-one_more : (es : List (Cell × Chain)) (i : ℕ) (e : Cell × Chain) → slice_get es i ≡ Some e → take i es ++ e ∷ [] ≡ take (i + 1) es
+pub one_more : (es : List (Cell × Chain)) (i : ℕ) (e : Cell × Chain) → slice_get es i ≡ Some e → take i es ++ e ∷ [] ≡ take (i + 1) es
 one_more [] i e at = cc
 one_more (x ∷ es) zero e at = ap (λ (y : Cell × Chain). y ∷ []) (sym (same_some at))
 one_more (x ∷ es) (suc i) e at = let later : suc (i + 1) ≡ suc i + 1 = omega arith in ap (λ l. x ∷ l) (one_more es i e at) ∙ ap (λ n. take n (x ∷ es)) later
@@ -404,3 +404,19 @@ stands_in_tree line tree es none e ordered = record { one = inl none; ordered = 
 pub on_err : {A B : Type 0} (r : Result A B) (X : Type 0) → X → OnErr r X
 on_err (Ok a) X x = tt
 on_err (Err b) X x = x
+
+-- no cell stands in line where the line is found empty
+pub none_in_line : (line tree old : List (Cell × Chain)) (b : Bool) → StandOnce line tree → line ++ tree ≡ old → (IsTrue b ↔ (length line ≡ 0)) → IsTrue b → IsInTree line tree old
+none_in_line line tree old b s view test t =
+    let none : line ≡ [] = empty_of line (test.0 t) in
+    record { empty = none; view = ap (λ l. l ++ tree) (sym none) ∙ view; ordered = subst (λ l. IsLine (l ++ tree)) none s.ordered }
+
+-- and all do where it is not
+pub some_in_line : (line tree old : List (Cell × Chain)) (b : Bool) → StandOnce line tree → line ++ tree ≡ old → (IsTrue b ↔ (length line ≡ 0)) → b ≡ false → IsInLine line tree old
+some_in_line line tree old b s view test f =
+    let none : tree ≡ [] = only s.one in
+    record { empty = none; view = sym (only_line line tree none) ∙ view; ordered = subst IsLine (only_line line tree none) s.ordered }
+  where
+    only : (line ≡ []) ⊎ (tree ≡ []) → tree ≡ []
+    only (inl e) = let t : IsTrue b = test.1 (ap length e) in cc (t, f)
+    only (inr e) = e

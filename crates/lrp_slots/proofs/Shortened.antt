@@ -17,64 +17,12 @@ use Rattle.lrp_slots.specs.declared.narrow.Narrow.{Narrow}
 use Rattle.lrp_slots.specs.Lists.{cell_cmp}
 use Rattle.lrp_slots.specs.Links.{chain_at}
 use Rattle.lrp_slots.specs.Lines.{IsLine, IsAfterAll, ComesBetween, IsGap, StandsInLine}
+use Rattle.lrp_slots.specs.declared.medium.Medium.{Medium}
+use Rattle.lrp_slots.specs.KeyOrders.{same_order}
+use Rattle.lrp_slots.specs.Medium.{medium_cell}
 use Rattle.lrp_slots.specs.Narrow.{narrow_cmp, wide, wide_entries, AreOneWidth}
-use Rattle.lrp_slots.proofs.Tables.{exact_cells, same_cell}
-use Rattle.lrp_slots.proofs.Lines.{empty_of, goes_after, turned, first_of, rest_of, between_all, goes_down, goes_up, stands, set_there, taken_there, put_at_gap, put_line, taken_line, no_line, one_in_read}
-
--- ---- the order of keys
-
--- what is equal after does not decide
-after_two : (r s t : Ordering) → ordering_then r (ordering_then s t) ≡ ordering_then r (ordering_then s (ordering_then t Equal))
-after_two Less s t = refl
-after_two Greater s t = refl
-after_two Equal Less t = refl
-after_two Equal Greater t = refl
-after_two Equal Equal Less = refl
-after_two Equal Equal Equal = refl
-after_two Equal Equal Greater = refl
-
-decided : (p q r s t : Ordering) → ordering_then p (ordering_then q (ordering_then r (ordering_then s t))) ≡ ordering_then (ordering_then p (ordering_then q Equal)) (ordering_then r (ordering_then s (ordering_then t Equal)))
-decided Less q r s t = refl
-decided Greater q r s t = refl
-decided Equal Less r s t = refl
-decided Equal Greater r s t = refl
-decided Equal Equal r s t = after_two r s t
-
--- the first of two orders decides, or the second
-grouped : (p q r : Ordering) → ordering_then (ordering_then p q) r ≡ ordering_then p (ordering_then q r)
-grouped Less q r = refl
-grouped Equal q r = refl
-grouped Greater q r = refl
-
--- the order of two numbers, as calls tell it
-number_less : (x y : ℕ) → x < y → nat_cmp x y ≡ Less
-number_less x y l = by_ranked (x < y) (x ≡ y) (y < x) (nat_cmp x y) (ranked x y (nat_cmp x y) refl) (λ e m. e) (λ e m. absurd (omega arith)) (λ e m. absurd (omega arith))
-
-number_greater : (x y : ℕ) → y < x → nat_cmp x y ≡ Greater
-number_greater x y l = nat_cmp_total.antisymm x y ∙ ap ordering_reverse (number_less y x l)
-
--- two numbers are in the order of their upper halves, and then of their lower ones
-halves_order : (x y : ℕ) → nat_cmp x y ≡ ordering_then (nat_cmp (x / 2 ^ 32) (y / 2 ^ 32)) (nat_cmp (x % 2 ^ 32) (y % 2 ^ 32))
-halves_order x y = by_upper (nat_cmp (x / 2 ^ 32) (y / 2 ^ 32)) refl
-  where
-    by_lower : x / 2 ^ 32 ≡ y / 2 ^ 32 → (o : Ordering) → o ≡ nat_cmp (x % 2 ^ 32) (y % 2 ^ 32) → nat_cmp x y ≡ o
-    by_lower same Less e = let l : x % 2 ^ 32 < y % 2 ^ 32 = ranked _ _ Less e in number_less x y (omega arith)
-    by_lower same Equal e =
-        let l : x % 2 ^ 32 ≡ y % 2 ^ 32 = ranked _ _ Equal e in
-        let one : x ≡ y = omega arith in
-        ap (λ z. nat_cmp x z) (sym one) ∙ tied_itself nat_cmp_total x
-    by_lower same Greater e = let l : y % 2 ^ 32 < x % 2 ^ 32 = ranked _ _ Greater e in number_greater x y (omega arith)
-
-    by_upper : (o : Ordering) → o ≡ nat_cmp (x / 2 ^ 32) (y / 2 ^ 32) → nat_cmp x y ≡ ordering_then o (nat_cmp (x % 2 ^ 32) (y % 2 ^ 32))
-    by_upper Less e = let l : x / 2 ^ 32 < y / 2 ^ 32 = ranked _ _ Less e in number_less x y (omega arith)
-    by_upper Equal e = by_lower (ranked _ _ Equal e) (nat_cmp (x % 2 ^ 32) (y % 2 ^ 32)) refl
-    by_upper Greater e = let l : y / 2 ^ 32 < x / 2 ^ 32 = ranked _ _ Greater e in number_greater x y (omega arith)
-
-pub same_order : (a b : Narrow) → narrow_cmp a b ≡ cell_cmp (wide a) (wide b)
-same_order a b =
-    ap (λ o. ordering_then o (ordering_then (int_cmp a.first_residue b.first_residue) (ordering_then (int_cmp a.second_residue b.second_residue) (int_cmp a.third_residue b.third_residue)))) (halves_order a.texts b.texts)
-    ∙ grouped (nat_cmp (a.texts / 2 ^ 32) (b.texts / 2 ^ 32)) (nat_cmp (a.texts % 2 ^ 32) (b.texts % 2 ^ 32)) _
-    ∙ decided (nat_cmp (a.texts / 2 ^ 32) (b.texts / 2 ^ 32)) (nat_cmp (a.texts % 2 ^ 32) (b.texts % 2 ^ 32)) (int_cmp a.first_residue b.first_residue) (int_cmp a.second_residue b.second_residue) (int_cmp a.third_residue b.third_residue)
+use Rattle.lrp_slots.proofs.Keyed.{keyless, entries_length}
+use Rattle.lrp_slots.proofs.Lines.{empty_of, after_none, goes_after, turned, first_of, rest_of}
 
 -- cells whose numbers are found equal are one
 pub same_numbers : (a b : Cell) → (pointwise nat_eq a.texts b.texts && pointwise int_eq a.residues b.residues) ≡ true → a ≡ b
@@ -86,31 +34,72 @@ same_numbers a b e =
 found_equal : (a b : Cell) → a ≡ b → (pointwise nat_eq a.texts b.texts && pointwise int_eq a.residues b.residues) ≡ true
 found_equal a b e = ap₂ (λ p q. p && q) ((bytes_decides a.texts b.texts).1 (ap (λ (c : Cell). c.texts) e)) ((pointwise_decides signed_Decides a.residues b.residues).1 (ap (λ (c : Cell). c.residues) e))
 
+-- two numbers as one
+abbrev pub joined_texts : ℕ → ℕ → ℕ
+joined_texts upper lower = upper * 2 ^ 32 + lower
+
 -- the key that a cell would have
 abbrev pub key_of : Cell → Narrow
 key_of cell = record {
-  texts = get_or cell.texts 0 0 * 2 ^ 32 + get_or cell.texts 1 0;
+  texts = joined_texts (get_or cell.texts 0 0) (get_or cell.texts 1 0);
   first_residue = get_or cell.residues 0 (pos 0);
   second_residue = get_or cell.residues 1 (pos 0);
   third_residue = get_or cell.residues 2 (pos 0);
 }
 
 -- it is made of the numbers that are read
-pub key_parts : (cell : Cell) (t u : ℕ) (p q r : ℤ) → t ≡ get_or cell.texts 0 0 → u ≡ get_or cell.texts 1 0 → p ≡ get_or cell.residues 0 (pos 0) → q ≡ get_or cell.residues 1 (pos 0) → r ≡ get_or cell.residues 2 (pos 0)
-    → record { texts = t * 2 ^ 32 + u; first_residue = p; second_residue = q; third_residue = r } ≡ key_of cell
-key_parts cell t u p q r et eu ep eq er =
-    ap₂ (λ n m. record { texts = n * 2 ^ 32 + m; first_residue = p; second_residue = q; third_residue = r }) et eu
-    ∙ ap₂ (λ n m. record { texts = get_or cell.texts 0 0 * 2 ^ 32 + get_or cell.texts 1 0; first_residue = n; second_residue = m; third_residue = r }) ep eq
-    ∙ ap (λ n. record { texts = get_or cell.texts 0 0 * 2 ^ 32 + get_or cell.texts 1 0; first_residue = get_or cell.residues 0 (pos 0); second_residue = get_or cell.residues 1 (pos 0); third_residue = n }) er
+pub key_parts : (cell : Cell) (t : ℕ) (p q r : ℤ) → t ≡ joined_texts (get_or cell.texts 0 0) (get_or cell.texts 1 0) → p ≡ get_or cell.residues 0 (pos 0) → q ≡ get_or cell.residues 1 (pos 0) → r ≡ get_or cell.residues 2 (pos 0)
+    → record { texts = t; first_residue = p; second_residue = q; third_residue = r } ≡ key_of cell
+key_parts cell t p q r et ep eq er =
+    ap₂ (λ n m. record { texts = n; first_residue = m; second_residue = q; third_residue = r }) et ep
+    ∙ ap₂ (λ n m. record (key_of cell) { second_residue = n; third_residue = m }) eq er
 
 -- a key is that of its cell
 own_key : (k : Narrow) → key_of (wide k) ≡ k
-own_key k = let halves : k.texts / 2 ^ 32 * 2 ^ 32 + k.texts % 2 ^ 32 ≡ k.texts = omega arith in ap (λ t. record k { texts = t }) halves
+own_key k = let halves : joined_texts (k.texts / 2 ^ 32) (k.texts % 2 ^ 32) ≡ k.texts = omega arith in ap (λ t. record k { texts = t }) halves
 
 -- a cell that is not found equal to that of its key has none
 pub no_key : (cell made : Cell) (key : Narrow) → key ≡ key_of cell → made ≡ wide key → (pointwise nat_eq made.texts cell.texts && pointwise int_eq made.residues cell.residues) ≡ false → (k : Narrow) → wide k ≢ cell
 no_key cell made key is e differs k same =
     let equal : made ≡ cell = e ∙ ap wide (is ∙ ap key_of (sym same) ∙ own_key k) ∙ same in
+    let found = found_equal made cell equal in
+    cc
+
+-- the key that a cell would have
+abbrev pub medium_key_of : Cell → Medium
+medium_key_of cell = record {
+  first_texts = joined_texts (get_or cell.texts 0 0) (get_or cell.texts 1 0);
+  next_texts = joined_texts (get_or cell.texts 2 0) (get_or cell.texts 3 0);
+  last_texts = joined_texts (get_or cell.texts 4 0) (get_or cell.texts 5 0);
+  first_residue = get_or cell.residues 0 (pos 0);
+  second_residue = get_or cell.residues 1 (pos 0);
+  third_residue = get_or cell.residues 2 (pos 0);
+  fourth_residue = get_or cell.residues 3 (pos 0);
+}
+
+-- it is made of the numbers that are read
+pub medium_parts : (cell : Cell) (t u w : ℕ) (p q r s : ℤ) → t ≡ joined_texts (get_or cell.texts 0 0) (get_or cell.texts 1 0) → u ≡ joined_texts (get_or cell.texts 2 0) (get_or cell.texts 3 0) → w ≡ joined_texts (get_or cell.texts 4 0) (get_or cell.texts 5 0)
+    → p ≡ get_or cell.residues 0 (pos 0) → q ≡ get_or cell.residues 1 (pos 0) → r ≡ get_or cell.residues 2 (pos 0) → s ≡ get_or cell.residues 3 (pos 0)
+    → record { first_texts = t; next_texts = u; last_texts = w; first_residue = p; second_residue = q; third_residue = r; fourth_residue = s } ≡ medium_key_of cell
+medium_parts cell t u w p q r s et eu ew ep eq er es =
+    ap₂ (λ n m. record { first_texts = n; next_texts = m; last_texts = w; first_residue = p; second_residue = q; third_residue = r; fourth_residue = s }) et eu
+    ∙ ap₂ (λ n m. record (medium_key_of cell) { last_texts = n; first_residue = m; second_residue = q; third_residue = r; fourth_residue = s }) ew ep
+    ∙ ap₂ (λ n m. record (medium_key_of cell) { second_residue = n; third_residue = m; fourth_residue = s }) eq er
+    ∙ ap (λ n. record (medium_key_of cell) { fourth_residue = n }) es
+
+-- a key is that of its cell
+own_medium_key : (k : Medium) → medium_key_of (medium_cell k) ≡ k
+own_medium_key k =
+    let first : joined_texts (k.first_texts / 2 ^ 32) (k.first_texts % 2 ^ 32) ≡ k.first_texts = omega arith in
+    let next : joined_texts (k.next_texts / 2 ^ 32) (k.next_texts % 2 ^ 32) ≡ k.next_texts = omega arith in
+    let last : joined_texts (k.last_texts / 2 ^ 32) (k.last_texts % 2 ^ 32) ≡ k.last_texts = omega arith in
+    ap₂ (λ n m. record k { first_texts = n; next_texts = m; last_texts = joined_texts (k.last_texts / 2 ^ 32) (k.last_texts % 2 ^ 32) }) first next
+    ∙ ap (λ n. record k { last_texts = n }) last
+
+-- a cell that is not found equal to that of its key has none
+pub no_medium_key : (cell made : Cell) (key : Medium) → key ≡ medium_key_of cell → made ≡ medium_cell key → (pointwise nat_eq made.texts cell.texts && pointwise int_eq made.residues cell.residues) ≡ false → (k : Medium) → medium_cell k ≢ cell
+no_medium_key cell made key is e differs k same =
+    let equal : made ≡ cell = e ∙ ap medium_cell (is ∙ ap medium_key_of (sym same) ∙ own_medium_key k) ∙ same in
     let found = found_equal made cell equal in
     cc
 
@@ -147,18 +136,6 @@ wide_taken (x ∷ es) k =
     take_one x es rest made e true = refl
     take_one x es rest made e false = ap (λ l. (wide x.0, x.1) ∷ l) e
 
--- a cell that has no key is not there
-pub keyless : (es : List (Narrow × Chain)) (cell : Cell) → ((k : Narrow) → wide k ≢ cell) → chain_at (wide_entries es) cell ≡ None
-keyless [] cell none = refl
-keyless (x ∷ es) cell none = elim (tests (is_at (cell_cmp cell) (wide x.0))) [
-  | inl t ↦ absurd (none x.0 (sym (same_cell cell (wide x.0) t)))
-  | inr f ↦ lookup_tail (is_at (cell_cmp cell)) (wide x.0, x.1) (wide_entries es) f ∙ keyless es cell none
-]
-  where
-    tests : (b : Bool) → (b ≡ true) ⊎ (b ≡ false)
-    tests true = inl refl
-    tests false = inr refl
-
 -- the cells of keys in order are in order
 pub wide_line : (es : List (Narrow × Chain)) → IsStrictlySortedBy narrow_cmp (keys_of es) → IsLine (wide_entries es)
 unfolding IsStrictlySortedBy
@@ -168,15 +145,6 @@ wide_line (x ∷ es) sorted = (all_after x es sorted.0, wide_line es sorted.1)
     all_after : (x : Narrow × Chain) (es : List (Narrow × Chain)) → AllByRecursion (λ y. narrow_cmp x.0 y ≡ Less) (keys_of es) → AllByRecursion (λ y. cell_cmp (wide x.0) y ≡ Less) (keys_of (wide_entries es))
     all_after x [] less = tt
     all_after x (y ∷ es) less = (sym (same_order x.0 y.0) ∙ less.0, all_after x es less.1)
-
--- what a search tells where it finds a key and where it finds none
-pub found_place : (r : Result ℕ ℕ) (o : Option ℕ) (P Q : ℕ → Type 0) → o ≡ result_ok r → ((i : ℕ) → P i → Q i) → IfOk r P → IfSome o Q
-found_place (Ok i) o P Q e f p = subst (λ q. IfSome q Q) (sym e) (f i p)
-found_place (Err i) o P Q e f p = subst (λ q. IfSome q Q) (sym e) tt
-
-pub no_place : (r : Result ℕ ℕ) (o : Option ℕ) (P : ℕ → Type 0) (X : Type 0) → o ≡ result_ok r → ((i : ℕ) → P i → X) → IfErr r P → IfNone o X
-no_place (Ok i) o P X e f p = subst (λ q. IfNone q X) (sym e) tt
-no_place (Err i) o P X e f p = subst (λ q. IfNone q X) (sym e) (f i p)
 
 -- ---- cells of one width
 
@@ -216,13 +184,8 @@ new_keys narrow new cells old es a e = ap (λ l. wide_entries new ++ l) a.empty 
 pub new_cells : (narrow : List (Narrow × Chain)) (cells new old es : List (Cell × Chain)) → AreWide narrow cells old → new ≡ es → wide_entries narrow ++ new ≡ es
 new_cells narrow cells new old es a e = ap (λ (l : List (Narrow × Chain)). wide_entries l ++ new) a.empty ∙ e
 
--- how many there are
-wide_length : (es : List (Narrow × Chain)) → length (wide_entries es) ≡ length es
-wide_length [] = refl
-wide_length (x ∷ es) = ap suc (wide_length es)
-
 pub narrow_length : (narrow : List (Narrow × Chain)) (cells old : List (Cell × Chain)) → AreNarrow narrow cells old → length narrow ≡ length old
-narrow_length narrow cells old a = sym (wide_length narrow) ∙ ap length a.view
+narrow_length narrow cells old a = sym (entries_length wide narrow) ∙ ap length a.view
 
 -- what is found by a key
 pub found_by_key : (narrow : List (Narrow × Chain)) (cells old : List (Cell × Chain)) (k : Narrow) (cell : Cell) → AreNarrow narrow cells old → wide k ≡ cell → lookup (is_at (narrow_cmp k)) narrow ≡ chain_at old cell
@@ -230,7 +193,7 @@ found_by_key narrow cells old k cell a e = wide_found narrow k ∙ ap (λ c. cha
 
 -- what has no key is not found
 pub not_found : (narrow : List (Narrow × Chain)) (cells old : List (Cell × Chain)) (cell : Cell) → AreNarrow narrow cells old → ((k : Narrow) → wide k ≢ cell) → chain_at old cell ≡ None
-not_found narrow cells old cell a none = ap (λ es. chain_at es cell) (sym a.view) ∙ keyless narrow cell none
+not_found narrow cells old cell a none = ap (λ es. chain_at es cell) (sym a.view) ∙ keyless wide narrow cell none
 
 -- what is put in by a key
 pub put_by_key : (narrow new : List (Narrow × Chain)) (cells old : List (Cell × Chain)) (k : Narrow) (cell : Cell) (v : Chain) → AreNarrow narrow cells old → wide k ≡ cell → new ≡ insert_entry narrow_cmp narrow k v
@@ -276,144 +239,9 @@ one_widened es x rest all line e =
     ap (λ l. l ++ wide_entries rest) (sym (goes_after es (wide x.0) x.1 (next_after es (wide x.0, x.1) (wide_entries rest) (subst IsLine (sym e) line))))
     ∙ one_further es (wide x.0, x.1) (wide_entries rest) ∙ e
 
--- ---- keys in line
+-- the next cell of a line is not among those before it, and goes to the end of them
+pub next_none : (es : List (Cell × Chain)) (x : Cell × Chain) (rest all : List (Cell × Chain)) → IsLine all → es ++ x ∷ rest ≡ all → chain_at es x.0 ≡ None
+next_none es x rest all line e = after_none es x.0 (next_after es x rest (subst IsLine (sym e) line))
 
--- one more key at the end
-pub wide_pushed : (es : List (Narrow × Chain)) (x : Narrow × Chain) → wide_entries (es ++ x ∷ []) ≡ wide_entries es ++ (wide x.0, x.1) ∷ []
-wide_pushed [] x = refl
-wide_pushed (y ∷ es) x = ap (λ l. (wide y.0, y.1) ∷ l) (wide_pushed es x)
-
--- another entry at a place
-pub wide_set : (es : List (Narrow × Chain)) (i : ℕ) (x : Narrow × Chain) → wide_entries (slice_set es i x) ≡ slice_set (wide_entries es) i (wide x.0, x.1)
-wide_set [] i x = refl
-wide_set (y ∷ es) zero x = refl
-wide_set (y ∷ es) (suc i) x = ap (λ l. (wide y.0, y.1) ∷ l) (wide_set es i x)
-
--- one entry more at a place
-pub wide_inserted : (es : List (Narrow × Chain)) (i : ℕ) (x : Narrow × Chain) → wide_entries (insert es i x) ≡ insert (wide_entries es) i (wide x.0, x.1)
-wide_inserted es zero x = refl
-wide_inserted [] (suc i) x = refl
-wide_inserted (y ∷ es) (suc i) x = ap (λ l. (wide y.0, y.1) ∷ l) (wide_inserted es i x)
-
--- and one less
-pub wide_removed : (es : List (Narrow × Chain)) (i : ℕ) → wide_entries (remove es i) ≡ remove (wide_entries es) i
-wide_removed [] zero = refl
-wide_removed [] (suc i) = refl
-wide_removed (y ∷ es) zero = refl
-wide_removed (y ∷ es) (suc i) = ap (λ l. (wide y.0, y.1) ∷ l) (wide_removed es i)
-
--- the entry that is read at a place
-pub wide_read : (es : List (Narrow × Chain)) (i : ℕ) (d : Narrow × Chain) → i < length es → slice_get (wide_entries es) i ≡ Some (wide (slice_index_or es i d).0, (slice_index_or es i d).1)
-wide_read [] i d lt = absurd (omega arith)
-wide_read (x ∷ es) zero d lt = refl
-wide_read (x ∷ es) (suc i) d lt = wide_read es i d (omega arith)
-
--- what a key at a place says of another one
-module _ (es : List (Narrow × Chain)) (k : Narrow) (low high middle : ℕ) (d : Narrow × Chain) where
-  within_line : ComesBetween (wide_entries es) (wide k) low high → middle < high → middle < length es
-  within_line b lt = let w = b.within in let size = wide_length es in omega (arith, w, size, lt)
-
-  pub key_less : IsLine (wide_entries es) → ComesBetween (wide_entries es) (wide k) low high → low ≤ middle → middle < high → narrow_cmp k (slice_index_or es middle d).0 ≡ Less → ComesBetween (wide_entries es) (wide k) low middle
-  key_less line b le lt less =
-      goes_down (wide_entries es) (wide k) low high middle (wide (slice_index_or es middle d).0, (slice_index_or es middle d).1) line b le lt (wide_read es middle d (within_line b lt))
-      (sym (same_order k (slice_index_or es middle d).0) ∙ less)
-
-  pub key_greater : IsLine (wide_entries es) → ComesBetween (wide_entries es) (wide k) low high → low ≤ middle → middle < high → narrow_cmp k (slice_index_or es middle d).0 ≡ Greater → ComesBetween (wide_entries es) (wide k) (middle + 1) high
-  key_greater line b le lt gt =
-      goes_up (wide_entries es) (wide k) low high middle (wide (slice_index_or es middle d).0, (slice_index_or es middle d).1) line b le lt (wide_read es middle d (within_line b lt))
-      (sym (same_order k (slice_index_or es middle d).0) ∙ gt)
-
-  pub key_equal : ComesBetween (wide_entries es) (wide k) low high → middle < high → narrow_cmp k (slice_index_or es middle d).0 ≡ Equal → StandsInLine (wide_entries es) (wide k) middle
-  key_equal b lt same = record {
-    within = let w = b.within in omega (arith, w, lt);
-    entry = (wide (slice_index_or es middle d).0, (slice_index_or es middle d).1);
-    read = wide_read es middle d (within_line b lt);
-    same = sym (same_order k (slice_index_or es middle d).0) ∙ same;
-  }
-
--- all of a line
-pub all_between : (es : List (Narrow × Chain)) (k : Narrow) → ComesBetween (wide_entries es) (wide k) 0 (length es)
-all_between es k = between_all (wide_entries es) (wide k) (length es) (sym (wide_length es))
-
--- a place between both ends is a gap
-pub closed_gap : (es : List (Cell × Chain)) (k : Cell) (low high : ℕ) → ComesBetween es k low high → high ≤ low → IsGap es k low
-closed_gap es k low high b le = let o = b.order in let same : high ≡ low = omega (arith, o, le) in subst (λ n. ComesBetween es k low n) same b
-
--- a new entry put in at its gap
-pub key_inserted : (es : List (Narrow × Chain)) (k : Narrow) (v : Chain) (i : ℕ) → IsGap (wide_entries es) (wide k) i → wide_entries (insert es i (k, v)) ≡ insert_entry cell_cmp (wide_entries es) (wide k) v
-key_inserted es k v i gap = wide_inserted es i (k, v) ∙ put_at_gap (wide_entries es) (wide k) v i gap
-
--- the line of what was put in or taken out
-pub line_of_put : (es new : List (Cell × Chain)) (k : Cell) (v : Chain) → IsLine es → new ≡ insert_entry cell_cmp es k v → IsLine new
-line_of_put es new k v line e = subst IsLine (sym e) (put_line es k v line)
-
-pub line_of_taken : (es new : List (Cell × Chain)) (k : Cell) → IsLine es → new ≡ remove_entry (is_at (cell_cmp k)) es → IsLine new
-line_of_taken es new k line e = subst IsLine (sym e) (taken_line es k line)
-
--- a line of keys as it is seen, and the place where a cell stands in it
-pub record IsFound (es : List (Narrow × Chain)) (old : List (Cell × Chain)) (cell : Cell) (i : ℕ) : Type 0 where
-  pub line : IsLine (wide_entries es)
-  pub view : wide_entries es ≡ old
-  pub stands : StandsInLine (wide_entries es) cell i
-
--- the entry there
-found_entry : (es : List (Narrow × Chain)) (old : List (Cell × Chain)) (cell : Cell) (i : ℕ) (e : Narrow × Chain) → (f : IsFound es old cell i) → e ≡ slice_index_or es i e → f.stands.entry ≡ (wide e.0, e.1)
-found_entry es old cell i e f at =
-    let low : i < length es = (let w = f.stands.within in let size = wide_length es in omega (arith, w, size)) in
-    let there = wide_read es i e low in
-    let read = f.stands.read in
-    let same : f.stands.entry ≡ (wide (slice_index_or es i e).0, (slice_index_or es i e).1) = cc in
-    same ∙ ap (λ (x : Narrow × Chain). (wide x.0, x.1)) (sym at)
-
-pub found_chain : (es : List (Narrow × Chain)) (old : List (Cell × Chain)) (cell : Cell) (i : ℕ) (e : Narrow × Chain) → IsFound es old cell i → e ≡ slice_index_or es i e → Some e.1 ≡ chain_at old cell
-found_chain es old cell i e f at = ap (λ (x : Cell × Chain). Some x.1) (sym (found_entry es old cell i e f at)) ∙ sym (stands (wide_entries es) cell i f.line f.stands) ∙ ap (λ l. chain_at l cell) f.view
-
--- another chain in its place
-pub found_replaced : (es : List (Narrow × Chain)) (old : List (Cell × Chain)) (cell : Cell) (i : ℕ) (e : Narrow × Chain) (v : Chain) → IsFound es old cell i → e ≡ slice_index_or es i e → wide_entries (slice_set es i (e.0, v)) ≡ insert_entry cell_cmp old cell v
-found_replaced es old cell i e v f at =
-    let same : wide e.0 ≡ cell = ap (λ (x : Cell × Chain). x.0) (sym (found_entry es old cell i e f at)) ∙ sym (exact_cells cell f.stands.entry.0 f.stands.same) in
-    wide_set es i (e.0, v) ∙ ap (λ c. slice_set (wide_entries es) i (c, v)) same ∙ set_there (wide_entries es) cell v i f.stands.entry f.line f.stands.read f.stands.same ∙ ap (λ l. insert_entry cell_cmp l cell v) f.view
-
-pub replaced_line : (es : List (Narrow × Chain)) (old : List (Cell × Chain)) (cell : Cell) (i : ℕ) (e : Narrow × Chain) (v : Chain) → IsFound es old cell i → e ≡ slice_index_or es i e → IsLine (wide_entries (slice_set es i (e.0, v)))
-replaced_line es old cell i e v f at = line_of_put old (wide_entries (slice_set es i (e.0, v))) cell v (subst IsLine f.view f.line) (found_replaced es old cell i e v f at)
-
--- the entry taken out
-pub found_removed : (es : List (Narrow × Chain)) (old : List (Cell × Chain)) (cell : Cell) (i : ℕ) (new : List (Narrow × Chain)) → IsFound es old cell i → new ≡ remove es i → wide_entries new ≡ remove_entry (is_at (cell_cmp cell)) old
-found_removed es old cell i new f e =
-    ap wide_entries e ∙ wide_removed es i ∙ taken_there (wide_entries es) cell i f.stands.entry f.line f.stands.read f.stands.same ∙ ap (remove_entry (is_at (cell_cmp cell))) f.view
-
-pub removed_line : (es : List (Narrow × Chain)) (old : List (Cell × Chain)) (cell : Cell) (i : ℕ) (new : List (Narrow × Chain)) → IsFound es old cell i → new ≡ remove es i → IsLine (wide_entries new)
-removed_line es old cell i new f e = line_of_taken old (wide_entries new) cell (subst IsLine f.view f.line) (found_removed es old cell i new f e)
-
--- a cell that is missing among the keys is not held
-pub not_in_line : (es line : List (Narrow × Chain)) (old : List (Cell × Chain)) (cell : Cell) → line ≡ es → wide_entries es ≡ old → chain_at (wide_entries line) cell ≡ None → chain_at old cell ≡ None
-not_in_line es line old cell same view none = ap (λ l. chain_at l cell) (sym view) ∙ ap (λ (l : List (Narrow × Chain)). chain_at (wide_entries l) cell) (sym same) ∙ none
-
--- one more of the keys is in the tree
-pub one_more_key : (es : List (Narrow × Chain)) (done : List (Cell × Chain)) (i : ℕ) (e : Narrow × Chain) (cell : Cell) → IsLine (wide_entries es) → i < length es → done ≡ take i (wide_entries es) → e ≡ slice_index_or es i e → cell ≡ wide e.0
-    → insert_entry cell_cmp done cell e.1 ≡ take (i + 1) (wide_entries es)
-one_more_key es done i e cell line lt before at is =
-    let read : slice_get (wide_entries es) i ≡ Some (wide e.0, e.1) = wide_read es i e lt ∙ ap (λ (x : Narrow × Chain). Some (wide x.0, x.1)) (sym at) in
-    ap₂ (λ l c. insert_entry cell_cmp l c e.1) before is ∙ one_in_read (wide_entries es) i (wide e.0, e.1) line read
-
--- no key is in line
-pub empty_line : (es : List (Narrow × Chain)) → es ≡ [] → IsLine (wide_entries es)
-empty_line es e = subst (λ (l : List (Narrow × Chain)). IsLine (wide_entries l)) (sym e) no_line
-
--- the line that a key was put into
-pub key_put_view : (es : List (Narrow × Chain)) (old : List (Cell × Chain)) (k : Narrow) (v : Chain) (i : ℕ) (new : List (Narrow × Chain)) → wide_entries es ≡ old → IsGap old (wide k) i → new ≡ insert es i (k, v)
-    → wide_entries new ≡ insert_entry cell_cmp old (wide k) v
-key_put_view es old k v i new view gap e =
-    ap wide_entries e ∙ key_inserted es k v i (subst (λ l. IsGap l (wide k) i) (sym view) gap) ∙ ap (λ l. insert_entry cell_cmp l (wide k) v) view
-
-pub key_put_line : (es : List (Narrow × Chain)) (old : List (Cell × Chain)) (k : Narrow) (v : Chain) (i : ℕ) (new : List (Narrow × Chain)) → IsLine (wide_entries es) → wide_entries es ≡ old → IsGap old (wide k) i → new ≡ insert es i (k, v)
-    → IsLine (wide_entries new)
-key_put_line es old k v i new line view gap e = line_of_put old (wide_entries new) (wide k) v (subst IsLine view line) (key_put_view es old k v i new view gap e)
-
--- a gap after the last key, and one in an empty line
-pub end_gap : (es : List (Narrow × Chain)) (k : Narrow) (last : ℕ) (d : Narrow × Chain) → IsLine (wide_entries es) → last + 1 ≡ length es → narrow_cmp k (slice_index_or es last d).0 ≡ Greater → IsGap (wide_entries es) (wide k) (length es)
-end_gap es k last d line e gt =
-    subst (λ n. ComesBetween (wide_entries es) (wide k) n (length es)) e (key_greater es k 0 (length es) last d line (all_between es k) (omega arith) (omega (arith, e)) gt)
-
-pub first_gap : (es : List (Narrow × Chain)) (k : Narrow) → length es ≡ 0 → IsGap (wide_entries es) (wide k) 0
-first_gap es k e = subst (λ n. ComesBetween (wide_entries es) (wide k) 0 n) e (all_between es k)
+pub next_put : (es : List (Cell × Chain)) (x : Cell × Chain) (rest all : List (Cell × Chain)) → IsLine all → es ++ x ∷ rest ≡ all → insert_entry cell_cmp es x.0 x.1 ++ rest ≡ all
+next_put es x rest all line e = ap (λ l. l ++ rest) (sym (goes_after es x.0 x.1 (next_after es x rest (subst IsLine (sym e) line)))) ∙ one_further es x rest ∙ e

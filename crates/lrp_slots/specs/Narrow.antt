@@ -1,10 +1,11 @@
 -- Cells of at most two texts and three residues, and the short keys of them. No public clause cites this module.
-use Rattle.std.specs.Prelude.{◌≡◌, ◌⊎◌, ◌/◌, ◌%◌, ◌^◌, pos, List, [], ◌∷◌, map}
+use Rattle.std.specs.Prelude.{◌≡◌, ◌⊎◌, ◌/◌, ◌%◌, ◌^◌, pos, List, [], ◌∷◌}
 use Rattle.std.specs.Ordering.{nat_cmp, int_cmp, ordering_then}
 use Rattle.std.specs.declared.cmp.Ordering.{Ordering}
 use Rattle.lrp_model.specs.declared.tuples.Cell.{Cell}
 use Rattle.lrp_slots.specs.declared.chains.Chain.{Chain}
 use Rattle.lrp_slots.specs.declared.narrow.Narrow.{Narrow}
+use Rattle.lrp_slots.specs.Keys.{entries_by}
 
 -- the cell of a key, which has its texts as one number: the other texts and residues are 0
 abbrev pub wide : Narrow → Cell
@@ -21,7 +22,7 @@ narrow_cmp a b =
 
 -- the cells of keys, with their chains
 abbrev pub wide_entries : List (Narrow × Chain) → List (Cell × Chain)
-wide_entries entries = map (λ e. (wide e.0, e.1)) entries
+wide_entries entries = entries_by wide entries
 
 -- the cells stand as short keys or as cells, and not as both
 abbrev pub AreOneWidth : List (Narrow × Chain) → List (Cell × Chain) → Type 0

@@ -7,8 +7,8 @@ ghost use Rattle.lrp_slots.specs.Links.{chain_at, extended, IsLengthened};
 ghost use Rattle.lrp_slots.specs.Lines.{IsLine};
 
 use crate::chains::{Chain, extended};
+use crate::in_line::Lines;
 use crate::iterators::ChainEntries;
-use crate::line::Line;
 use crate::tree::Tree;
 use lrp_model::{Cell, Memory};
 use std::alloc::Global;
@@ -21,7 +21,7 @@ use std::marker::Model;
 #[derive(Drop)]
 pub(crate) struct Held {
     alloc: Global,
-    line: Line,
+    line: Lines,
     tree: Tree,
 }
 
@@ -45,7 +45,7 @@ impl Held {
     {
         Held {
             alloc,
-            line: Line::new(alloc),
+            line: Lines::new(alloc),
             tree: Tree::new(alloc),
         }
     }
@@ -117,7 +117,7 @@ impl Held {
         let mut tree = self.line.tree(self.alloc)?;
         tree.insert(cell, chain)?;
         self.tree = tree;
-        self.line = Line::new(self.alloc);
+        self.line = Lines::new(self.alloc);
         Ok(())
     }
 
@@ -168,4 +168,33 @@ impl Held {
         }
         self.line.remove(cell);
     }
+
+    /// Puts the cells of a tree in line, where they take the least memory, unless one has no key.
+    pub(crate) fn compact(&mut self) -> Result<(), Memory>
+        ensures { self.new ≡ self.old }
+    {
+        if self.tree.is_empty() {
+            return Ok(());
+        }
+        let Some(line) = line_of(self.alloc, &self.tree)? else {
+            return Ok(());
+        };
+        self.line = line;
+        self.tree = Tree::new(self.alloc);
+        Ok(())
+    }
+}
+
+// The cells of a tree in line, unless one has no key.
+fn line_of(alloc: Global, tree: &Tree) -> Result<Option<Lines>, Memory>
+    requires { IsLine tree.now }
+    ensures { IfOk result (λ made. IfSome made (λ line. line ≡ tree.now)) }
+{
+    let mut line = Lines::new(alloc);
+    for entry in tree.iter() {
+        if !line.insert(&entry.0, entry.1)? {
+            return Ok(None);
+        }
+    }
+    Ok(Some(line))
 }

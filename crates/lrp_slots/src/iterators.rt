@@ -5,6 +5,8 @@ ghost use Rattle.slab.specs.Slab.{get};
 ghost use Rattle.lrp_slots.specs.Links.{AreHeld, chain_keys, list_of};
 
 use crate::chains::{Chain, Link};
+use crate::key::Key;
+use crate::medium::Medium;
 use crate::narrow::Narrow;
 use lrp_model::Cell;
 use slab::Slab;
@@ -14,7 +16,7 @@ use std::marker::Model;
 /// The cells with their chains in order, seen as the list of those that are left.
 #[derive(Drop)]
 pub(crate) struct ChainEntries<'a> {
-    pub(crate) line: &'a [(Narrow, Chain)],
+    pub(crate) line: LineEntries<'a>,
     pub(crate) tree: Branches<'a>,
 }
 
@@ -22,11 +24,10 @@ impl<'a> Model for ChainEntries<'a> {
     ghost use Rattle.std.specs.Prelude.{List, ◌++◌};
     ghost use Rattle.lrp_model.specs.declared.tuples.Cell.{Cell};
     ghost use Rattle.lrp_slots.specs.declared.chains.Chain.{Chain};
-    ghost use Rattle.lrp_slots.specs.Narrow.{wide_entries};
 
     ghost Value = { List (Cell × Chain) };
 
-    ghost view = { λ a. wide_entries a.line.now ++ a.tree };
+    ghost view = { λ a. a.line ++ a.tree };
 }
 
 impl<'a> Iterator for ChainEntries<'a> {
@@ -37,11 +38,48 @@ impl<'a> Iterator for ChainEntries<'a> {
     ghost remaining = { item_count (λ left. left) };
 
     fn next(&mut self) -> Option<(Cell, Chain)> {
-        if let Some((entry, rest)) = self.line.split_first() {
-            self.line = rest;
-            return Some((entry.0.cell(), entry.1));
+        if let Some(entry) = self.line.next() {
+            return Some(entry);
         }
         self.tree.next()
+    }
+}
+
+/// The cells in line with their chains in order, seen as the list of those that are left.
+#[derive(Drop)]
+pub(crate) struct LineEntries<'a> {
+    pub(crate) narrow: &'a [(Narrow, Chain)],
+    pub(crate) medium: &'a [(Medium, Chain)],
+}
+
+impl<'a> Model for LineEntries<'a> {
+    ghost use Rattle.std.specs.Prelude.{List, ◌++◌};
+    ghost use Rattle.lrp_model.specs.declared.tuples.Cell.{Cell};
+    ghost use Rattle.lrp_slots.specs.declared.chains.Chain.{Chain};
+    ghost use Rattle.lrp_slots.specs.Keys.{entries_by};
+    ghost use Rattle.lrp_slots.specs.Narrow.{wide};
+    ghost use Rattle.lrp_slots.specs.Medium.{medium_cell};
+
+    ghost Value = { List (Cell × Chain) };
+
+    ghost view = { λ a. entries_by wide a.narrow.now ++ entries_by medium_cell a.medium.now };
+}
+
+impl<'a> Iterator for LineEntries<'a> {
+    type Item = (Cell, Chain);
+
+    ghost next_gives = { YieldsFirst (λ left. left) };
+
+    ghost remaining = { item_count (λ left. left) };
+
+    fn next(&mut self) -> Option<(Cell, Chain)> {
+        if let Some((entry, rest)) = self.narrow.split_first() {
+            self.narrow = rest;
+            return Some((entry.0.cell(), entry.1));
+        }
+        let (entry, rest) = self.medium.split_first()?;
+        self.medium = rest;
+        Some((entry.0.cell(), entry.1))
     }
 }
 

@@ -3,8 +3,11 @@
 
 mod chains;
 mod held;
+mod in_line;
 mod iterators;
+mod key;
 mod line;
+mod medium;
 mod narrow;
 mod remembered;
 mod slots;

@@ -1,14 +1,14 @@
 // The chains of cells that came in order, or nearly so.
-ghost use Rattle.std.specs.Prelude.{◌≡◌, ◌+◌, ◌<◌, ◌^◌, [], None, Ok, true, false, IfErr, IfNone, IfOk, IfSome, OnErr, OnSome, option_copied, length};
+ghost use Rattle.std.specs.Prelude.{◌≡◌, ◌+◌, ◌<◌, ◌^◌, ◌↔◌, [], ◌∷◌, ◌++◌, None, Ok, true, false, IfErr, IfNone, IfOk, IfSome, IsTrue, OnErr, OnOk, OnSome, option_copied, length};
 ghost use Rattle.std.specs.BTreeMap.{is_at, insert_entry};
 ghost use Rattle.std.specs.Map.{remove_entry};
 ghost use Rattle.lrp_slots.specs.Lists.{cell_cmp};
 ghost use Rattle.lrp_slots.specs.Links.{chain_at, extended};
-ghost use Rattle.lrp_slots.specs.Lines.{IsLine, IsGap, StandsInLine};
-ghost use Rattle.lrp_slots.specs.Narrow.{wide, wide_entries};
+ghost use Rattle.lrp_slots.specs.Keys.{entries_by};
+ghost use Rattle.lrp_slots.specs.Lines.{IsAfterAll, IsLine, IsGap, StandsInLine};
 
 use crate::chains::{Chain, extended};
-use crate::narrow::Narrow;
+use crate::key::Key;
 use crate::tree::Tree;
 use lrp_model::{Cell, Memory};
 use std::alloc::Global;
@@ -21,30 +21,30 @@ const FEW: usize = 64;
 // How many late cells may move more.
 const MOST_LATE: u32 = 8;
 
-/// The chains of cells that have short keys, seen as the list of them in order of the cells.
+/// The chains of cells that have keys of one kind, seen as the list of them in order of the cells.
 ///
 /// A cell is found among them by halving. One that comes late moves those after it, so a line takes few of them.
 #[derive(Drop)]
-pub(crate) struct Line {
-    entries: Vec<(Narrow, Chain)>,
+pub(crate) struct Line<K: Key> {
+    entries: Vec<(K, Chain)>,
     late: u32,
 }
 
-impl Model for Line {
+impl<K: Key> Model for Line<K> {
     ghost use Rattle.std.specs.Prelude.{List};
     ghost use Rattle.lrp_model.specs.declared.tuples.Cell.{Cell};
     ghost use Rattle.lrp_slots.specs.declared.chains.Chain.{Chain};
     ghost use Rattle.lrp_slots.specs.Lines.{IsLine};
-    ghost use Rattle.lrp_slots.specs.Narrow.{wide_entries};
+    ghost use Rattle.lrp_slots.specs.Keys.{entries_by};
 
     ghost Value = { List (Cell × Chain) };
 
-    ghost view = { λ l. wide_entries l.entries.items };
+    ghost view = { λ l. entries_by K.cell_of l.entries.items };
 
-    ghost invariant = { λ l. IsLine (wide_entries l.entries.items) };
+    ghost invariant = { λ l. IsLine (entries_by K.cell_of l.entries.items) };
 }
 
-impl Line {
+impl<K: Key> Line<K> {
     /// No cell is in line.
     pub(crate) fn new(alloc: Global) -> Self
         ensures { result ≡ [] }
@@ -61,6 +61,13 @@ impl Line {
         ensures ordered { IsLine self.now }
     {
         self.entries.len()
+    }
+
+    /// Whether no cell is in line.
+    pub(crate) fn is_empty(&self) -> bool
+        ensures { IsTrue result ↔ (length self.now ≡ 0) }
+    {
+        self.len() == 0
     }
 
     /// The chain of a cell.
@@ -97,27 +104,34 @@ impl Line {
         Some(held)
     }
 
-    /// Puts a cell in line, unless it has no short key or comes too late, and tells whether it did.
-    pub(crate) fn insert(&mut self, cell: &Cell, chain: Chain) -> Result<bool, Memory>
-        requires { chain_at self.old cell.now ≡ None }
-        ensures put { result ≡ Ok true → self.new ≡ insert_entry cell_cmp self.old cell.now chain }
+    /// Puts a cell in line by its key, unless it comes too late, and tells whether it did.
+    pub(crate) fn insert(&mut self, key: K, chain: Chain) -> Result<bool, Memory>
+        requires { chain_at self.old (K.cell_of key) ≡ None }
+        ensures put { result ≡ Ok true → self.new
+            ≡ insert_entry cell_cmp self.old (K.cell_of key) chain }
         ensures left { result ≡ Ok false → self.new ≡ self.old }
         ensures err { OnErr result (self.new ≡ self.old) }
     {
-        let Some(key) = Narrow::of(cell) else {
-            return Ok(false);
-        };
         match search(&self.entries, &key) {
             Ok(_) => unreachable!(),
             Err(place) => self.insert_at(place, key, chain),
         }
     }
 
+    /// Puts a cell that comes after all others in line.
+    pub(crate) fn push(&mut self, key: K, chain: Chain) -> Result<(), Memory>
+        requires { IsAfterAll (K.cell_of key) self.old }
+        ensures { OnOk result (self.new ≡ self.old ++ (K.cell_of key, chain) ∷ []) }
+    {
+        self.entries.push((key, chain))?;
+        Ok(())
+    }
+
     // Puts a key at its place, unless it comes too late, and tells whether it did.
-    fn insert_at(&mut self, place: usize, key: Narrow, chain: Chain) -> Result<bool, Memory>
-        requires { IsGap self.old (wide key) place }
+    fn insert_at(&mut self, place: usize, key: K, chain: Chain) -> Result<bool, Memory>
+        requires { IsGap self.old (K.cell_of key) place }
         ensures put { result ≡ Ok true → self.new
-            ≡ insert_entry cell_cmp self.old (wide key) chain }
+            ≡ insert_entry cell_cmp self.old (K.cell_of key) chain }
         ensures left { result ≡ Ok false → self.new ≡ self.old }
         ensures err { OnErr result (self.new ≡ self.old) }
     {
@@ -152,8 +166,9 @@ impl Line {
     }
 
     /// The entries, in order.
-    pub(crate) fn entries(&self) -> &[(Narrow, Chain)]
-        ensures { wide_entries result.now ≡ self.now }
+    pub(crate) fn entries(&self) -> &[(K, Chain)]
+        ensures ordered { IsLine self.now }
+        ensures entries { entries_by K.cell_of result.now ≡ self.now }
     {
         &self.entries
     }
@@ -169,21 +184,21 @@ fn late_with(late: u32, moved: usize) -> u32 {
 }
 
 // The place of a cell in a line.
-fn place_of(line: &[(Narrow, Chain)], cell: &Cell) -> Option<usize>
-    requires { IsLine (wide_entries line.now) }
-    ensures none { IfNone result (chain_at (wide_entries line.now) cell.now ≡ None) }
-    ensures some { IfSome result (StandsInLine (wide_entries line.now) cell.now) }
+fn place_of<K: Key>(line: &[(K, Chain)], cell: &Cell) -> Option<usize>
+    requires { IsLine (entries_by K.cell_of line.now) }
+    ensures none { IfNone result (chain_at (entries_by K.cell_of line.now) cell.now ≡ None) }
+    ensures some { IfSome result (StandsInLine (entries_by K.cell_of line.now) cell.now) }
 {
-    let key = Narrow::of(cell)?;
+    let key = K::of(cell)?;
     search(line, &key).ok()
 }
 
 // The place of a key in a line, or the one where it is missing. The last one is looked at first, since cells mostly
 // come in order.
-fn search(line: &[(Narrow, Chain)], key: &Narrow) -> Result<usize, usize>
-    requires { IsLine (wide_entries line.now) }
-    ensures there { IfOk result (StandsInLine (wide_entries line.now) (wide key.now)) }
-    ensures gap { IfErr result (IsGap (wide_entries line.now) (wide key.now)) }
+fn search<K: Key>(line: &[(K, Chain)], key: &K) -> Result<usize, usize>
+    requires { IsLine (entries_by K.cell_of line.now) }
+    ensures there { IfOk result (StandsInLine (entries_by K.cell_of line.now) (K.cell_of key.now)) }
+    ensures gap { IfErr result (IsGap (entries_by K.cell_of line.now) (K.cell_of key.now)) }
 {
     let Some(last) = line.len().checked_sub(1) else {
         return Err(0);
@@ -196,10 +211,10 @@ fn search(line: &[(Narrow, Chain)], key: &Narrow) -> Result<usize, usize>
 }
 
 // The same, by halving.
-fn search_by_halving(line: &[(Narrow, Chain)], key: &Narrow) -> Result<usize, usize>
-    requires { IsLine (wide_entries line.now) }
-    ensures there { IfOk result (StandsInLine (wide_entries line.now) (wide key.now)) }
-    ensures gap { IfErr result (IsGap (wide_entries line.now) (wide key.now)) }
+fn search_by_halving<K: Key>(line: &[(K, Chain)], key: &K) -> Result<usize, usize>
+    requires { IsLine (entries_by K.cell_of line.now) }
+    ensures there { IfOk result (StandsInLine (entries_by K.cell_of line.now) (K.cell_of key.now)) }
+    ensures gap { IfErr result (IsGap (entries_by K.cell_of line.now) (K.cell_of key.now)) }
 {
     let mut low = 0;
     let mut high = line.len();

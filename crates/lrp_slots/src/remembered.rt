@@ -4,6 +4,7 @@ ghost use Rattle.lrp_model.specs.declared.tuples.Cell.{Cell as CellValue};
 ghost use Rattle.lrp_slots.specs.declared.narrow.Narrow.{Narrow as NarrowValue};
 ghost use Rattle.lrp_slots.specs.Narrow.{wide};
 
+use crate::key::Key;
 use crate::narrow::Narrow;
 use lrp_model::{Cell, Memory};
 use std::alloc::Global;

@@ -97,6 +97,14 @@ impl<V: Drop> Slots<V> {
         Ok(())
     }
 
+    /// Brings the cells into the least memory, for lists that are mostly read from then on.
+    pub fn compact(&mut self) -> Result<(), Memory>
+        ensures { self.new ≡ self.old }
+    {
+        self.chains.compact()?;
+        Ok(())
+    }
+
     /// Appends a value to a cell's list. The cell is looked up once, and a value that is refused is dropped.
     pub fn append(&mut self, cell: &Cell, value: V) -> Result<(), Memory>
         ensures ok { OnOk result (self.new.lists

@@ -8,6 +8,7 @@ ghost use Rattle.lrp_slots.specs.Narrow.{wide_entries};
 
 use crate::chains::{Chain, extended};
 use crate::iterators::Branches;
+use crate::key::Key;
 use crate::narrow::Narrow;
 use lrp_model::{Cell, Memory};
 use std::alloc::Global;

@@ -23,6 +23,29 @@ pub fn scan(
     ensures { IsScanResult setting.now.cap setting.now.domain.now period relation.now terms.now
         result }
 {
+    let mut table = match scan_rows(setting, relation, terms, period) {
+        Ok(table) => table,
+        Err(fault) => return Err(fault),
+    };
+
+    // Rows mostly don't come in the order of their cells.
+    match table.store.compact() {
+        Ok(()) => Ok(table),
+        Err(memory) => Err(StepFault::from(memory)),
+    }
+}
+
+// The same, with the cells as the rows bring them.
+fn scan_rows(
+    setting: &Setting<'_>,
+    relation: &Relation,
+    terms: &List<Term>,
+    period: i64,
+) -> Result<Table, StepFault>
+    requires { CanScan setting.now.domain.now period relation.now terms.now }
+    ensures { IsScanResult setting.now.cap setting.now.domain.now period relation.now terms.now
+        result }
+{
     let (alloc, domain) = (setting.alloc, setting.domain);
     let size = domain.len();
     let vars = scan_vars(alloc, terms)?;

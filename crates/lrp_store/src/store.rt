@@ -161,6 +161,13 @@ impl Store {
         self.slots.reserve(slots)
     }
 
+    /// Brings the cells into the least memory, for a store that is mostly read from then on.
+    pub fn compact(&mut self) -> Result<(), Memory>
+        ensures { self.new ≡ self.old }
+    {
+        self.slots.compact()
+    }
+
     /// Appends a zone to a cell's list.
     ///
     /// The zone has the store's period, the cell's residues and one column for each time.

@@ -1,86 +1,40 @@
--- Row after row is added.
-use Rattle.std.proofs.Common.{Err, refl, sym, ap, subst, ◌∙◌}
-use Rattle.std.specs.Prelude.{All}
-use Rattle.lrp_steps.specs.Rows.{IsAskedText}
-use Rattle.lrp_steps.proofs.Scanned.{few_times, few_texts, times_among, texts_among, names_differ, scanning_none, row_reads, row_fits, row_passed, row_added, row_refused, scanning_more, scan_many, scan_table, scan_few, scan_high, made_times, made_texts}
-use Rattle.lrp_steps.proofs.Conditioned.{matched_none, matched_some}
-use Rattle.lrp_steps.proofs.ReadRows.{row_never}
-use Rattle.lrp_steps.proofs.Steps.{farther}
+-- The table of the rows has the same assignments in less memory.
+use Rattle.std.proofs.Common.{◌≡◌, ◌∙◌, ℕ, List, Ok, refl, ap, subst, sym, rules, SFits, to_z, of_z}
+use Rattle.std.specs.Int.{w64}
+use Rattle.std.specs.Prelude.{nat_abs}
+use Rattle.std.proofs.lemmas.Int.{to_z-of_z}
+use Rattle.lrp_model.specs.Satisfaction.{Assignment}
+use Rattle.lrp_model.specs.Texts.{Text, Identifier}
+use Rattle.lrp_store.specs.Stores.{HasReach}
+use Rattle.lrp_store.specs.Tables.{AreNumbered, InTable}
+use Rattle.lrp_tables.specs.declared.table.Table.{Table}
+use Rattle.lrp_tables.specs.Columns.{scan_times, scan_texts}
+use Rattle.lrp_tables.specs.Steps.{IsScanResult}
+use Rattle.lrp_tables.specs.Tables.{IsScanned, IsTableOf}
 use Rattle.lrp_steps.proofs.scans.scan.Goals as goal
 
-pub store_over-out-requires-clause-times : goal.store_over-out-requires-clause-times
-store_over-out-requires-clause-times c =
-    few_times c.args.setting.now.domain.now c.len-size.ensures.ascending c.args.relation.now c.args.terms.now c.args.period c.requires.low c.requires.high c.requires c.requires.reach c.in_ok-vars.vars.times c.in_ok-vars.vars.texts c.in_ok-vars.ensures.times c.in_ok-vars.ensures.texts c.args.setting.now.cap _ refl
+-- a table of the same variables and an equal store
+same_table : (domain : List Text) (times texts : List Identifier) (period : ℕ) (set : Assignment → Type 0) (made new : Table) → made.vars ≡ new.vars → made.store ≡ new.store → IsTableOf domain times texts period set made
+    → IsTableOf domain times texts period set new
+same_table domain times texts period set made new vars store is = record {
+  times_are = ap (λ v. v.times) (sym vars) ∙ is.times_are;
+  texts_are = ap (λ v. v.texts) (sym vars) ∙ is.texts_are;
+  period_is = ap (λ s. s.period) (sym store) ∙ is.period_is;
+  sound = λ env has. is.sound env (subst (λ s. InTable domain made.vars.times made.vars.texts s env) (sym store) (subst (λ v. InTable domain v.times v.texts new.store env) (sym vars) has));
+  whole = λ env has. subst (λ v. InTable domain v.times v.texts new.store env) vars (subst (λ s. InTable domain made.vars.times made.vars.texts s env) store (is.whole env has));
+  numbered = subst (AreNumbered domain) store is.numbered;
+}
 
-pub store_over-out-requires-clause-texts : goal.store_over-out-requires-clause-texts
-store_over-out-requires-clause-texts c =
-    few_texts c.args.setting.now.domain.now c.len-size.ensures.ascending c.args.relation.now c.args.terms.now c.args.period c.requires.low c.requires.high c.requires c.requires.reach c.in_ok-vars.vars.times c.in_ok-vars.vars.texts c.in_ok-vars.ensures.times c.in_ok-vars.ensures.texts c.args.setting.now.cap _ refl
-
-pub loop-row-init : goal.loop-row-init
-loop-row-init c =
-    scanning_none c.args.setting.now.domain.now c.len-size.ensures.ascending c.args.relation.now c.args.terms.now c.args.period c.requires.low c.requires.high c.requires c.requires.reach c.in_ok-vars.vars.times c.in_ok-vars.vars.texts c.in_ok-vars.ensures.times c.in_ok-vars.ensures.texts c.args.setting.now.cap c.store_over-out.result c.store_over-out.ensures.made c.store_over-out.ensures.valid
-
-pub pattern_of_row-requires-clause-few_times : goal.pattern_of_row-requires-clause-few_times
-pattern_of_row-requires-clause-few_times c =
-    few_times c.args.setting.now.domain.now c.len-size.ensures.ascending c.args.relation.now c.args.terms.now c.args.period c.requires.low c.requires.high c.requires c.requires.reach c.in_ok-vars.vars.times c.in_ok-vars.vars.texts c.in_ok-vars.ensures.times c.in_ok-vars.ensures.texts c.args.setting.now.cap c.store_over-out.result c.store_over-out.ensures.made
-
-pub pattern_of_row-requires-clause-few_texts : goal.pattern_of_row-requires-clause-few_texts
-pattern_of_row-requires-clause-few_texts c =
-    few_texts c.args.setting.now.domain.now c.len-size.ensures.ascending c.args.relation.now c.args.terms.now c.args.period c.requires.low c.requires.high c.requires c.requires.reach c.in_ok-vars.vars.times c.in_ok-vars.vars.texts c.in_ok-vars.ensures.times c.in_ok-vars.ensures.texts c.args.setting.now.cap c.store_over-out.result c.store_over-out.ensures.made
-
-pub pattern_of_row-requires-clause-times : goal.pattern_of_row-requires-clause-times
-pattern_of_row-requires-clause-times c =
-    times_among c.args.setting.now.domain.now c.len-size.ensures.ascending c.args.relation.now c.args.terms.now c.args.period c.requires.low c.requires.high c.requires c.requires.reach c.in_ok-vars.vars.times c.in_ok-vars.vars.texts c.in_ok-vars.ensures.times c.in_ok-vars.ensures.texts c.args.setting.now.cap c.store_over-out.result c.store_over-out.ensures.made
-
-pub pattern_of_row-requires-clause-texts : goal.pattern_of_row-requires-clause-texts
-pattern_of_row-requires-clause-texts c =
-    texts_among c.args.setting.now.domain.now c.len-size.ensures.ascending c.args.relation.now c.args.terms.now c.args.period c.requires.low c.requires.high c.requires c.requires.reach c.in_ok-vars.vars.times c.in_ok-vars.vars.texts c.in_ok-vars.ensures.times c.in_ok-vars.ensures.texts c.args.setting.now.cap c.store_over-out.result c.store_over-out.ensures.made
-
-pub pattern_of_row-requires-clause-row : goal.pattern_of_row-requires-clause-row
-pattern_of_row-requires-clause-row c =
-    row_reads c.args.setting.now.domain.now c.len-size.ensures.ascending c.args.relation.now c.args.terms.now c.args.period c.requires.low c.requires.high c.requires c.requires.reach c.in_ok-vars.vars.times c.in_ok-vars.vars.texts c.in_ok-vars.ensures.times c.in_ok-vars.ensures.texts c.args.setting.now.cap c.store_over-out.result c.store_over-out.ensures.made _ c.as_slice-row-items.ensures c.loop-row.row-index c.row-item.result c.loop-row-test.true c.row-item.is
-
-pub add_pattern-requires : goal.add_pattern-requires
-add_pattern-requires c =
-    let w = matched_some _ _ _ _ c.in-Some.is c.in_ok-pattern.ensures in
-    row_fits c.args.setting.now.domain.now c.len-size.ensures.ascending c.args.relation.now c.args.terms.now c.args.period c.requires.low c.requires.high c.requires c.requires.reach c.in_ok-vars.vars.times c.in_ok-vars.vars.texts c.in_ok-vars.ensures.times c.in_ok-vars.ensures.texts c.args.setting.now.cap c.store_over-out.result c.store_over-out.ensures.made _ c.as_slice-row-items.ensures c.loop-row.row-index c.row-item.result c.loop-row-test.true c.row-item.is c.loop-row.out c.loop-row.invariant c.in-Some.pattern w c.len-size.result c.len-size.ensures.count
-
-pub loop-row-preserved : goal.loop-row-preserved
-loop-row-preserved c =
-    let w = matched_some _ _ _ _ c.in-Some.is c.in_ok-pattern.ensures in
-    scanning_more c.args.setting.now.domain.now c.len-size.ensures.ascending c.args.relation.now c.args.terms.now c.args.period c.requires.low c.requires.high c.requires c.requires.reach c.in_ok-vars.vars.times c.in_ok-vars.vars.texts c.in_ok-vars.ensures.times c.in_ok-vars.ensures.texts c.args.setting.now.cap c.store_over-out.result c.store_over-out.ensures.made _ c.as_slice-row-items.ensures c.loop-row.row-index c.row-item.result c.loop-row-test.true c.row-item.is c.loop-row.out c.loop-row.invariant c.add_pattern.new.out (row_added c.args.setting.now.domain.now c.len-size.ensures.ascending c.args.relation.now c.args.terms.now c.args.period c.requires.low c.requires.high c.requires c.requires.reach c.in_ok-vars.vars.times c.in_ok-vars.vars.texts c.in_ok-vars.ensures.times c.in_ok-vars.ensures.texts c.args.setting.now.cap c.store_over-out.result c.store_over-out.ensures.made _ c.as_slice-row-items.ensures c.loop-row.row-index c.row-item.result c.loop-row-test.true c.row-item.is c.loop-row.out c.loop-row.invariant c.in-Some.pattern w c.len-size.result c.len-size.ensures.count c.add_pattern.new.out c.in-Ok.ensures.ok)
-
-pub loop-row-preserved-in_default : goal.loop-row-preserved-in_default
-loop-row-preserved-in_default c =
-    scanning_more c.args.setting.now.domain.now c.len-size.ensures.ascending c.args.relation.now c.args.terms.now c.args.period c.requires.low c.requires.high c.requires c.requires.reach c.in_ok-vars.vars.times c.in_ok-vars.vars.texts c.in_ok-vars.ensures.times c.in_ok-vars.ensures.texts c.args.setting.now.cap c.store_over-out.result c.store_over-out.ensures.made _ c.as_slice-row-items.ensures c.loop-row.row-index c.row-item.result c.loop-row-test.true c.row-item.is c.loop-row.out c.loop-row.invariant c.loop-row.out (row_passed c.args.setting.now.domain.now c.len-size.ensures.ascending c.args.relation.now c.args.terms.now c.args.period c.requires.low c.requires.high c.requires c.requires.reach c.in_ok-vars.vars.times c.in_ok-vars.vars.texts c.in_ok-vars.ensures.times c.in_ok-vars.ensures.texts c.args.setting.now.cap c.store_over-out.result c.store_over-out.ensures.made _ c.as_slice-row-items.ensures c.loop-row.row-index c.row-item.result c.loop-row-test.true c.row-item.is c.loop-row.out c.loop-row.invariant (matched_none _ _ _ c.in_default.is c.in_ok-pattern.ensures))
-
-pub loop-row-preserved-then-has_another : goal.loop-row-preserved-then-has_another
-loop-row-preserved-then-has_another c =
-    scanning_more c.args.setting.now.domain.now c.len-size.ensures.ascending c.args.relation.now c.args.terms.now c.args.period c.requires.low c.requires.high c.requires c.requires.reach c.in_ok-vars.vars.times c.in_ok-vars.vars.texts c.in_ok-vars.ensures.times c.in_ok-vars.ensures.texts c.args.setting.now.cap c.store_over-out.result c.store_over-out.ensures.made _ c.as_slice-row-items.ensures c.loop-row.row-index c.row-item.result c.loop-row-test.true c.row-item.is c.loop-row.out c.loop-row.invariant c.loop-row.out (row_passed c.args.setting.now.domain.now c.len-size.ensures.ascending c.args.relation.now c.args.terms.now c.args.period c.requires.low c.requires.high c.requires c.requires.reach c.in_ok-vars.vars.times c.in_ok-vars.vars.texts c.in_ok-vars.ensures.times c.in_ok-vars.ensures.texts c.args.setting.now.cap c.store_over-out.result c.store_over-out.ensures.made _ c.as_slice-row-items.ensures c.loop-row.row-index c.row-item.result c.loop-row-test.true c.row-item.is c.loop-row.out c.loop-row.invariant (row_never c.args.setting.now.domain.now c.in_ok-vars.vars.times c.in_ok-vars.vars.texts c.args.terms.now c.row-item.result (c.has_another.ensures c.if-has_another.true c.args.terms.now (subst (All (IsAskedText c.args.terms.now)) (sym c.as_slice.ensures.value) c.in_ok-asked.ensures))))
-
-pub returns-in-Err-TooManyCells : goal.returns-in-Err-TooManyCells
-returns-in-Err-TooManyCells c =
-    let w = matched_some _ _ _ _ c.in-Some.is c.in_ok-pattern.ensures in
+pub returns-in-Ok-compact : goal.returns-in-Ok-compact
+returns-in-Ok-compact c =
+    let same : to_z w64 (of_z w64 c.args.period) ≡ c.args.period = (let fits : SFits w64 c.args.period = search rules in to_z-of_z w64 c.args.period fits) in
+    let given : IsScanResult c.args.setting.now.cap c.args.setting.now.domain.now (to_z w64 (of_z w64 c.args.period)) c.args.relation.now c.args.terms.now (Ok c.in-Ok.table) =
+    subst (IsScanResult c.args.setting.now.cap c.args.setting.now.domain.now (to_z w64 (of_z w64 c.args.period)) c.args.relation.now c.args.terms.now) c.in-Ok.is c.scan_rows.ensures in
+    let made : IsScanResult c.args.setting.now.cap c.args.setting.now.domain.now c.args.period c.args.relation.now c.args.terms.now (Ok c.in-Ok.table) =
+    subst (λ p. IsScanResult c.args.setting.now.cap c.args.setting.now.domain.now p c.args.relation.now c.args.terms.now (Ok c.in-Ok.table)) same given in
     record {
-      table = tt;
-      reach = tt;
-      few = tt;
-      many = λ e. scan_many c.args.setting.now.domain.now c.len-size.ensures.ascending c.args.relation.now c.args.terms.now c.args.period c.requires.low c.requires.high c.requires c.requires.reach c.in_ok-vars.vars.times c.in_ok-vars.vars.texts c.in_ok-vars.ensures.times c.in_ok-vars.ensures.texts c.args.setting.now.cap c.store_over-out.result c.store_over-out.ensures.made _ c.as_slice-row-items.ensures c.loop-row.row-index c.row-item.result c.loop-row-test.true c.row-item.is c.loop-row.out c.loop-row.invariant c.add_pattern.new.out (row_refused c.args.setting.now.domain.now c.len-size.ensures.ascending c.args.relation.now c.args.terms.now c.args.period c.requires.low c.requires.high c.requires c.requires.reach c.in_ok-vars.vars.times c.in_ok-vars.vars.texts c.in_ok-vars.ensures.times c.in_ok-vars.ensures.texts c.args.setting.now.cap c.store_over-out.result c.store_over-out.ensures.made _ c.as_slice-row-items.ensures c.loop-row.row-index c.row-item.result c.loop-row-test.true c.row-item.is c.loop-row.out c.loop-row.invariant c.in-Some.pattern w c.len-size.result c.len-size.ensures.count c.add_pattern.new.out (c.add_pattern.ensures.too_many (c.in-Err-TooManyCells.is ∙ ap Err c.in-Err-TooManyCells.field-0-is)));
-    }
-
-pub invariant_of-result : goal.invariant_of-result
-invariant_of-result c =
-    record {
-      times_named = made_times c.args.setting.now.domain.now c.len-size.ensures.ascending c.args.relation.now c.args.terms.now c.args.period c.requires.low c.requires.high c.requires c.requires.reach c.in_ok-vars.vars.times c.in_ok-vars.vars.texts c.in_ok-vars.ensures.times c.in_ok-vars.ensures.texts c.args.setting.now.cap c.store_over-out.result c.store_over-out.ensures.made _ c.as_slice-row-items.ensures c.loop-row.row-index c.loop-row-test.false c.loop-row.out c.loop-row.invariant;
-      texts_named = made_texts c.args.setting.now.domain.now c.len-size.ensures.ascending c.args.relation.now c.args.terms.now c.args.period c.requires.low c.requires.high c.requires c.requires.reach c.in_ok-vars.vars.times c.in_ok-vars.vars.texts c.in_ok-vars.ensures.times c.in_ok-vars.ensures.texts c.args.setting.now.cap c.store_over-out.result c.store_over-out.ensures.made _ c.as_slice-row-items.ensures c.loop-row.row-index c.loop-row-test.false c.loop-row.out c.loop-row.invariant;
-      names_differ = names_differ c.args.setting.now.domain.now c.len-size.ensures.ascending c.args.relation.now c.args.terms.now c.args.period c.requires.low c.requires.high c.requires c.requires.reach c.in_ok-vars.vars.times c.in_ok-vars.vars.texts c.in_ok-vars.ensures.times c.in_ok-vars.ensures.texts c.args.setting.now.cap c.store_over-out.result c.store_over-out.ensures.made;
-    }
-
-pub returns : goal.returns
-returns c =
-    record {
-      table = scan_table c.args.setting.now.domain.now c.len-size.ensures.ascending c.args.relation.now c.args.terms.now c.args.period c.requires.low c.requires.high c.requires c.requires.reach c.in_ok-vars.vars.times c.in_ok-vars.vars.texts c.in_ok-vars.ensures.times c.in_ok-vars.ensures.texts c.args.setting.now.cap c.store_over-out.result c.store_over-out.ensures.made _ c.as_slice-row-items.ensures c.loop-row.row-index c.loop-row-test.false c.loop-row.out c.loop-row.invariant _ refl refl refl;
-      reach = λ high h. farther _ _ high h (scan_high c.args.setting.now.domain.now c.len-size.ensures.ascending c.args.relation.now c.args.terms.now c.args.period c.requires.low c.requires.high c.requires c.requires.reach c.in_ok-vars.vars.times c.in_ok-vars.vars.texts c.in_ok-vars.ensures.times c.in_ok-vars.ensures.texts c.args.setting.now.cap c.store_over-out.result c.store_over-out.ensures.made _ c.as_slice-row-items.ensures c.loop-row.row-index c.loop-row-test.false c.loop-row.out c.loop-row.invariant);
-      few = scan_few c.args.setting.now.domain.now c.len-size.ensures.ascending c.args.relation.now c.args.terms.now c.args.period c.requires.low c.requires.high c.requires c.requires.reach c.in_ok-vars.vars.times c.in_ok-vars.vars.texts c.in_ok-vars.ensures.times c.in_ok-vars.ensures.texts c.args.setting.now.cap c.store_over-out.result c.store_over-out.ensures.made _ c.as_slice-row-items.ensures c.loop-row.row-index c.loop-row-test.false c.loop-row.out c.loop-row.invariant;
+      table = same_table c.args.setting.now.domain.now (scan_times c.args.terms.now) (scan_texts c.args.terms.now) (nat_abs c.args.period) (IsScanned c.args.setting.now.domain.now c.args.relation.now c.args.terms.now) c.in-Ok.table _ refl (sym c.compact.ensures) made.table;
+      reach = λ high h. subst (λ s. HasReach s high) (sym c.compact.ensures) (made.reach high h);
+      few = made.few;
       many = λ e. cc;
     }

@@ -4,7 +4,7 @@ use Rattle.std.specs.Prelude.{pos}
 use Rattle.std.specs.Int.{w64}
 use Rattle.std.proofs.lemmas.Int.{to_z-of_z}
 use Rattle.lrp_slots.proofs.Shortened.{same_numbers, key_parts, no_key}
-use Rattle.lrp_slots.proofs.narrow.Narrow.of.Goals as goal
+use Rattle.lrp_slots.proofs.narrow.NarrowKey.of.Goals as goal
 
 pub returns-then-eq-clause-some : goal.returns-then-eq-clause-some
 returns-then-eq-clause-some c = sym c.cell.ensures ∙ same_numbers c.cell.result c.args.cell.now (sym c.eq.ensures ∙ c.if-eq.true)
@@ -15,4 +15,4 @@ returns-else-eq-clause-none c =
     let second : SFits w64 (get_or c.args.cell.now.residues 1 (pos 0)) = search rules in
     let third : SFits w64 (get_or c.args.cell.now.residues 2 (pos 0)) = search rules in
     no_key c.args.cell.now c.cell.result _
-    (key_parts c.args.cell.now c.from.result c.from-2.result _ _ _ c.from.ensures c.from-2.ensures (to_z-of_z w64 _ first) (to_z-of_z w64 _ second) (to_z-of_z w64 _ third)) c.cell.ensures (sym c.eq.ensures ∙ c.if-eq.false)
+    (key_parts c.args.cell.now c.joined.result _ _ _ c.joined.ensures (to_z-of_z w64 _ first) (to_z-of_z w64 _ second) (to_z-of_z w64 _ third)) c.cell.ensures (sym c.eq.ensures ∙ c.if-eq.false)
