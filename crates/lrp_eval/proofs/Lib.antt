@@ -32,6 +32,7 @@ pub mod ComplementCounts
 pub mod ComplementJoins
 pub mod TogetherLaws
 pub mod ProjectionLaws
+pub mod KnownLaws
 pub mod GroupLaws
 pub mod GroupDrops
 pub mod GroupSteps

@@ -12,3 +12,4 @@ pub mod Freeing
 pub mod Grouped
 pub mod Growing
 pub mod Together
+pub mod Known

@@ -106,8 +106,8 @@ fn ending_answers(alloc: Global, plan: &Plan, ending: Ending) -> Result<List<Ans
     }
 }
 
-// The answers of the last table, with the zones of each cell settled.
-fn settled_answer(alloc: Global, plan: &Plan, table: Table) -> Result<Answer, Memory>
+/// The answers of the last table, with the zones of each cell settled.
+pub(crate) fn settled_answer(alloc: Global, plan: &Plan, table: Table) -> Result<Answer, Memory>
     requires valid { IsStore table.store }
     requires table { HasAnswersOfSome plan.now table }
     ensures answer { IfOk result (λ made. (planned : Steps) (db : ListOf Relation) (q : Question) (cap : ℕ)

@@ -84,8 +84,8 @@ fn run_several(
     }
 }
 
-// The tables with that of the last of some steps that were run together. The others' take no memory.
-fn with_together(
+/// The tables with that of the last of some steps that were run together. The others' take no memory.
+pub(crate) fn with_together(
     alloc: Global,
     tables: List<Table>,
     together: Together,

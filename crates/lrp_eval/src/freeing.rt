@@ -9,7 +9,7 @@ use lrp_tables::{Table, Vars};
 use std::alloc::Global;
 
 /// The steps that a step reads, by their numbers from 1; 0 stands for none.
-pub(crate) fn operands_of(kind: &StepKind) -> (u32, u32)
+pub fn operands_of(kind: &StepKind) -> (u32, u32)
     ensures { (l : ℕ) → Contains (operands kind.now) l → Contains (result.0 ∷ result.1 ∷ []) l }
 {
     match kind {

@@ -9,5 +9,9 @@ mod Tellings
 mod Headings
 mod Replacing
 mod Decisions
+mod KnownTexts
 mod Renewals
 mod TellingAnew
+mod SameSteps
+mod KeptParts
+mod ChangedRows

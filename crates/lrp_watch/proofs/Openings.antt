@@ -30,12 +30,12 @@ use Rattle.lrp_watch.specs.Watching.{CanBeWatched, row_texts_of, watched_constan
 -- ---- lists
 
 -- what holds of each of two lists holds of each of them
-parts : {X : Type 0} (p : X → Type 0) (xs ys : List X) → AllByRecursion p (xs ++ ys) → AllByRecursion p xs × AllByRecursion p ys
+pub parts : {X : Type 0} (p : X → Type 0) (xs ys : List X) → AllByRecursion p (xs ++ ys) → AllByRecursion p xs × AllByRecursion p ys
 parts p [] ys h = (tt, h)
 parts p (x ∷ xs) ys h = let r = parts p xs ys h.1 in ((h.0, r.0), r.1)
 
 -- the same of images
-image_parts : {X Y : Type 0} (p : Y → Type 0) (f : X → Y) (xs ys : List X) → AllByRecursion p (map f (xs ++ ys)) → AllByRecursion p (map f xs) × AllByRecursion p (map f ys)
+pub image_parts : {X Y : Type 0} (p : Y → Type 0) (f : X → Y) (xs ys : List X) → AllByRecursion p (map f (xs ++ ys)) → AllByRecursion p (map f xs) × AllByRecursion p (map f ys)
 image_parts p f [] ys h = (tt, h)
 image_parts p f (x ∷ xs) ys h = let r = image_parts p f xs ys h.1 in ((h.0, r.0), r.1)
 
@@ -65,7 +65,7 @@ row_held domain cs row h k = record { values = values_held domain cs row.values 
 
 -- ---- databases
 
-texts_alone : (cs : List Column) (vs : List Value) → AreValuesOf cs vs → map (λ (entry : Sort × Text). entry.1) (row_texts cs vs) ≡ flat_map texts_of_value vs
+pub texts_alone : (cs : List Column) (vs : List Value) → AreValuesOf cs vs → map (λ (entry : Sort × Text). entry.1) (row_texts cs vs) ≡ flat_map texts_of_value vs
 texts_alone [] [] h = refl
 texts_alone [] (v ∷ vs) h = absurd h
 texts_alone (c ∷ cs) [] h = absurd h

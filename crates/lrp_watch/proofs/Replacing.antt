@@ -1,21 +1,17 @@
 -- The databases that edits make can be databases, and rows are taken out by their places.
-use Rattle.std.proofs.Common.{◌≡◌, ◌≢◌, ◌∙◌, ℕ, zero, suc, ◌+◌, ◌<◌, ◌≤◌, Bool, true, false, cond, List, [], ◌∷◌, ◌++◌, length, map, flat_map, take, drop, get_or, Option, Some, Result, Ok, Err, refl, sym, ap, subst, arith, inl}
+use Rattle.std.proofs.Common.{◌≡◌, ◌≢◌, ◌∙◌, ℕ, zero, suc, ◌+◌, ◌<◌, Bool, true, false, cond, List, [], ◌∷◌, ◌++◌, length, map, take, drop, get_or, Option, Some, Result, Ok, Err, refl, sym, ap, subst, arith, inl}
 use Rattle.std.specs.Prelude.{Contains, IfOk, slice_get}
 use Rattle.std.specs.List.{AllByRecursion}
 use Rattle.std.specs.Str.{bytes_eq}
 use Rattle.std.specs.Cmp.Lexicographic.{bytes_decides}
 use Rattle.std.proofs.lemmas.List.{take-append-drop}
 use Rattle.std.proofs.lemmas.Option.{same_Some, slice_get-get_or, slice_get_within}
-use Rattle.std.proofs.Math.Seq.{drop-cons, take-suc}
-use Rattle.lrp_model.specs.Domains.{row_texts}
+use Rattle.std.proofs.Math.Seq.{drop-cons}
 use Rattle.lrp_model.specs.Kept.{AreKept, IsKept, IsRowOf}
 use Rattle.lrp_model.specs.Rows.{relation_named, rows_in, rows_of}
 use Rattle.lrp_model.specs.Texts.{AreDistinct, Identifier}
-use Rattle.lrp_model.specs.declared.relations.Column.{Column}
 use Rattle.lrp_model.specs.declared.relations.Relation.{Relation}
 use Rattle.lrp_model.specs.declared.relations.Row.{Row}
-use Rattle.lrp_model.specs.declared.relations.Value.{Value}
-use Rattle.lrp_model.specs.declared.relations.Value.TheVariants.{Point, Const}
 use Rattle.lrp_keep.specs.Keeps.{IsTakenOut}
 use Rattle.lrp_keep.specs.Replaced.{replaced, with_rows}
 use Rattle.lrp_watch.specs.Changes.{IsFirstEqualAt}
@@ -132,31 +128,6 @@ pub edited_without : (db new : List Relation) (name : Identifier) (row : Row) (r
 edited_without db new name row rows all own place named is first made changed =
     let same : rows ≡ rows_of db name = is ∙ sym (rows_named db name own named) in
     inl (record { rows = all; taken = subst (λ rs. IsTakenOut row rs all) same (taken_out row rows all place first made); is = changed })
-
--- ---- values are counted
-
-long_append : {X : Type 0} (xs ys : List X) → length (xs ++ ys) ≡ length xs + length ys
-long_append [] ys = omega arith
-long_append (x ∷ xs) ys = let e = long_append xs ys in omega (arith, e)
-
-flat_one : {X Y : Type 0} (f : X → List Y) (xs : List X) (x : X) → length (flat_map f (xs ++ x ∷ [])) ≡ length (flat_map f xs) + length (f x)
-flat_one f [] x = long_append (f x) [] ∙ omega arith
-flat_one f (y ∷ xs) x = let e = flat_one f xs x in let a = long_append (f y) (flat_map f (xs ++ x ∷ [])) in let b = long_append (f y) (flat_map f xs) in omega (arith, e, a, b)
-
-pub counted : {X Y : Type 0} (f : X → List Y) (xs : List X) (i : ℕ) (x : X) (left new most : ℕ) → i < length xs → x ≡ get_or xs i x → length (flat_map f (take i xs)) + left ≤ most → length (f x) + new ≤ left → length (flat_map f (take (i + 1) xs)) + new ≤ most
-counted f xs i x left new most low at h k =
-    let next : i + 1 ≡ suc i = omega arith in
-    let taken : take (i + 1) xs ≡ take i xs ++ x ∷ [] = ap (λ n. take n xs) next ∙ take-suc xs i x low ∙ ap (λ y. take i xs ++ y ∷ []) (sym at) in
-    let long : length (flat_map f (take (i + 1) xs)) ≡ length (flat_map f (take i xs)) + length (f x) = ap (λ ys. length (flat_map f ys)) taken ∙ flat_one f (take i xs) x in
-    omega (arith, long, h, k)
-
--- a row has no more texts than values
-pub few_texts : (cs : List Column) (vs : List Value) → length (row_texts cs vs) ≤ length vs
-few_texts [] [] = omega arith
-few_texts [] (v ∷ vs) = omega arith
-few_texts (c ∷ cs) [] = omega arith
-few_texts (c ∷ cs) (Point p ∷ vs) = let e = few_texts cs vs in omega (arith, e)
-few_texts (c ∷ cs) (Const t ∷ vs) = let e = few_texts cs vs in omega (arith, e)
 
 -- what is so of each that may have been made
 pub if_made : {X E : Type 0} (r : Result X E) (P Q : X → Type 0) → ((made : X) → P made → Q made) → IfOk r P → IfOk r Q

@@ -10,3 +10,4 @@ pub mod Faults
 pub mod LeastAnswers
 pub mod Changes
 pub mod Decided
+pub mod Keeping

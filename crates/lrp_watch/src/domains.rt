@@ -6,7 +6,7 @@ ghost use Rattle.lrp_watch.specs.Watching.{row_texts_of, watched_constants, text
 use lrp_core::query_texts;
 use lrp_database::Database;
 use lrp_edits::Edit;
-use lrp_model::{Copies, DataText, Domain, List, Memory, Query, Sort, Value};
+use lrp_model::{Copies, DataText, Domain, List, Memory, Query, Sort, Value, numbered};
 use std::alloc::Global;
 
 /// The constants of a database, a query and edits; memory is refused at 2^32 of them.
@@ -23,9 +23,7 @@ pub fn constants_of(
     let of_query = query_texts(alloc, query, database)?;
     add_sorted(alloc, &mut texts, &of_query)?;
     add_edits(alloc, &mut texts, edits)?;
-    if texts.len() > u32::MAX as usize {
-        return Err(Memory);
-    }
+    numbered(texts.len())?;
     Domain::new(List::from_vec(texts))
 }
 

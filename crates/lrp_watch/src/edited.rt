@@ -1,10 +1,8 @@
 // Databases after edits.
-ghost use Rattle.std.specs.Prelude.{◌≡◌, ◌+◌, ◌∷◌, ◌++◌, ◌<◌, ◌≤◌, [], IfNone, IfOk, IfSome, OnOk, flat_map, length, true};
-ghost use Rattle.lrp_database.specs.Stored.{HasFewTexts};
+ghost use Rattle.std.specs.Prelude.{◌≡◌, ◌∷◌, ◌++◌, ◌<◌, [], IfNone, IfOk, IfSome, OnOk, length};
 ghost use Rattle.lrp_edits.specs.EditMeaning.{IsEditOf};
 ghost use Rattle.lrp_keep.specs.Keeps.{HasNoEqual};
 ghost use Rattle.lrp_keep.specs.Replaced.{replaced, with_rows};
-ghost use Rattle.lrp_model.specs.Domains.{row_texts};
 ghost use Rattle.lrp_model.specs.Kept.{AreKept};
 ghost use Rattle.lrp_watch.specs.Changes.{IsFirstEqualAt, IsWithoutPlace};
 ghost use Rattle.lrp_watch.specs.Edited.{IsEdited};
@@ -15,7 +13,7 @@ use lrp_kept::are_equal;
 use lrp_model::{Copies, List, Memory, Name, Relation, Row};
 use std::alloc::Global;
 
-/// The database that an edit makes of another one. Memory is refused at 2^24 values.
+/// The database that an edit makes of another one.
 pub(crate) fn edited(alloc: Global, database: &Database, edit: &Edit) -> Result<Database, Memory>
     requires { IsEditOf database.now edit.now }
     ensures { IfOk result (IsEdited edit.now database.now) }
@@ -93,9 +91,6 @@ fn changed(
     ensures { IfOk result (λ made. made ≡ replaced database.now name.now rows.now) }
 {
     let relations = all_with_rows(alloc, database.as_slice(), name, rows)?;
-    if !has_few_values(relations.as_slice()) {
-        return Err(Memory);
-    }
     Database::of(alloc, List::from_vec(relations))
 }
 
@@ -139,42 +134,4 @@ fn copied(alloc: Global, rows: &[Row]) -> Result<List<Row>, Memory>
     let mut all = Vec::new(alloc);
     add_rows(alloc, &mut all, rows)?;
     Ok(List::from_vec(all))
-}
-
-// Whether the rows have fewer than 2^24 values.
-fn has_few_values(relations: &[Relation]) -> bool
-    ensures { result ≡ true → HasFewTexts relations.now }
-{
-    let mut left = (1 << 24) - 1;
-    for relation in relations {
-        match left_after(relation, left) {
-            Some(less) => left = less,
-            None => return false,
-        }
-    }
-    true
-}
-
-// How many values are left of so many after those of a relation's rows; `None` where these are more.
-fn left_after(relation: &Relation, values: usize) -> Option<usize>
-    ensures { IfSome result (λ left.
-        length (flat_map (λ row. row_texts relation.now.columns row.values) relation.now.rows)
-        + left ≤ values) }
-{
-    let mut left = values;
-    for row in relation.rows.as_slice() {
-        left = taken_off(left, row.values.len())?;
-    }
-    Some(left)
-}
-
-// What is left of so many where these are taken off; `None` where these are more.
-fn taken_off(left: usize, count: usize) -> Option<usize>
-    ensures { IfSome result (λ less. less + count ≡ left) }
-{
-    if left < count {
-        None
-    } else {
-        Some(left - count)
-    }
 }

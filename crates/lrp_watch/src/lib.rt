@@ -5,6 +5,8 @@ mod anew;
 mod domains;
 mod edited;
 mod faults;
+mod keeping;
+mod same_steps;
 mod watching;
 
 pub use anew::{Anew, least_answers_anew};
