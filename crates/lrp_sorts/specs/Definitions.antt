@@ -31,9 +31,10 @@ abbrev pub AreNew : List Identifier → List Identifier → Type 0
 AreNew taken names = (i : ℕ) → i < length names → Some i ≡ cond (is_named_in taken (get_or names i [])) None (position (bytes_eq (get_or names i [])) names)
 
 -- the names of definitions, as they are kept beside those of relations
-pub record IsNumberingOf {S : Type 0} (numbers : HashMap Identifier ℕ S) (marks : List Bool) (are_new : Bool) (taken names : List Identifier) : Type 0 where
+pub record IsNumberingOf {S : Type 0} (numbers : HashMap Identifier ℕ S) (marks taken_marks : List Bool) (are_new : Bool) (taken names : List Identifier) : Type 0 where
   pub numbered : AreNamesNumbered numbers taken names
   pub marked : AreMarked marks names
+  pub relations : AreMarked taken_marks taken
   pub new : IsTrue are_new → AreNew taken names
 
 -- a relation without rows

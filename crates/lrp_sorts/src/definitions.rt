@@ -12,13 +12,15 @@ use std::cell::Cell;
 use std::collections::HashMap;
 use std::marker::Model;
 
-/// A database, and definitions in order. Most names that are none of theirs are told by their first byte, and most that are stand
-/// near the one that was found last, or are that of the definition right before the text in which they stand.
+/// A database, and definitions in order. Most names that are none of theirs are told by their first byte, as are most that no
+/// relation has, and most that are stand near the one that was found last, or are that of the definition right before the text
+/// in which they stand.
 pub struct Definitions<'a> {
     db: &'a Database,
     all: Vec<Relation>,
     numbers: HashMap<Name, usize>,
-    initials: [bool; 256],
+    initials: Box<[bool; 256]>,
+    taken: Box<[bool; 256]>,
     are_new: bool,
     last: Cell<usize>,
 }
@@ -31,6 +33,7 @@ impl<'a> Drop for Definitions<'a> {
             all: _all,
             numbers: _numbers,
             initials: _initials,
+            taken: _taken,
             are_new: _are_new,
             last: _last,
         } = self;
@@ -47,7 +50,7 @@ impl<'a> Model for Definitions<'a> {
 
     // The number of a name that is no relation's is that of the first definition which has it, and its first byte is known. It is
     // known of all names whether each is new.
-    ghost invariant = { λ d. IsNumberingOf d.numbers d.initials d.are_new
+    ghost invariant = { λ d. IsNumberingOf d.numbers d.initials.value d.taken.value d.are_new
         (map (λ r. r.name) d.db.now) (map (λ r. r.name) d.all.items) };
 }
 
@@ -60,7 +63,8 @@ impl<'a> Definitions<'a> {
             db,
             all: Vec::with_capacity(alloc, count)?,
             numbers: HashMap::with_capacity(alloc, count)?,
-            initials: [false; 256],
+            initials: Box::new(alloc, [false; 256])?,
+            taken: initials_of(alloc, db)?,
             are_new: true,
             last: Cell::new(0),
         })
@@ -166,13 +170,18 @@ impl<'a> Definitions<'a> {
             all,
             numbers,
             initials,
+            taken,
             are_new,
             last,
         } = self;
         let mut all = all;
         let mut numbers = numbers;
         let mut initials = initials;
-        let is_new = add_number(alloc, db, &mut numbers, name, all.len())?;
+        let relations = Relations {
+            db,
+            initials: &taken,
+        };
+        let is_new = add_number(alloc, relations, &mut numbers, name, all.len())?;
         mark(&mut initials, name);
         all.push(rowless(alloc, name, columns)?)?;
         let made = Definitions {
@@ -180,6 +189,7 @@ impl<'a> Definitions<'a> {
             all,
             numbers,
             initials,
+            taken,
             are_new: all_new(are_new, is_new),
             last,
         };
@@ -219,29 +229,53 @@ fn all_new(are_new: bool, is_new: bool) -> bool
     are_new && is_new
 }
 
-// Whether no relation of the database has the name.
-fn is_apart(db: &Database, name: &Name) -> bool
-    ensures { result ≡ not (is_named_in (map (λ r. r.name) db.now) name.now) }
+// The first bytes of the names of a database's relations, marked.
+fn initials_of(alloc: Global, db: &Database) -> Result<Box<[bool; 256]>, Memory>
+    ensures { IfOk result (λ made. AreMarked made.value (map (λ r. r.name) db.now)) }
 {
-    db.relation(name).is_none()
+    let mut initials = Box::new(alloc, [false; 256])?;
+    for i in 0..db.relations() {
+        mark(&mut initials, &db.at(i).name);
+    }
+    Ok(initials)
+}
+
+// A database, and the first bytes of its relations' names.
+#[derive(Clone, Copy)]
+struct Relations<'a> {
+    db: &'a Database,
+    initials: &'a [bool; 256],
+}
+
+// Whether no relation of the database has the name.
+fn is_apart(relations: Relations<'_>, name: &Name) -> bool
+    requires { AreMarked relations.initials.now (map (λ r. r.name) relations.db.now) }
+    ensures { result ≡ not (is_named_in (map (λ r. r.name) relations.entry.db.now) name.now) }
+{
+    if !may_begin(relations.initials, name) {
+        return true;
+    }
+    relations.db.relation(name).is_none()
 }
 
 // The number of a name that is new; one that is there has its number, and a relation's has none. Whether it is new.
 fn add_number(
     alloc: Global,
-    db: &Database,
+    relations: Relations<'_>,
     numbers: &mut HashMap<Name, usize>,
     name: &Name,
     number: usize,
 ) -> Result<bool, Memory>
+    requires { AreMarked relations.initials.now (map (λ r. r.name) relations.db.now) }
     ensures new { IfOk result (λ is_new. (names : ListOf Identifier)
-        → AreNamesNumbered numbers.old (map (λ r. r.name) db.now) names
-        → is_new ≡ not (is_named_in (map (λ r. r.name) db.now ++ names) name.now)) }
+        → AreNamesNumbered numbers.old (map (λ r. r.name) relations.entry.db.now) names
+        → is_new ≡ not (is_named_in (map (λ r. r.name) relations.entry.db.now ++ names) name.now)) }
     ensures numbers { OnOk result ((names : ListOf Identifier) → number ≡ length names
-        → AreNamesNumbered numbers.old (map (λ r. r.name) db.now) names
-        → AreNamesNumbered numbers.new (map (λ r. r.name) db.now) (names ++ name.now ∷ [])) }
+        → AreNamesNumbered numbers.old (map (λ r. r.name) relations.entry.db.now) names
+        → AreNamesNumbered numbers.new (map (λ r. r.name) relations.entry.db.now)
+        (names ++ name.now ∷ [])) }
 {
-    if !is_apart(db, name) {
+    if !is_apart(relations, name) {
         return Ok(false);
     }
     let Some(earlier) = numbers.insert(name.copy(alloc)?, number)? else {

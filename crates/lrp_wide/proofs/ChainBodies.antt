@@ -1,6 +1,6 @@
 -- What code keeps of chains, one by one, and the body at the end of a chain.
 use mathlib.Core.Path.{fun_ext}
-use Rattle.std.proofs.Common.{◌≡◌, ℕ, zero, suc, ◌+◌, ◌<◌, Bool, true, false, cond, Option, Some, None, IfSome, List, [], ◌∷◌, ◌++◌, map, take, drop, length, get_or, slice_get, refl, ap, ap₂, sym, subst, ◌∙◌, append_assoc, append-nil, min, ◌≤◌, inl, inr, ◌⊎◌, arith}
+use Rattle.std.proofs.Common.{Box, Global, ◌≡◌, ℕ, zero, suc, ◌+◌, ◌<◌, Bool, true, false, cond, Option, Some, None, IfSome, List, [], ◌∷◌, ◌++◌, map, take, drop, length, get_or, slice_get, refl, ap, ap₂, sym, subst, ◌∙◌, append_assoc, append-nil, min, ◌≤◌, inl, inr, ◌⊎◌, arith}
 use Rattle.std.proofs.lemmas.List.{map-append, take_more}
 use Rattle.std.specs.Str.{bytes_eq}
 use Rattle.lrp_model.specs.RawQueries.{RawFileView, RawForm, raw_atom, raw_form_of}
@@ -53,7 +53,7 @@ last_is (z ∷ xs) x (suc i) y e = later (last_is xs x i y e)
     later (inl h) = inl h
     later (inr h) = inr (ap suc h.0, h.1)
 
-pub chains-more : (d : Defined) (plain : List RawDefinition) (chains : List (Option Chain)) (c : Option Chain) → AreChains d plain chains → IsChainIfAny d plain (length chains) c → AreChains d plain (chains ++ c ∷ [])
+pub chains-more : (d : Defined) (plain : List RawDefinition) (chains : List (Option (Box Chain Global))) (c : Option (Box Chain Global)) → AreChains d plain chains → IsChainIfAny d plain (length chains) c → AreChains d plain (chains ++ c ∷ [])
 chains-more d plain chains c h own i o e = by (last_is chains c i o e)
   where
     by : (slice_get chains i ≡ Some o) ⊎ ((i ≡ length chains) × (c ≡ o)) → IsChainIfAny d plain i o
@@ -62,7 +62,7 @@ chains-more d plain chains c h own i o e = by (last_is chains c i o e)
 
 -- ---- a definition and the one that it names
 
-pub step-further : (cs : List Column) (vs : List Identifier) (n : ℕ) (further : Chain) (o : Option Chain) → IfSome o (IsContinued cs vs further) → IsStepTo cs vs n (Some further) o
+pub step-further : (cs : List Column) (vs : List Identifier) (n : ℕ) (further : Box Chain Global) (o : Option (Box Chain Global)) → IfSome o (λ c. IsContinued cs vs further.value c.value) → IsStepTo cs vs n (Some further) o
 step-further cs vs n further None h = tt
 step-further cs vs n further (Some c) h = h
 
@@ -71,10 +71,10 @@ module _ (d : Defined) (plain : List RawDefinition) (i j : ℕ) (x : RawDefiniti
   atom : raw_form_of x.body ≡ raw_atom f.place n ts
   atom = ap raw_form_of same ∙ atom_node f n ts kind
 
-  pub chain-step : (further o : Option Chain) → IsChainIfAny d plain j further → IsStepTo r.columns vs j further o → IsChainIfAny d plain i o
+  pub chain-step : (further o : Option (Box Chain Global)) → IsChainIfAny d plain j further → IsStepTo r.columns vs j further o → IsChainIfAny d plain i o
   chain-step further None h s = tt
-  chain-step None (Some c) h s = chain-one d plain i j x f.place n ts vs r ex atom number lt er vars c s.end s.steps s.names
-  chain-step (Some further) (Some c) h s = chain-more d plain i j x f.place n ts vs r ex atom number lt er vars further c h s
+  chain-step None (Some c) h s = chain-one d plain i j x f.place n ts vs r ex atom number lt er vars c.value s.end s.steps s.names
+  chain-step (Some further) (Some c) h s = chain-more d plain i j x f.place n ts vs r ex atom number lt er vars further.value c.value h s
 
 -- ---- columns that are passed on
 

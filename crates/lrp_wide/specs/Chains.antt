@@ -1,5 +1,6 @@
 -- Chains of definitions that each only name an earlier one, with variables for its columns.
-use Rattle.std.specs.Prelude.{◌≡◌, ◌<◌, ◌≤◌, ◌+◌, ℕ, suc, List, [], ◌∷◌, map, Option, Some, None, slice_get, length}
+use Rattle.std.specs.Prelude.{Box, ◌≡◌, ◌<◌, ◌≤◌, ◌+◌, ℕ, suc, List, [], ◌∷◌, map, Option, Some, None, slice_get, length}
+use Rattle.std.specs.Global.{Global}
 use Rattle.std.specs.List.{AllWithin}
 use Rattle.lrp_model.specs.RawQueries.{RawFileView, RawForm, raw_definition_of}
 use Rattle.lrp_model.specs.Texts.{Identifier}
@@ -40,10 +41,10 @@ pub record IsSingleStep (n : ℕ) (vs : List Identifier) (c : Chain) : Type 0 wh
   pub names : c.names.items ≡ vs
 
 -- a chain, if any, takes a step to a definition, and goes on along its chain
-abbrev pub IsStepTo : List Column → List Identifier → ℕ → Option Chain → Option Chain → Type 0
+abbrev pub IsStepTo : List Column → List Identifier → ℕ → Option (Box Chain Global) → Option (Box Chain Global) → Type 0
 IsStepTo cs vs n further None = Unit {0}
-IsStepTo cs vs n None (Some c) = IsSingleStep n vs c
-IsStepTo cs vs n (Some further) (Some c) = IsContinued cs vs further c
+IsStepTo cs vs n None (Some c) = IsSingleStep n vs c.value
+IsStepTo cs vs n (Some further) (Some c) = IsContinued cs vs further.value c.value
 
 -- what a text is read by in a use: its names, its place and its first number
 abbrev pub read_by : (Identifier → Identifier) → Place → ℕ → List Counted → UseSetting
@@ -68,10 +69,10 @@ pub record IsChain (d : Defined) (plain : List RawDefinition) (i : ℕ) (c : Cha
       → (name : Identifier → Identifier) (p : Place) (first k : ℕ) → suc k ≡ first + c.steps → (form : RawForm)
       → IsBodyBy db f c.end (read_by (passed_name (as_themselves name r.columns c.names.items) k) p (suc k)) form → IsBodyBy db f i (read_by name p first) form
 
-abbrev pub IsChainIfAny : Defined → List RawDefinition → ℕ → Option Chain → Type 0
+abbrev pub IsChainIfAny : Defined → List RawDefinition → ℕ → Option (Box Chain Global) → Type 0
 IsChainIfAny d plain i None = Unit {0}
-IsChainIfAny d plain i (Some c) = IsChain d plain i c
+IsChainIfAny d plain i (Some c) = IsChain d plain i c.value
 
 -- each of them leads on from the definition with its number
-abbrev pub AreChains : Defined → List RawDefinition → List (Option Chain) → Type 0
-AreChains d plain chains = (i : ℕ) (c : Option Chain) → slice_get chains i ≡ Some c → IsChainIfAny d plain i c
+abbrev pub AreChains : Defined → List RawDefinition → List (Option (Box Chain Global)) → Type 0
+AreChains d plain chains = (i : ℕ) (c : Option (Box Chain Global)) → slice_get chains i ≡ Some c → IsChainIfAny d plain i c

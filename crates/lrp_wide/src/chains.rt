@@ -25,7 +25,7 @@ pub fn chains_of(
     alloc: Global,
     definitions: &Definitions<'_>,
     texts: &[RawDefinition],
-) -> Result<Vec<Option<Chain>>, Memory>
+) -> Result<Vec<Option<Box<Chain>>>, Memory>
     requires { length definitions.now.definitions ≡ length texts.now }
     ensures length { IfOk result (λ made. length made.items ≡ length texts.now) }
     ensures chains { IfOk result (λ made. AreChains definitions.now texts.now made.items) }
@@ -42,9 +42,9 @@ pub fn chains_of(
 fn chain_of(
     alloc: Global,
     definitions: &Definitions<'_>,
-    before: &[Option<Chain>],
+    before: &[Option<Box<Chain>>],
     body: &RawFormula,
-) -> Result<Option<Chain>, Memory>
+) -> Result<Option<Box<Chain>>, Memory>
     ensures { IfOk result (λ made. (plain : ListOf RawDefinitionOf) (text : RawDefinitionOf)
         → AreChains definitions.now plain before.now
         → slice_get plain (length before.now) ≡ Some text → text.body ≡ body.now
@@ -69,17 +69,21 @@ fn step_to(
     columns: &[Column],
     names: Vec<Name>,
     number: usize,
-    further: &Option<Chain>,
-) -> Result<Option<Chain>, Memory>
+    further: &Option<Box<Chain>>,
+) -> Result<Option<Box<Chain>>, Memory>
     ensures { IfOk result (λ made. IsStepTo columns.now names.items number further.now made) }
 {
     match further {
         Some(further) => continued(alloc, columns, names.as_slice(), further),
-        None => Ok(Some(Chain {
-            end: number,
-            steps: 1,
-            names,
-        })),
+        None => {
+            let chain = Chain {
+                end: number,
+                steps: 1,
+                names,
+            };
+            let made = Box::new(alloc, chain)?;
+            Ok(Some(made))
+        }
     }
 }
 
@@ -112,9 +116,9 @@ fn continued(
     columns: &[Column],
     variables: &[Name],
     further: &Chain,
-) -> Result<Option<Chain>, Memory>
+) -> Result<Option<Box<Chain>>, Memory>
     ensures { IfOk result (λ made. IfSome made
-        (IsContinued columns.now variables.now further.now)) }
+        (λ c. IsContinued columns.now variables.now further.now c.value)) }
 {
     let mut names = Vec::with_capacity(alloc, further.names.len())?;
     for name in further.names.as_slice() {
@@ -123,11 +127,13 @@ fn continued(
         };
         names.push(variable.copy(alloc)?)?;
     }
-    Ok(Some(Chain {
+    let chain = Chain {
         end: further.end,
         steps: plus(further.steps, 1)?,
         names,
-    }))
+    };
+    let made = Box::new(alloc, chain)?;
+    Ok(Some(made))
 }
 
 // The variable that the column with a name is.

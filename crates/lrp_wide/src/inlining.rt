@@ -32,7 +32,7 @@ pub struct Written<'a> {
     pub definitions: &'a Definitions<'a>,
     pub plain: &'a [RawDefinition],
     pub numbers: &'a [Numbers],
-    pub chains: &'a [Option<Chain>],
+    pub chains: &'a [Option<Box<Chain>>],
 }
 
 // What stands around a formula: where columns of atoms that stay are looked up, the definitions that are written out, and

@@ -1,5 +1,5 @@
 // Names that no text spells: of the variables that expansion brings.
-ghost use Rattle.std.specs.Prelude.{◌≡◌, ◌++◌, [], IfOk, string_bytes};
+ghost use Rattle.std.specs.Prelude.{◌≡◌, ◌++◌, [], IfOk};
 ghost use Rattle.lrp_wide.specs.Inlining.{inner_name, star_variable};
 ghost use Rattle.lrp_wide.specs.Meaning.{is_star as is_star_of};
 
@@ -7,21 +7,20 @@ use itoa::Buffer;
 use lrp_model::{Memory, Name, RawTerm, RawTermKind};
 use lrp_query::STAR;
 use std::alloc::Global;
-use std::str::from_utf8;
 
 /// Room for the text of a name.
 #[derive(Drop)]
 pub struct NameText {
-    text: String,
+    bytes: Vec<u8>,
 }
 
 impl NameText {
     /// None yet.
     pub fn new(alloc: Global) -> Self
-        ensures { string_bytes result.text ≡ [] }
+        ensures { result.bytes.items ≡ [] }
     {
         NameText {
-            text: String::new(alloc),
+            bytes: Vec::new(alloc),
         }
     }
 
@@ -29,7 +28,7 @@ impl NameText {
     pub fn star(&mut self, alloc: Global, number: u64) -> Result<Name, Memory>
         ensures { IfOk result (λ made. made ≡ star_variable number) }
     {
-        self.text.clear();
+        self.bytes.clear();
         self.numbered(alloc, number)
     }
 
@@ -37,23 +36,20 @@ impl NameText {
     pub fn inner(&mut self, alloc: Global, name: &Name, number: u64) -> Result<Name, Memory>
         ensures { IfOk result (λ made. made ≡ inner_name number name.now) }
     {
-        // Names are made of texts alone, so they are UTF-8.
-        let Ok(written) = from_utf8(name.as_bytes()) else {
-            return Err(Memory);
-        };
-        self.text.clear();
-        self.text.push_str(written)?;
+        self.bytes.clear();
+        self.bytes.extend_from_slice(name.as_bytes())?;
         self.numbered(alloc, number)
     }
 
     // The text with a number after it.
     fn numbered(&mut self, alloc: Global, number: u64) -> Result<Name, Memory>
         ensures { IfOk result (λ made. made
-            ≡ string_bytes self.old.text ++ star_variable number) }
+            ≡ self.old.bytes.items ++ star_variable number) }
     {
-        self.text.push_str("~~")?;
-        self.text.push_str(Buffer::new().format(number))?;
-        Name::new(alloc, self.text.as_str())
+        self.bytes.extend_from_slice(b"~~")?;
+        self.bytes
+            .extend_from_slice(Buffer::new().format(number).as_bytes())?;
+        Name::of_bytes(alloc, self.bytes.as_slice())
     }
 }
 

@@ -91,6 +91,16 @@ fn ascends(is_ascending: bool, atoms: &[Counted], place: Place) -> bool
     is_ascending && ends_before(atoms, place)
 }
 
+// Room for a first atom: most texts of definitions have no other that takes numbers.
+fn make_room(atoms: &mut Vec<Counted>) -> Result<(), Memory>
+    ensures { atoms.new.items ≡ atoms.old.items }
+{
+    if atoms.is_empty() {
+        atoms.reserve_exact(1)?;
+    }
+    Ok(())
+}
+
 impl Numbers {
     ghost use Rattle.std.specs.Prelude.{◌≡◌, ◌++◌, [], List, IfOk, OnOk};
     ghost use Rattle.lrp_wide.specs.Inlining.{Counted as CountedOf, counted_atom, numbers_before, numbers_of};
@@ -117,6 +127,7 @@ impl Numbers {
         }
         let before = self.total;
         let is_ascending = ascends(self.is_ascending, self.atoms.as_slice(), place);
+        make_room(&mut self.atoms)?;
         self.atoms.push(Counted {
             place,
             numbers,

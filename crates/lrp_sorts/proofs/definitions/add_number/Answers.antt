@@ -10,17 +10,17 @@ use Rattle.lrp_sorts.proofs.definitions.add_number.Goals as goal
 pub returns-then-not-is_apart-clause-new : goal.returns-then-not-is_apart-clause-new
 returns-then-not-is_apart-clause-new c = λ names h.
     let apart : c.is_apart.result ≡ false = grind (arith, c.if-not-is_apart.true) in
-    taken_name (map (λ r. r.name) c.args.db.now) names c.args.name.now (denied _ (sym c.is_apart.ensures ∙ apart))
+    taken_name (map (λ r. r.name) c.args.relations.db.now) names c.args.name.now (denied _ (sym c.is_apart.ensures ∙ apart))
 
 pub returns-then-not-is_apart-clause-numbers : goal.returns-then-not-is_apart-clause-numbers
 returns-then-not-is_apart-clause-numbers c = λ names e h n.
     let apart : c.is_apart.result ≡ false = grind (arith, c.if-not-is_apart.true) in
-    h n ∙ taken_stays (map (λ r. r.name) c.args.db.now) names c.args.name.now (denied _ (sym c.is_apart.ensures ∙ apart)) n
+    h n ∙ taken_stays (map (λ r. r.name) c.args.relations.db.now) names c.args.name.now (denied _ (sym c.is_apart.ensures ∙ apart)) n
 
 pub returns-in_default-clause-new : goal.returns-in_default-clause-new
 returns-in_default-clause-new c = λ names h.
     let name = c.args.name.now in
-    let taken = map (λ r. r.name) c.args.db.now in
+    let taken = map (λ r. r.name) c.args.relations.db.now in
     let apart : c.is_apart.result ≡ true = grind (arith, c.if-not-is_apart.false) in
     let free : is_named_in taken name ≡ false = allowed (is_named_in taken name) (sym c.is_apart.ensures ∙ apart) in
     let none : None ≡ cond (is_named_in taken name) None (position (bytes_eq name) names) = sym c.in_default.is ∙ c.in_ok-earlier.ensures.old ∙ ap (λ n. get_by (bytes_eq n) c.args.numbers.now) c.in_ok-copy.ensures ∙ h name in
@@ -30,7 +30,7 @@ returns-in_default-clause-new c = λ names h.
 pub returns-in_default-clause-numbers : goal.returns-in_default-clause-numbers
 returns-in_default-clause-numbers c = λ names e h n.
     let name = c.args.name.now in
-    let taken = map (λ r. r.name) c.args.db.now in
+    let taken = map (λ r. r.name) c.args.relations.db.now in
     let apart : c.is_apart.result ≡ true = grind (arith, c.if-not-is_apart.false) in
     let free : is_named_in taken name ≡ false = allowed (is_named_in taken name) (sym c.is_apart.ensures ∙ apart) in
     let none : None ≡ cond (is_named_in taken name) None (position (bytes_eq name) names) = sym c.in_default.is ∙ c.in_ok-earlier.ensures.old ∙ ap (λ n. get_by (bytes_eq n) c.args.numbers.now) c.in_ok-copy.ensures ∙ h name in
@@ -43,7 +43,7 @@ returns-in_default-clause-numbers c = λ names e h n.
 pub returns-clause-new : goal.returns-clause-new
 returns-clause-new c = λ names h.
     let name = c.args.name.now in
-    let taken = map (λ r. r.name) c.args.db.now in
+    let taken = map (λ r. r.name) c.args.relations.db.now in
     let apart : c.is_apart.result ≡ true = grind (arith, c.if-not-is_apart.false) in
     let free : is_named_in taken name ≡ false = allowed (is_named_in taken name) (sym c.is_apart.ensures ∙ apart) in
     let some : Some c.in-Some.earlier ≡ cond (is_named_in taken name) None (position (bytes_eq name) names) = sym c.in-Some.is ∙ c.in_ok-earlier.ensures.old ∙ ap (λ n. get_by (bytes_eq n) c.args.numbers.now) c.in_ok-copy.ensures ∙ h name in
@@ -53,7 +53,7 @@ returns-clause-new c = λ names h.
 pub returns-clause-numbers : goal.returns-clause-numbers
 returns-clause-numbers c = λ names e h n.
     let name = c.args.name.now in
-    let taken = map (λ r. r.name) c.args.db.now in
+    let taken = map (λ r. r.name) c.args.relations.db.now in
     let apart : c.is_apart.result ≡ true = grind (arith, c.if-not-is_apart.false) in
     let free : is_named_in taken name ≡ false = allowed (is_named_in taken name) (sym c.is_apart.ensures ∙ apart) in
     let was : Some c.in-Some.earlier ≡ get_by (bytes_eq name) c.args.numbers.now = sym c.in-Some.is ∙ c.in_ok-earlier.ensures.old ∙ ap (λ n. get_by (bytes_eq n) c.args.numbers.now) c.in_ok-copy.ensures in

@@ -12,10 +12,10 @@ returns-then-before-eq0-clause-number c = none_before c.args.self.now c.args.bef
 pub returns-then-not-may_begin-clause-number : goal.returns-then-not-may_begin-clause-number
 returns-then-not-may_begin-clause-number c =
     let n = c.args.name.now in
-    let marks = c.self.inside.initials in
+    let marks = c.self.inside.initials.value in
     let d : Defined = record { relations = c.self.inside.db.now; definitions = c.self.inside.all.items } in
     let none : c.may_begin.result ≡ false = grind (arith, c.if-not-may_begin.true) in
-    let unmarked : is_marked marks n ≡ false = sym c.may_begin.ensures ∙ none in
+    let unmarked : is_marked marks n ≡ false = ap (λ m. is_marked m n) (sym c.deref.ensures) ∙ sym c.may_begin.ensures ∙ none in
     unnumbered d c.args.before n (unmarked_none marks (map (λ r. r.name) d.definitions) n c.self.invariant.marked unmarked) ∙ ap (λ e. definition_number e c.args.before n) c.self.view_is
 
 pub returns-in_err-number-clause-number : goal.returns-in_err-number-clause-number

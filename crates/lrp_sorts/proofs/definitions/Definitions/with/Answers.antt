@@ -24,7 +24,8 @@ invariant_of-made c =
     let size : c.len.result ≡ length names = omega (arith, c.len.ensures, length-map all (λ r. r.name)) in
     record {
       numbered = subst (AreNamesNumbered c.add_number.new.numbers (map (λ r. r.name) c.self.inside.db.now)) (sym more) (c.in_ok-is_new.ensures.numbers names size c.self.invariant.numbered);
-      marked = subst (AreMarked c.mark.new.initials) (sym more) (c.mark.ensures names c.self.invariant.marked);
+      marked = subst (AreMarked c.mark.new.initials) (sym more) (c.mark.ensures names (subst (λ m. AreMarked m names) (sym c.deref_mut.ensures.value) c.self.invariant.marked));
+      relations = c.self.invariant.relations;
       new = λ holds.
           let both = both_true c.self.inside.are_new c.in_ok-is_new.is_new (sym c.all_new.ensures ∙ holds) in
           let taken : List Identifier = map (λ r. r.name) c.self.inside.db.now in

@@ -12,9 +12,10 @@ returns-then-numbers-eq0 c = sym (ap (λ l. c.args.self.now ++ l) (counted-none 
 pub invariant_of-self-2 : goal.invariant_of-self-2
 invariant_of-self-2 c =
     let a : Counted = record { place = c.args.place; numbers = c.args.numbers; before = c.self.inside.total } in
+    let items = c.in_ok-push.ensures.items ∙ ap (λ l. l ++ a ∷ []) c.make_room.ensures in
     record {
-      sums = subst (λ l. SumTo 0 l c.saturating_add-self-inside.result) (sym c.in_ok-push.ensures.items) (subst (SumTo 0 (c.self.inside.atoms.items ++ a ∷ [])) (sym c.saturating_add-self-inside.ensures) (sums-more 0 c.self.inside.atoms.items c.self.inside.total a c.self.invariant.sums refl));
+      sums = subst (λ l. SumTo 0 l c.saturating_add-self-inside.result) (sym items) (subst (SumTo 0 (c.self.inside.atoms.items ++ a ∷ [])) (sym c.saturating_add-self-inside.ensures) (sums-more 0 c.self.inside.atoms.items c.self.inside.total a c.self.invariant.sums refl));
       ascending = λ h.
           let both = c.ascends-is_ascending.ensures h in
-          subst AreAscending (sym c.in_ok-push.ensures.items) (ascending-more c.self.inside.atoms.items a (c.self.invariant.ascending both.0) (sym (ap (λ l. end_before l c.args.place) c.as_slice.ensures.value) ∙ both.1));
+          subst AreAscending (sym items) (ascending-more c.self.inside.atoms.items a (c.self.invariant.ascending both.0) (sym (ap (λ l. end_before l c.args.place) c.as_slice.ensures.value) ∙ both.1));
     }
