@@ -273,7 +273,7 @@ class Names(unittest.TestCase):
 
 
 class Memory(unittest.TestCase):
-    """Want of memory is handed on from the one file that makes it; each other place that makes it is told."""
+    """Want of memory is made in one file, and handed on from there."""
 
     MADE = TOP / "crates/lrp_model/src/memory.rt"
 
@@ -297,13 +297,17 @@ class Memory(unittest.TestCase):
         """Whether the line makes a want of memory."""
         return bool(re.search(r"(?:Err\(|ok_or\(|_ => |^ *)(?:\w+::)?Memory\)*[,;?]*$", line)) and "Result<" not in line
 
+    def test_no_other_crate_can_make_it(self):
+        self.assertRegex(self.MADE.read_text(), r"\n#\[non_exhaustive\]\npub struct Memory;\n")
+
     def test_it_is_made_in_one_file(self):
         self.assertTrue(any(self.is_made(line) for line in self.bodies(self.MADE.read_text())))
+        self.assertEqual(list(self.places()), [])
 
-    def test_each_place_is_told(self):
-        section = (TOP / "docs/proofs.md").read_text().split(". Want of memory")[1].split("\n## ")[0]
-        told = re.findall(r"`(lrp_\w+/\w+\.rt)`", section)
-        self.assertEqual(sorted(told), sorted(self.places()))
+    def test_a_number_is_asked_for_of_a_count(self):
+        for file in TOP.glob("crates/lrp_*/src/**/*.rt"):
+            with self.subTest(file.name):
+                self.assertEqual(re.findall(r"\bnumbered\((?:\d|\w+::MAX).*", file.read_text()), [])
 
 
 class Walk(unittest.TestCase):
