@@ -184,6 +184,20 @@ def test_a_large_database_is_read_by_two_processes_at_most(library: str) -> None
     with_engine(lambda: by_library(library), act)
 
 
+@pytest.mark.parametrize("steps", range(8))
+def test_a_question_that_is_given_up_while_its_process_begins_ends(library: str, steps: int) -> None:
+    async def act(engine: Engine) -> None:
+        task = asyncio.ensure_future(least_of(engine, Matter(BUS, ALL)))
+        for _ in range(steps):
+            await asyncio.sleep(0)
+        task.cancel()
+        await asyncio.wait([task])
+        if steps % 2:
+            assert await least_of(engine, Matter(BUS, ALL)) == [5]
+
+    with_engine(lambda: by_library(library), act)
+
+
 def test_a_database_that_is_asked_once_only_is_not_kept(library: str) -> None:
     async def act(engine: Engine) -> None:
         assert await least_of(engine, Matter(BUS, ALL, is_once=True)) == [5]

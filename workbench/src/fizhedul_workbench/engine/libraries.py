@@ -39,7 +39,9 @@ class Holders:
         self.turns, self.turns_of_large = asyncio.Semaphore(most), asyncio.Semaphore(MOST_LARGE)
         self.free: list[Holder] = []
         self.all: dict[int, Holder] = {}
+        self.beginning: set[asyncio.Future[Holder]] = set()
         self.aside: set[asyncio.Future[Any]] = set()
+        self.is_closed = False
 
     async def answer(self, call: Call) -> Answer:
         """Asks the process that has most of what is needed, or a new one. Where it is given up, its work ends soon."""
@@ -95,20 +97,36 @@ class Holders:
         return best
 
     async def begun(self) -> Holder:
-        holder = await held(self.library, self.more)
-        self.all[holder.process.pid] = holder
-        return holder
+        """A new process. To give up one that is beginning may wait for ever in Python's library, so it begins all the
+        same, and is there for the next question."""
+        beginning = asyncio.ensure_future(held(self.library, self.more))
+        self.beginning.add(beginning)
+        beginning.add_done_callback(self.has_begun)
+        try:
+            return await asyncio.shield(beginning)
+        except asyncio.CancelledError:
+            beginning.add_done_callback(self.is_spare)
+            raise
+
+    def has_begun(self, beginning: "asyncio.Future[Holder]") -> None:
+        self.beginning.discard(beginning)
+        if not beginning.cancelled() and beginning.exception() is None:
+            self.all[beginning.result().process.pid] = beginning.result()
+
+    def is_spare(self, beginning: "asyncio.Future[Holder]") -> None:
+        if not beginning.cancelled() and beginning.exception() is None:
+            self.free.append(beginning.result())
 
     async def ready(self) -> None:
         """Begins processes before they are needed."""
-        while len(self.all) < READY:
+        while len(self.all) < READY and not self.is_closed:
             self.free.append(await self.begun())
 
     async def end(self, holder: Holder) -> int:
         """Ends a process, and begins another in its place where some are to be ready."""
         self.all.pop(holder.process.pid, None)
         status = await holder.end()
-        if self.patience:
+        if self.patience and not self.is_closed:
             self.do_aside(self.ready())
         return status
 
@@ -119,9 +137,11 @@ class Holders:
         task.add_done_callback(self.aside.discard)
 
     async def close(self) -> None:
-        """Ends all processes."""
+        """Ends all processes, also those that are beginning."""
+        self.is_closed = True
         for task in list(self.aside):
             task.cancel()
+        await asyncio.gather(*self.beginning, return_exceptions=True)
         for holder in list(self.all.values()):
             self.all.pop(holder.process.pid, None)
             await holder.end()
